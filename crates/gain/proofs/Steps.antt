@@ -9,7 +9,9 @@ use borrow.Author.Count.{below-more}
 use borrow.Author.Tests.{ltb-true, ltb-false, lt-ltb, le-ltb}
 use lib.Dec.{ltb, lit<}
 use lib.IntN.{ℤ, pos, negsuc}
-use Rattle.gain.specs.Steps.{NearestIn, Nearest, apart, better, nearestIn, nearestOf, steps, stepAt}
+use lib.Ieee.{Float}
+use Rattle.gain.specs.Product.{tenthsOf}
+use Rattle.gain.specs.Steps.{NearestIn, Nearest, apart, better, chosenOf, clamped, nearestIn, nearestOf, steps}
 
 -- what holds of every j below n, and of n, holds of every j below suc n
 up-to : (n : ℕ) (P : ℕ → Type 0) → ((j : ℕ) → j < n → P j) → P n → (j : ℕ) → j < suc n → P j
@@ -56,6 +58,17 @@ nearest-of t = nearest-in 28 t
 
 pub nearest-lt : (t : ℤ) → nearestOf t < 29
 nearest-lt t = nearest-of t .within
+
+pub chosen-lt : (db : Float) → chosenOf db < 29
+unfolding chosenOf
+chosen-lt db = nearest-lt (tenthsOf db)
+
+pub chosen-nearest : (db : Float) → Nearest (tenthsOf db) (chosenOf db)
+unfolding chosenOf
+chosen-nearest db = nearest-of (tenthsOf db)
+
+pub clamped-lt : (k : ℕ) → clamped k < 29
+clamped-lt k = omega arith
 
 lower : (t : ℤ) (j k : ℕ) → Nearest t j → Nearest t k → j < k → ⊥
 lower t j k a b l = lt-irrefl (apart k t) (lt-of-lt-of-le (b .lowest j l) (a .least k (b .within)))

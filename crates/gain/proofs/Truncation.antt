@@ -89,7 +89,7 @@ is-more (suc x) t L U h =
     let j : 24 + (suc x - 150) ≤ 32 = omega arith in
     shl-exact 24 (suc x - 150) 32 (full-lt t h) j
     ∙ fits-in (wholePart (suc x) t) ((t + 0x80_0000) * 2 ^ (suc x - 150)) (more x t (suc x - 150) k)
-        (le-of-lt (lt-of-lt-of-le (shl-lt 24 (suc x - 150) (full-lt t h)) (pow-mono {i = 24 + (suc x - 150)} {j = 31} i)))
+    (le-of-lt (lt-of-lt-of-le (shl-lt 24 (suc x - 150) (full-lt t h)) (pow-mono {i = 24 + (suc x - 150)} {j = 31} i)))
 
 pub is-past : (x t : ℕ) → 158 ≤ x → 2 ^ 31 ≡ min (wholePart x t) (2 ^ 31)
 is-past zero t L = absurd (omega arith)

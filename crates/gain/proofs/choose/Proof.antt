@@ -1,22 +1,24 @@
+-- `gain::choose` meets its contract: the tenths, then the nearest step to them.
+-- Assumes nothing.
+use mathlib.Core.Path.{ap, _∙_}
 use borrow.Author.Needs.{needs}
+use mir.Syntax.{w32}
+use mir.ValLaws.{toZ-ofZ}
+use Rattle.gain.specs.Steps.{chosenOf, nearestOf}
 use Rattle.gain.proofs.choose.Statement.{statement}
 use Rattle.gain.proofs.choose.Tie as tie
-use Rattle.gain.proofs.choose.Reads as reads
-use Rattle.gain.proofs.choose.Lts as lts
-use Rattle.gain.proofs.nearest.Reads as nearest-reads
-use Rattle.gain.proofs.tenths.Reads as tenths-reads
 
--- src/lib.rt:150:13
 tenths-requires : tie.Need-tenths-requires
 tenths-requires c κs = search needs
 
--- src/lib.rt:150:5
 nearest-requires : tie.Need-nearest-requires
 nearest-requires c κs = search needs
 
--- src/lib.rt:147:1
 returns : tie.Need-returns
-returns c = ?
+unfolding chosenOf
+returns c =
+    c .nearest .ensures
+    ∙ ap nearestOf (toZ-ofZ w32 (c .before .tenths .result) (record { sfits = c .before .tenths .ok }) ∙ c .before .tenths .ensures)
 
 pub choose-spec : {M : Type 1} → statement M
 choose-spec = tie.close (tie.spec tenths-requires nearest-requires returns)

@@ -11,10 +11,6 @@ use Rattle.gain.specs.Steps.{steps, stepAt, distance, apart, nearestIn, 
 use Rattle.gain.proofs.Steps.{nearer, no-nearer}
 use Rattle.gain.proofs.nearest_up.Statement.{statement}
 use Rattle.gain.proofs.nearest_up.Tie as tie
-use Rattle.gain.proofs.nearest_up.Reads as reads
-use Rattle.gain.proofs.nearest_up.Lts as lts
-use Rattle.gain.proofs.between.Reads as between-reads
-use Rattle.gain.proofs.step.Reads as step-reads
 
 abbrev Inv-loop : tie.InvT-loop
 Inv-loop t best₀ least₀ k₀ best least k = (k ≤ 29) × (best ≡ nearestIn k (pos t)) × (least ≡ apart best (pos t))
@@ -55,13 +51,13 @@ loop-again c =
     let d : far ≡ apart k (pos t) = c .before .between2 .ensures ∙ ap (λ (s : ℕ). distance s (pos t)) (c .before .before .step .ensures) in
     ⊎-elim
     (λ w.
-        let h : apart k (pos t) < apart best (pos t) = omega (arith, w .0 .taken, d, inv .2) in
-        let b : c .if1 .best ≡ k = w .1 in
-        (omega arith, b ∙ nearer k best (pos t) (inv .1) h, w .2 ∙ d ∙ ap (λ (n : ℕ). apart n (pos t)) (sym b)))
+    let h : apart k (pos t) < apart best (pos t) = subst (λ (n : ℕ). n < apart best (pos t)) d (subst (λ (n : ℕ). far < n) (inv .2) (w .0 .taken)) in
+    let b : c .if1 .best ≡ k = w .1 in
+    (omega arith, b ∙ nearer k best (pos t) (inv .1) h, w .2 ∙ d ∙ ap (λ (n : ℕ). apart n (pos t)) (sym b)))
     (λ w.
-        let h : apart best (pos t) ≤ apart k (pos t) = omega (arith, w .0 .left, d, inv .2) in
-        let b : c .if1 .best ≡ best = w .1 in
-        (omega arith, b ∙ no-nearer k best (pos t) (inv .1) h, w .2 ∙ inv .2 ∙ ap (λ (n : ℕ). apart n (pos t)) (sym b)))
+    let h : apart best (pos t) ≤ apart k (pos t) = subst (λ (n : ℕ). apart best (pos t) ≤ n) d (subst (λ (n : ℕ). n ≤ far) (inv .2) (w .0 .left)) in
+    let b : c .if1 .best ≡ best = w .1 in
+    (omega arith, b ∙ no-nearer k best (pos t) (inv .1) h, w .2 ∙ inv .2 ∙ ap (λ (n : ℕ). apart n (pos t)) (sym b)))
     (c .if1 .came)
 
 returns : tie.Need-returns Inv-loop μ-loop

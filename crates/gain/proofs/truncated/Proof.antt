@@ -18,9 +18,6 @@ use lib.Ieee.Compare.{differs-from-itself}
 use Rattle.gain.proofs.Truncation.{held, wholeOf, of-float, no-nan, inside, outside, nought, negated}
 use Rattle.gain.proofs.truncated.Statement.{statement}
 use Rattle.gain.proofs.truncated.Tie as tie
-use Rattle.gain.proofs.truncated.Reads as reads
-use Rattle.gain.proofs.truncated.Lts as lts
-use Rattle.gain.proofs.whole_part.Reads as whole-part-reads
 
 returns : tie.Need-returns
 unfolding toSigned
@@ -46,8 +43,8 @@ returns-2 c =
     let n = c .before .before .whole-part .result in
     toZ-pos w32 n (search needs)
     ∙ signed x (pos n) false (subst T (sym (c .before .before .before .before .good .0 .1)) tt) (c .before .before .before .if1 .left)
-        (lt-leb 0x8000_0000 (toBits binary32 x) (c .before .if2 .taken))
-        (inside (wholeOf (toBits binary32 x)) n (c .before .before .whole-part .ensures) (c .if3 .taken))
+    (lt-leb 0x8000_0000 (toBits binary32 x) (c .before .if2 .taken))
+    (inside (wholeOf (toBits binary32 x)) n (c .before .before .whole-part .ensures) (c .if3 .taken))
 
 returns-3 : tie.Need-returns-3
 returns-3 c =

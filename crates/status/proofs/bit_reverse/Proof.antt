@@ -7,7 +7,7 @@ use native.Mathlib.Omega.{arith}
 use lib.Bits.{bitAnd, bitOr}
 use lib.Dec.{eqb, eqb→eq}
 use Rattle.status.specs.Reversal.{reversed}
-use Rattle.status.proofs.Below.{below}
+use Rattle.below.proofs.Test.{below}
 use Rattle.status.proofs.bit_reverse.Statement.{statement}
 use Rattle.status.proofs.bit_reverse.Tie as tie
 
