@@ -1,0 +1,4 @@
+pub mod All
+pub mod Dividers
+pub mod Fractions
+pub mod Settings
