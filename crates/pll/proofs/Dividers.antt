@@ -1,6 +1,6 @@
 -- The divider, by intervals of lo; that it is the first right one of its list; and that one exists exactly in document 01's range.
 -- Assumes nothing.
-use mathlib.Core.Path.{_≡_, refl, sym, ap, _∙_, subst}
+use mathlib.Core.Path.{_≡_, refl, subst}
 use mathlib.Core.Bool.{Bool, true, false, _&&_}
 use mathlib.Core.List.{List, [], _∷_}
 use mathlib.Core.Logic.{⊎-elim}
@@ -11,7 +11,6 @@ use lib.Dec.{T, leb, ltb}
 use mir.Facts.{and-yes, leb-yes}
 use lib.ListN.{length, getD}
 use borrow.Author.Tests.{lt-leb, le-leb, lt-ltb, le-ltb, leb-true, ltb-true}
-use Rattle.pll.specs.declared.Mixer.{Mixer}
 use Rattle.pll.specs.declared.Mixer.the-variants.{By, Missing}
 use Rattle.pll.proofs.All.{at-each, below-or}
 use Rattle.pll.specs.Divide.{pickMixer, inVco, firstOf, dividers, dividerOf}
@@ -101,7 +100,7 @@ first-here lo m ms number m′ k e same =
       inside = omega arith;
       stands = cc;
       right = let p : m ≡ m′ = cc in subst (λ (n : ℕ). inVco lo n ≡ true) p e;
-      before = λ i h. absurd (not-suc-le-zero h)
+      before = λ i h. absurd (not-suc-le-zero h);
     }
 
 first-later : (lo m : ℕ) (ms : List ℕ) (number m′ k : ℕ) → inVco lo m ≡ false → First lo ms (number + 1) m′ k → First lo (m ∷ ms) number m′ k
@@ -112,7 +111,7 @@ first-later lo m ms number m′ k e f =
       inside = let l = f .inside in omega arith;
       stands = f .stands;
       right = f .right;
-      before = earlier
+      before = earlier;
     }
   where
     earlier : (i : ℕ) → i < suc (f .place) → inVco lo (getD (m ∷ ms) i 0) ≡ false
@@ -158,7 +157,7 @@ found lo m k e =
       high = r .1;
       small = omega (arith, f .counted, f .inside);
       least = subst (λ (n : ℕ). 2 ≤ n) s (b .0);
-      most = subst (λ (n : ℕ). n ≤ 64) s (b .1)
+      most = subst (λ (n : ℕ). n ≤ 64) s (b .1);
     }
 
 -- one exists exactly if 27,656,250 ≤ lo < 1,800,000,000

@@ -1,14 +1,14 @@
 -- The sum of the fraction: S fits 16 bits, and the quotients taken plus the rest equal the first F. Assumes nothing.
-use mathlib.Core.Path.{_≡_, refl, sym, ap, _∙_}
+use mathlib.Core.Path.{_≡_, refl, sym, ap}
 use mathlib.Core.Bool.{Bool, true, false, not, _&&_}
 use Prim.Native.Nat.{ℕ, zero, suc, _+_, _-_, _*_, _/_, _^_, _≤_, _<_}
 use native.Mathlib.Omega.{arith}
 use native.Mathlib.Nat.{div-le-self, pow-succ', le-mul-of-pos-right, not-suc-le-zero}
 use lib.Pow.{pow-pos}
-use lib.Dec.{leb, ltb}
+use lib.Dec.{ltb}
 use borrow.Author.Tests.{ltb-true}
 use Rattle.pll.specs.declared.Sum.{Sum}
-use Rattle.pll.specs.Fraction.{pickSum, pickNumber, takes, turnOf, turnsOf, startOf, sumOf, takenOf}
+use Rattle.pll.specs.Fraction.{pickNumber, takes, turnOf, turnsOf, startOf, sumOf, takenOf}
 
 -- what that many turns can add at most, from n on
 weights : ℕ → ℕ → ℕ

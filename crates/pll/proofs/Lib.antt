@@ -1,4 +1,5 @@
 pub mod All
 pub mod Dividers
 pub mod Fractions
+pub mod Plans
 pub mod Settings

@@ -38,7 +38,7 @@ madeOf vco m number r =
       setting = settingOf (wholeOf vco r);
       fraction = fractionOf vco r;
       sum = sumOf (r / 1000) (fractionOf vco r) .sum;
-      rest = sumOf (r / 1000) (fractionOf vco r) .rest
+      rest = sumOf (r / 1000) (fractionOf vco r) .rest;
     }
 
 unfoldable pub planWith : Kind → ℕ → ℕ → Mixer → Pll

@@ -8,6 +8,7 @@ ghost use Rattle.pll.specs.Fraction.{turnOf, sumOf};
 ghost use Rattle.pll.specs.Plan.{capOf, planOf};
 
 pub const VCO_MIN: u64 = 1_770_000_000;
+
 pub const VCO_MAX: u64 = 3_600_000_000;
 
 pub enum Kind {

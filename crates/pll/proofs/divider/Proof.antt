@@ -4,8 +4,6 @@ use native.Mathlib.Omega.{arith}
 use Rattle.pll.proofs.Dividers.{by2, by4, by8, by16, by32, by64, too-low, too-high}
 use Rattle.pll.proofs.divider.Statement.{statement}
 use Rattle.pll.proofs.divider.Tie as tie
-use Rattle.pll.proofs.divider.Reads as reads
-use Rattle.pll.proofs.divider.Lts as lts
 
 returns : tie.Need-returns
 returns c = sym (too-high _ (omega arith))

@@ -1,17 +1,13 @@
 -- `pll::fraction` meets its contract. The loop's invariant: the turns that are left, from here, give what all give from the start;
 -- `n` doubles as `left` falls; and S is small enough for the next turn. Assumes nothing.
 use mathlib.Core.Path.{_≡_, refl, sym, ap, _∙_}
-use Prim.Native.Nat.{ℕ, suc, _+_, _-_, _*_, _/_, _^_, _≤_, _<_}
+use Prim.Native.Nat.{ℕ, _-_, _*_, _^_, _≤_, _<_}
 use native.Mathlib.Omega.{arith}
-use borrow.Author.Needs.{needs}
 use Rattle.pll.specs.declared.Sum.{Sum}
-use Rattle.pll.specs.Fraction.{turnOf, turnsOf, sumOf}
+use Rattle.pll.specs.Fraction.{turnsOf, sumOf}
 use Rattle.pll.proofs.Fractions.{turns-on, turns-done, doubled, n-most, turn-most}
 use Rattle.pll.proofs.fraction.Statement.{statement}
 use Rattle.pll.proofs.fraction.Tie as tie
-use Rattle.pll.proofs.fraction.Reads as reads
-use Rattle.pll.proofs.fraction.Lts as lts
-use Rattle.pll.proofs.turn.Reads as turn-reads
 
 abbrev Inv-loop : tie.InvT-loop
 Inv-loop k f s₀ n₀ left₀ s n left =
@@ -45,12 +41,11 @@ loop-again : tie.Need-loop-again Inv-loop μ-loop
 loop-again c =
     let l = c .before .before .loop in
     let k : ℕ = c .before .before .before .args .k in
-    let more : 0 < l .left = omega arith in
-    (
+    let more : 0 < l .left = omega arith in (
       ap (turnsOf (l .left - 1) k (l .n * 2)) (c .turn .ensures) ∙ sym (turns-on (l .left) k (l .n) (l .s) more) ∙ l .inv .0,
       omega (arith, l .inv .1),
       doubled (l .left) (l .n) 131_072 more (l .inv .2),
-      omega (arith, ap (λ (s : Sum). s .sum) (c .turn .ensures), turn-most k (l .n) (l .s), l .inv .3, l .inv .1)
+      omega (arith, ap (λ (s : Sum). s .sum) (c .turn .ensures), turn-most k (l .n) (l .s), l .inv .3, l .inv .1),
     )
 
 returns : tie.Need-returns Inv-loop μ-loop

@@ -1,84 +1,86 @@
+-- `pll::plan_pll` meets its contract: each `return` is the law of its case, the products stay below the oscillator's upper end. Assumes nothing.
+use mathlib.Core.Path.{_≡_, sym, ap, _∙_}
+use Prim.Native.Nat.{_-_, _*_, _/_, _<_}
+use native.Mathlib.Omega.{arith}
+use native.Mathlib.Nat.{mul-div-le}
+use Rattle.pll.specs.declared.Mixer.the-variants.{By}
+use Rattle.pll.specs.declared.Sum.{Sum}
+use Rattle.pll.specs.Divide.{dividerOf}
+use Rattle.pll.proofs.Dividers.{found}
+use Rattle.pll.proofs.Fractions.{sum-fits}
+use Rattle.pll.proofs.Plans.{cap-most, no-reference, no-divider, too-fast, planned, put-together}
 use borrow.Author.Needs.{needs}
 use Rattle.pll.proofs.plan_pll.Statement.{statement}
 use Rattle.pll.proofs.plan_pll.Tie as tie
-use Rattle.pll.proofs.plan_pll.Reads as reads
-use Rattle.pll.proofs.plan_pll.Lts as lts
-use Rattle.pll.proofs.cap.Reads as cap-reads
-use Rattle.pll.proofs.divider.Reads as divider-reads
-use Rattle.pll.proofs.fraction.Reads as fraction-reads
-use Rattle.pll.proofs.setting.Reads as setting-reads
 
--- src/lib.rt:151:9
 returns : tie.Need-returns
-returns c = ?
+returns c = sym (no-reference _ _ _ (c .if1 .taken))
 
--- src/lib.rt:153:32
 divider-requires : tie.Need-divider-requires
 divider-requires c κs = search needs
 
--- src/lib.rt:153:19
 enum-known-m : tie.Need-enum-known-m
 enum-known-m c = search needs
 
--- src/lib.rt:154:9
 enum-told : tie.Need-enum-told
 enum-told c = search needs
 
--- src/lib.rt:154:9
 returns-2 : tie.Need-returns-2
-returns-2 c = ?
+returns-2 c = sym (no-divider _ _ _ (sym (c .before .before .divider .ensures) ∙ c .enum-told .given .1))
 
--- src/lib.rt:157:15
+-- in the arm of the divider: it is the definition's, and lo·m is below 3,600,000,000
+came : (c : tie.After-known-told) → dividerOf (c .before .before .before .before .before .args .lo) ≡ By (c .before .m .given .0 .0) (c .before .m .given .0 .1 .0)
+came c = sym (c .before .before .before .divider .ensures) ∙ c .before .m .given .1
+
+bounded : (c : tie.After-known-told) → c .before .before .before .before .before .args .lo * c .before .m .given .0 .0 < 3_600_000_000
+bounded c = found _ _ _ (came c) .high
+
+-- where the cap was passed: N is below 128
+within : (c : tie.Else2) → c .before .before .before .before .before .before .before .args .lo * c .before .before .before .m .given .0 .0 / (2 * c .before .before .before .before .before .before .before .args .r) < 128
+within c = omega (arith, c .if2 .left, c .before .cap .ensures, cap-most (c .before .before .before .before .before .before .before .args .kind))
+
 mul-vco : tie.Need-mul-vco
-mul-vco c = ?
+mul-vco c = omega (arith, bounded c)
 
--- src/lib.rt:158:20
 mul-n : tie.Need-mul-n
 mul-n c = search needs
 
--- src/lib.rt:158:13
 div-n : tie.Need-div-n
 div-n c = search needs
 
--- src/lib.rt:159:8
 cap-requires : tie.Need-cap-requires
 cap-requires c κs = search needs
 
--- src/lib.rt:160:9
 returns-3 : tie.Need-returns-3
-returns-3 c = ?
+returns-3 c = sym (too-fast _ _ _ _ _ (came (c .before .before)) (omega (arith, c .if2 .taken, c .before .cap .ensures)))
 
--- src/lib.rt:162:20
 mul-f : tie.Need-mul-f
 mul-f c = search needs
 
--- src/lib.rt:162:20
 mul-f-2 : tie.Need-mul-f-2
-mul-f-2 c = ?
+mul-f-2 c =
+    omega (arith, bounded (c .before .before), mul-div-le (c .before .before .before .before .before .before .before .args .lo * c .before .before .before .m .given .0 .0) (2 * c .before .before .before .before .before .before .before .args .r))
 
--- src/lib.rt:162:14
 sub-f : tie.Need-sub-f
-sub-f c = ?
+sub-f c = mul-div-le _ _
 
--- src/lib.rt:163:9
 setting-requires : tie.Need-setting-requires
-setting-requires c κs = ?
+setting-requires c κs = within c
 
--- src/lib.rt:164:9
 fraction-requires : tie.Need-fraction-requires
 fraction-requires c κs = search needs
 
--- src/lib.rt:167:17
 cast-small : tie.Need-cast-small
-cast-small c = ?
+cast-small c = omega (arith, within (c .before .before))
 
--- src/lib.rt:168:17
 cast-short : tie.Need-cast-short
-cast-short c = ?
+cast-short c = omega (arith, ap (λ (s : Sum). s .sum) (c .fraction .ensures), sum-fits (c .before .before .before .before .before .before .before .before .before .args .r / 1000) ((c .before .before .before .before .before .before .before .before .before .args .lo * c .before .before .before .before .before .m .given .0 .0 - 2 * c .before .before .before .before .before .before .before .before .before .args .r * (c .before .before .before .before .before .before .before .before .before .args .lo * c .before .before .before .before .before .m .given .0 .0 / (2 * c .before .before .before .before .before .before .before .before .before .args .r))) / 1000))
 
--- src/lib.rt:147:1
 returns-4 : tie.Need-returns-4
-returns-4 c = ?
+returns-4 c =
+    put-together _ _ _ _ _ _ (c .before .setting .ensures) (c .fraction .ensures)
+    ∙ sym
+    (planned _ _ _ _ _ (c .before .before .before .before .before .before .before .before .if1 .left) (came (c .before .before .before .before)) (omega (arith, c .before .before .if2 .left, c .before .before .before .cap .ensures)))
 
 pub plan-pll-spec : {M : Type 1} → statement M
 plan-pll-spec =

@@ -7,10 +7,6 @@ use Rattle.pll.specs.Setting.{quarterOf, settingOf}
 use borrow.Author.Needs.{needs}
 use Rattle.pll.proofs.setting.Statement.{statement}
 use Rattle.pll.proofs.setting.Tie as tie
-use Rattle.pll.proofs.setting.Reads as reads
-use Rattle.pll.proofs.setting.Lts as lts
-use Rattle.pll.proofs.quarter.Reads as quarter-reads
-use Rattle.std.proofs.num.wrapping_sub_u8.Reads as wrapping-sub-u8-reads
 
 cast-small : tie.Need-cast-small
 cast-small c = search needs

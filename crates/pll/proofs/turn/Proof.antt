@@ -7,8 +7,6 @@ use Rattle.pll.specs.Fraction.{turnOf}
 use borrow.Author.Needs.{needs}
 use Rattle.pll.proofs.turn.Statement.{statement}
 use Rattle.pll.proofs.turn.Tie as tie
-use Rattle.pll.proofs.turn.Reads as reads
-use Rattle.pll.proofs.turn.Lts as lts
 
 returns : tie.Need-returns
 unfolding turnOf
