@@ -1,6 +1,6 @@
 -- `pll::plan_pll` meets its contract: each `return` is the law of its case, the products stay below the oscillator's upper end. Assumes nothing.
-use mathlib.Core.Path.{_≡_, sym, ap, _∙_}
-use Prim.Native.Nat.{_-_, _*_, _/_, _<_}
+use mathlib.Core.Path.{_≡_, sym, subst, _∙_}
+use Prim.Native.Nat.{_*_, _/_, _^_, _<_}
 use native.Mathlib.Omega.{arith}
 use native.Mathlib.Nat.{mul-div-le}
 use Rattle.pll.specs.declared.Mixer.the-variants.{By}
@@ -74,7 +74,7 @@ cast-small : tie.Need-cast-small
 cast-small c = omega (arith, within (c .before .before))
 
 cast-short : tie.Need-cast-short
-cast-short c = omega (arith, ap (λ (s : Sum). s .sum) (c .fraction .ensures), sum-fits (c .before .before .before .before .before .before .before .before .before .args .r / 1000) ((c .before .before .before .before .before .before .before .before .before .args .lo * c .before .before .before .before .before .m .given .0 .0 - 2 * c .before .before .before .before .before .before .before .before .before .args .r * (c .before .before .before .before .before .before .before .before .before .args .lo * c .before .before .before .before .before .m .given .0 .0 / (2 * c .before .before .before .before .before .before .before .before .before .args .r))) / 1000))
+cast-short c = record { fits = subst (λ (s : Sum). s .sum < 2 ^ 16) (sym (c .fraction .ensures)) (sum-fits _ _) }
 
 returns-4 : tie.Need-returns-4
 returns-4 c =
