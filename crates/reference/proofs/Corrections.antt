@@ -3,11 +3,11 @@ use mathlib.Core.Path.{_≡_, refl, ap, _∙_}
 use mathlib.Core.Bool.{true, false}
 use Prim.Native.Nat.{ℕ, zero, suc, _+_, _-_, _*_, _/_, _≤_, _<_}
 use native.Mathlib.Omega.{arith}
-use lib.IntN.{ℤ, pos, negsuc, negℤ, natAbs, _+ℤ_, _*ℤ_}
+use lib.IntN.{ℤ, pos, negsuc, negℤ, natAbs, _+ℤ_}
 use lib.Signed.{quotZ, ltZ}
 use borrow.Author.Tests.{le-ltb, lt-ltb}
-use Rattle.reference.specs.declared.Corrected.{Corrected}
-use Rattle.reference.specs.declared.Corrected.the-variants.{Is, Refused}
+use Rattle.reference.specs.declared.Corrected.the-variants.{Refused}
+use Rattle.reference.proofs.Sign.{not-below}
 use Rattle.reference.specs.Correct.{acceptOf, correctedOf}
 
 -- what is added or taken off
@@ -33,12 +33,12 @@ upward n (negsuc k) h = let z : _≡_ {A = ℕ} 0 1 = cc in absurd (omega arith)
 
 pub downward : (n : ℕ) (z : ℤ) → ltZ z (pos 0) ≡ true → shareOf n z ≤ n → correctedOf n z ≡ acceptOf (pos (n - shareOf n z))
 unfolding correctedOf
-downward n (pos k) h l = let e : ltb k 0 ≡ false = le-ltb k 0 (omega arith) in let z : _≡_ {A = ℕ} 0 1 = cc in absurd (omega arith)
+downward n (pos k) h l = not-below k h
 downward n (negsuc k) h l =
     ap (λ (x : ℤ). acceptOf (pos n +ℤ x)) (quot-neg (n * suc k)) ∙ ap acceptOf (less n (n * suc k / 1_000_000) l)
 
 pub below-zero : (n : ℕ) (z : ℤ) → ltZ z (pos 0) ≡ true → n < shareOf n z → correctedOf n z ≡ Refused
 unfolding correctedOf
-below-zero n (pos k) h l = let e : ltb k 0 ≡ false = le-ltb k 0 (omega arith) in let z : _≡_ {A = ℕ} 0 1 = cc in absurd (omega arith)
+below-zero n (pos k) h l = not-below k h
 below-zero n (negsuc k) h l =
     ap (λ (x : ℤ). acceptOf (pos n +ℤ x)) (quot-neg (n * suc k)) ∙ short n (n * suc k / 1_000_000) l

@@ -1,42 +1,68 @@
+-- `reference::correct` meets its contract: by the sign of ppm each `return` is a law of the definition. Assumes nothing.
+use mathlib.Core.Path.{_≡_, sym, ap, _∙_, subst}
+use mathlib.Core.Bool.{true, false}
+use Prim.Native.Nat.{ℕ, _+_, _-_, _*_, _/_, _≤_, _<_, _^_}
+use native.Mathlib.Omega.{arith}
+use native.Mathlib.Nat.{mul-le-mul-left}
+use lib.IntN.{ℤ, pos, natAbs}
+use lib.Signed.{natAbs-le, ltZ}
+use mir.Facts.{toZ-ofZ}
+use Rattle.reference.specs.Correct.{acceptOf}
+use Rattle.reference.proofs.Corrections.{shareOf, upward, downward, below-zero}
 use borrow.Author.Needs.{needs}
 use Rattle.reference.proofs.correct.Statement.{statement}
 use Rattle.reference.proofs.correct.Tie as tie
-use Rattle.reference.proofs.correct.Reads as reads
-use Rattle.reference.proofs.correct.Lts as lts
-use Rattle.reference.proofs.accept.Reads as accept-reads
-use Rattle.reference.proofs.magnitude.Reads as magnitude-reads
 
--- src/lib.rt:39:24
 magnitude-requires : tie.Need-magnitude-requires
 magnitude-requires c κs = search needs
 
--- src/lib.rt:39:17
+-- the magnitude is that of ppm itself, and at most 2 ^ 31
+size : (c : tie.After-magnitude) → c .magnitude .result ≡ natAbs (c .before .args .ppm)
+size c = c .magnitude .ensures ∙ ap natAbs (toZ-ofZ (c .before .fits .ppm))
+
+share : (c : tie.After-magnitude) → c .before .args .nominal * c .magnitude .result / 1_000_000 ≡ shareOf (c .before .args .nominal) (c .before .args .ppm)
+share c = ap (λ (m : ℕ). c .before .args .nominal * m / 1_000_000) (size c)
+
+product : (c : tie.After-magnitude) → c .before .args .nominal * c .magnitude .result ≤ c .before .args .nominal * 2 ^ 31
+product c =
+    let m : natAbs (c .before .args .ppm) ≤ 2 ^ 31 = natAbs-le (c .before .args .ppm) (c .before .fits .ppm .sfits) in
+    mul-le-mul-left (c .before .args .nominal) (omega (arith, size c))
+
 mul-share : tie.Need-mul-share
-mul-share c = ?
+mul-share c = omega (arith, product c)
 
--- src/lib.rt:42:13
+below : (c : tie.Then1) → ltZ (c .before .before .args .ppm) (pos 0) ≡ true
+below c = subst (λ (z : ℤ). ltZ z (pos 0) ≡ true) (toZ-ofZ (c .before .before .fits .ppm)) (c .if1 .taken)
+
 returns : tie.Need-returns
-returns c = ?
+returns c =
+    let a = c .before .before .before .args in
+    sym
+    (below-zero (a .nominal) (a .ppm) (below (c .before)) (subst (λ (q : ℕ). a .nominal < q) (share (c .before .before)) (c .if2 .taken)))
 
--- src/lib.rt:44:9
 accept-requires : tie.Need-accept-requires
 accept-requires c κs = search needs
 
--- src/lib.rt:44:9
 returns-2 : tie.Need-returns-2
-returns-2 c = ?
+returns-2 c =
+    let a = c .before .before .before .before .args in
+    let s = share (c .before .before .before) in
+    c .accept .ensures
+    ∙ ap (λ (q : ℕ). acceptOf (pos (a .nominal - q))) s
+    ∙ sym (downward (a .nominal) (a .ppm) (below (c .before .before)) (subst (λ (q : ℕ). q ≤ a .nominal) s (c .before .if2 .left)))
 
--- src/lib.rt:46:12
 add-accept : tie.Need-add-accept
-add-accept c = ?
+add-accept c = omega (arith, product (c .before))
 
--- src/lib.rt:46:5
 accept-requires-2 : tie.Need-accept-requires-2
 accept-requires-2 c κs = search needs
 
--- src/lib.rt:35:1
 returns-3 : tie.Need-returns-3
-returns-3 c = ?
+returns-3 c =
+    c .accept2 .ensures
+    ∙ ap (λ (q : ℕ). acceptOf (pos (c .before .before .before .args .nominal + q))) (share (c .before .before))
+    ∙ sym
+    (upward _ _ (subst (λ (z : ℤ). ltZ z (pos 0) ≡ false) (toZ-ofZ (c .before .before .before .fits .ppm)) (c .before .if1 .left)))
 
 pub correct-spec : {M : Type 1} → statement M
 correct-spec =

@@ -1,31 +1,38 @@
+-- `reference::magnitude` meets its contract. Assumes nothing.
+use mathlib.Core.Path.{ap, subst⁻¹}
+use lib.IntN.{natAbs}
+use mir.Syntax.{w64}
+use mir.Val.{SFits}
+use mir.Facts.{toZ-ofZ, sfits-widen}
+use Rattle.reference.proofs.Sign.{sign, turned-fits, turned-read, kept-read, castable}
 use Rattle.reference.proofs.magnitude.Statement.{statement}
 use Rattle.reference.proofs.magnitude.Tie as tie
-use Rattle.reference.proofs.magnitude.Reads as reads
-use Rattle.reference.proofs.magnitude.Lts as lts
 
--- src/lib.rt:15:16
 cast-wide : tie.Need-cast-wide
-cast-wide c = ?
+cast-wide c = subst⁻¹ (SFits w64) (toZ-ofZ (c .fits .ppm)) (sfits-widen tt (c .fits .ppm))
 
--- src/lib.rt:17:17
 sub-result : tie.Need-sub-result
-sub-result c = ?
+sub-result c = turned-fits (c .before .fits .ppm) (sign (c .before .fits .ppm) (c .if1 .taken))
 
--- src/lib.rt:17:16
 cast-result : tie.Need-cast-result
-cast-result c = ?
+cast-result c =
+    let f = c .before .fits .ppm in
+    castable f (turned-read f (sign f (c .if1 .taken)))
 
--- src/lib.rt:17:9
 returns : tie.Need-returns
-returns c = ?
+returns c =
+    let f = c .before .fits .ppm in
+    ap natAbs (turned-read f (sign f (c .if1 .taken)))
 
--- src/lib.rt:19:5
 cast-result-2 : tie.Need-cast-result-2
-cast-result-2 c = ?
+cast-result-2 c =
+    let f = c .before .fits .ppm in
+    castable f (kept-read f (sign f (c .if1 .left)))
 
--- src/lib.rt:12:1
 returns-2 : tie.Need-returns-2
-returns-2 c = ?
+returns-2 c =
+    let f = c .before .fits .ppm in
+    ap natAbs (kept-read f (sign f (c .if1 .left)))
 
 pub magnitude-spec : {M : Type 1} → statement M
 magnitude-spec =
