@@ -1,0 +1,16 @@
+-- By index: a step's own dB, put back through the float, chooses the step again. One computed test over the 29 steps. Assumes nothing.
+use mathlib.Core.Path.{_≡_}
+use mathlib.Core.Bool.{Bool}
+use Prim.Native.Nat.{ℕ, _<_}
+use lib.Dec.{eqb, eqb→eq}
+use lib.Ieee.{mul, div, ofInt, ofBits, toSigned}
+use Rattle.gain.specs.Product.{gainOf, tenthsOf}
+use Rattle.gain.specs.Steps.{chosenOf, nearestIn, nearestOf, steps, stepAt}
+use Rattle.below.proofs.Test.{below}
+
+right : ℕ → Bool
+right k = eqb (chosenOf (gainOf (stepAt k))) k
+
+pub own-index : (k : ℕ) → k < 29 → chosenOf (gainOf (stepAt k)) ≡ k
+unfolding right steps chosenOf tenthsOf gainOf nearestOf nearestIn mul div ofInt ofBits toSigned
+own-index k h = eqb→eq (chosenOf (gainOf (stepAt k))) k (below right 29 tt k h)

@@ -1,0 +1,4 @@
+pub mod Index
+pub mod Steps
+pub mod Truncation
+pub mod Worked

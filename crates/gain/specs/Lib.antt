@@ -1,0 +1,3 @@
+pub mod Product
+pub mod Steps
+pub mod Table
