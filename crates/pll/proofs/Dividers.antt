@@ -3,16 +3,16 @@
 use mathlib.Core.Path.{_≡_, refl, subst}
 use mathlib.Core.Bool.{Bool, true, false, _&&_}
 use mathlib.Core.List.{List, [], _∷_}
-use mathlib.Core.Logic.{⊎-elim}
+use mathlib.Core.Logic.{_⊎_, inl, inr, ⊎-elim}
 use Prim.Native.Nat.{ℕ, zero, suc, _+_, _*_, _≤_, _<_}
 use native.Mathlib.Omega.{arith}
 use native.Mathlib.Nat.{not-suc-le-zero, le-of-suc-le-suc, mul-le-mul-left}
 use lib.Dec.{T, leb, ltb}
 use mir.Facts.{and-yes, leb-yes}
 use lib.ListN.{length, getD}
-use borrow.Author.Tests.{lt-leb, le-leb, lt-ltb, le-ltb, leb-true, ltb-true}
+use borrow.Author.Tests.{lt-leb, le-leb, lt-ltb, le-ltb, leb-true, ltb-true, ltb-false}
+use Rattle.below.proofs.Test.{below}
 use Rattle.pll.specs.declared.Mixer.the-variants.{By, Missing}
-use Rattle.pll.proofs.All.{at-each, below-or}
 use Rattle.pll.specs.Divide.{pickMixer, inVco, firstOf, dividers, dividerOf}
 
 -- lo·m is below, in, or above the oscillator's range
@@ -143,7 +143,7 @@ fair j = leb 2 (getD dividers j 0) && leb (getD dividers j 0) 64
 one-of : (j : ℕ) → j < 6 → (2 ≤ getD dividers j 0) × (getD dividers j 0 ≤ 64)
 unfolding fair
 one-of j h =
-    let t : T (leb 2 (getD dividers j 0)) × T (leb (getD dividers j 0) 64) = and-yes (leb 2 (getD dividers j 0)) (leb (getD dividers j 0) 64) (at-each 6 fair tt j h) in
+    let t : T (leb 2 (getD dividers j 0)) × T (leb (getD dividers j 0) 64) = and-yes (leb 2 (getD dividers j 0)) (leb (getD dividers j 0) 64) (below fair 6 tt j h) in
     (leb-yes (t .0), leb-yes (t .1))
 
 pub found : (lo m k : ℕ) → dividerOf lo ≡ By m k → Found lo m k
@@ -166,6 +166,13 @@ only lo m k e =
     let f : Found lo m k = found lo m k e in
     (omega (arith, mul-le-mul-left lo (f .most), f .low), omega (arith, mul-le-mul-left lo (f .least), f .high))
 
+below-or : (a b : ℕ) → (a < b) ⊎ (b ≤ a)
+below-or a b = go (ltb a b) refl
+  where
+    go : (t : Bool) → ltb a b ≡ t → (a < b) ⊎ (b ≤ a)
+    go true e = inl (ltb-true a b e)
+    go false e = inr (ltb-false a b e)
+
 pub exists : (lo : ℕ) → 27_656_250 ≤ lo → lo < 1_800_000_000 → (m : ℕ) × (k : ℕ) × (dividerOf lo ≡ By m k)
 exists lo h k =
     or-else 885_000_000 (λ a. (2, 0, by2 lo a k))
@@ -175,4 +182,4 @@ exists lo h k =
     (λ b. or-else 55_312_500 (λ a. (32, 4, by32 lo a b)) (λ b. (64, 5, by64 lo h b))))))
   where
     or-else : (at : ℕ) → (at ≤ lo → (m : ℕ) × (k : ℕ) × (dividerOf lo ≡ By m k)) → (lo < at → (m : ℕ) × (k : ℕ) × (dividerOf lo ≡ By m k)) → (m : ℕ) × (k : ℕ) × (dividerOf lo ≡ By m k)
-    or-else at above below = ⊎-elim below above (below-or lo at)
+    or-else at above under = ⊎-elim under above (below-or lo at)

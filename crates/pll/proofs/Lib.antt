@@ -1,4 +1,3 @@
-pub mod All
 pub mod Dividers
 pub mod Fractions
 pub mod Plans

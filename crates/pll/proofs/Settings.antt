@@ -4,8 +4,8 @@ use mathlib.Core.Bool.{Bool}
 use Prim.Native.Nat.{ℕ, _+_, _-_, _*_, _/_, _%_, _≤_, _<_}
 use native.Mathlib.Omega.{arith}
 use lib.Dec.{eqb, ltb, eqb→eq, ltb→lt}
+use Rattle.below.proofs.Test.{below}
 use Rattle.pll.specs.Setting.{settingOf}
-use Rattle.pll.proofs.All.{at-each}
 
 -- the test at N = j + 13
 right : ℕ → Bool
@@ -16,7 +16,7 @@ unfolding right settingOf
 setting-law n h k =
     let back : n - 13 + 13 ≡ n = omega arith in
     subst (λ (i : ℕ). 13 + 4 * (settingOf i % 64) + settingOf i / 64 ≡ i) back
-    (eqb→eq _ _ (at-each 115 right tt (n - 13) (omega arith)))
+    (eqb→eq _ _ (below right 115 tt (n - 13) (omega arith)))
 
 -- a byte, for every N that passes the cap
 byte : ℕ → Bool
@@ -24,4 +24,4 @@ byte n = ltb (settingOf n) 256
 
 pub setting-byte : (n : ℕ) → n < 128 → settingOf n < 256
 unfolding byte settingOf
-setting-byte n k = ltb→lt _ _ (at-each 128 byte tt n k)
+setting-byte n k = ltb→lt _ _ (below byte 128 tt n k)

@@ -1,6 +1,8 @@
--- Every starred number holds: antt computes each side. Assumes nothing.
+-- Every starred number holds: antt computes each side, here or in the crate of the definition, whose theorem is cited. Assumes nothing.
 use mathlib.Core.Path.{_≡_, refl}
 use Prim.Native.Nat.{ℕ}
+use Rattle.board.proofs.Worked.{last-below, first-above}
+use Rattle.gain.proofs.Worked.{three-two-index, three-two-answer, nan-index, far-below-tenths, far-below-index}
 use Rattle.pll.specs.declared.Kind.{Kind}
 use Rattle.pll.specs.declared.Kind.the-variants.{R820T, R828D}
 use Rattle.pll.specs.Divide.{inVco, firstOf}
@@ -38,8 +40,18 @@ worked =
       wrapped = wrapped;
       minus-one = refl;
       minus-all = refl;
+      three-two = three-two-index;
+      two-seven = three-two-answer;
+      no-number = nan-index;
+      product = far-below-tenths;
+      far-below = far-below-index;
       if-sent = refl;
       if-positive = refl;
       rate-wide = refl;
       rate-narrow = refl;
+      shifted = last-below;
+      stays = first-above;
+      notch-first = refl;
+      notch-last = refl;
+      notch-past = refl;
     }

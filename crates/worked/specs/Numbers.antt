@@ -4,6 +4,13 @@ use mathlib.Core.Path.{_≡_}
 use mathlib.Core.Bool.{Bool, true, false}
 use mathlib.Core.List.{[], _∷_}
 use lib.IntN.{pos, negℤ}
+use lib.Ieee.{binary32, nan, ofBits, toBits}
+use Rattle.board.specs.declared.Board.the-variants.{V4}
+use Rattle.board.specs.declared.Path.the-variants.{Hf, Vhf}
+use Rattle.board.specs.declared.Route.the-variants.{By}
+use Rattle.board.specs.Plans as board
+use Rattle.gain.specs.Product.{gainOf, tenthsOf}
+use Rattle.gain.specs.Steps.{chosenOf, stepAt}
 use Rattle.pll.specs.declared.Kind.{Kind}
 use Rattle.pll.specs.declared.Kind.the-variants.{R820T, R828D}
 use Rattle.pll.specs.declared.Pll.{Pll}
@@ -52,9 +59,23 @@ pub record Worked : Type 0 where
   -- 28,800,000 at -1 ppm: 28,799,972; at -1,000,000: refused
   pub minus-one : correctedOf 28_800_000 (negℤ (pos 1)) ≡ reference.Is 28_799_972
   pub minus-all : correctedOf 28_800_000 (negℤ (pos 1_000_000)) ≡ reference.Refused
+  -- 3.2 dB: index 3, 2.7 (both by their binary32 bits). NaN: index 0
+  pub three-two : chosenOf (ofBits binary32 0x404c_cccd) ≡ 3
+  pub two-seven : toBits binary32 (gainOf (stepAt 3)) ≡ 0x402c_cccd
+  pub no-number : chosenOf nan ≡ 0
+  -- Product -2,147,483,520: index 0
+  pub product : tenthsOf (ofBits binary32 0xcd4c_cccc) ≡ negℤ (pos 2_147_483_520)
+  pub far-below : chosenOf (ofBits binary32 0xcd4c_cccc) ≡ 0
   -- IF 3,570,000 at 28,800,000: 38 11 12; positive 07 ee ee
   pub if-sent : ifValueOf 3_570_000 28_800_000 ≡ 0x38_1112
   pub if-positive : ifRegsOf 3_570_000 28_800_000 ≡ record { refusal = 0; bytes = 0x07 ∷ 0xee ∷ 0xee ∷ [] }
   -- Rate 2,048,000: 0x03840000. Rate 225,000: 0
   pub rate-wide : sentOf (ratioOf 2_048_000 28_800_000) ≡ 0x0384_0000
   pub rate-narrow : sentOf (ratioOf 225_000 28_800_000) ≡ 0
+  -- V4: 28,799,999 goes to 57,599,999 inverted; 28,800,000 stays
+  pub shifted : board.planOf V4 28_799_999 ≡ record { hz = 57_599_999; inverted = true; path = By Hf; notch = false }
+  pub stays : board.planOf V4 28_800_000 ≡ record { hz = 28_800_000; inverted = false; path = By Vhf; notch = false }
+  -- Notch holds 85,000,000 and 112,000,000, not 112,000,001
+  pub notch-first : board.inNotch 85_000_000 ≡ true
+  pub notch-last : board.inNotch 112_000_000 ≡ true
+  pub notch-past : board.inNotch 112_000_001 ≡ false
