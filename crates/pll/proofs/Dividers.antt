@@ -128,6 +128,20 @@ unfolding firstOf
 first lo [] number m k e = let z : _≡_ {A = ℕ} 0 1 = cc in absurd (omega arith)
 first lo (x ∷ ms) number m k e = step lo x ms number m k (inVco lo x) refl e (first lo ms (number + 1) m k)
 
+-- and where none is found, none is right
+abbrev pub AllWrong : ℕ → List ℕ → Type 0
+AllWrong lo ms = (i : ℕ) → i < length ms → inVco lo (getD ms i 0) ≡ false
+
+none-step : (lo m : ℕ) (ms : List ℕ) (number : ℕ) (b : Bool) → inVco lo m ≡ b → pickMixer b (By m number) (firstOf lo ms (number + 1)) ≡ Missing → (firstOf lo ms (number + 1) ≡ Missing → AllWrong lo ms) → AllWrong lo (m ∷ ms)
+none-step lo m ms number true t e later i h = let z : _≡_ {A = ℕ} 0 1 = cc in absurd (omega arith)
+none-step lo m ms number false t e later zero h = t
+none-step lo m ms number false t e later (suc i) h = later e i (le-of-suc-le-suc h)
+
+pub none : (lo : ℕ) (ms : List ℕ) (number : ℕ) → firstOf lo ms number ≡ Missing → AllWrong lo ms
+unfolding firstOf
+none lo [] number e = λ i h. absurd (not-suc-le-zero h)
+none lo (m ∷ ms) number e = none-step lo m ms number (inVco lo m) refl e (none lo ms (number + 1))
+
 -- so is the one of `dividerOf`; its number is at most 5 and it is one of 2 .. 64
 pub record Found (lo m k : ℕ) : Type 0 where
   pub low : 1_770_000_000 ≤ lo * m
