@@ -1,0 +1,4 @@
+pub mod Dividers
+pub mod Fractions
+pub mod Plans
+pub mod Settings

@@ -1,0 +1,4 @@
+pub mod Divide
+pub mod Fraction
+pub mod Plan
+pub mod Setting

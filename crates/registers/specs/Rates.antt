@@ -1,0 +1,59 @@
+-- The demodulator's values for an intermediate frequency and for a sample rate. Document 01, "Demodulator":
+-- "IF: 0x19..0x1b get -(if·2^22 / xtal) modulo 2^22. `if_freq_regs` has the positive value."
+-- "Rate: r = xtal·2^22 / rate, kept to 32 bits, and 0x0ffffffc, then bit 27 copied into bit 28".
+-- "Refusal numbers": "`if_freq_regs` and its demod sister refuse 4 for reference zero; so do both resampler calls, after rate";
+-- "A refused call's value is 0".
+use Prim.Native.Nat.{ℕ, _-_, _*_, _/_, _%_, _^_}
+use mathlib.Core.Bool.{Bool, true, false}
+use mathlib.Core.List.{[], _∷_}
+use lib.Dec.{eqb}
+use lib.Bits.{bitAnd, bitOr}
+use Rattle.registers.specs.declared.IfRegs.{IfRegs}
+use Rattle.registers.specs.declared.ResampleRegs.{ResampleRegs}
+
+-- if·2^22 / xtal, the positive value
+abbrev pub ifRatioOf : ℕ → ℕ → ℕ
+ifRatioOf hz xtal = hz * 2 ^ 22 / xtal
+
+-- minus a number, modulo 2^22
+abbrev pub negatedOf : ℕ → ℕ
+negatedOf x = (2 ^ 22 - x % 2 ^ 22) % 2 ^ 22
+
+-- what 0x19..0x1b get
+abbrev pub ifValueOf : ℕ → ℕ → ℕ
+ifValueOf hz xtal = negatedOf (ifRatioOf hz xtal)
+
+-- the ratio, uncut
+abbrev pub ratioOf : ℕ → ℕ → ℕ
+ratioOf rate xtal = xtal * 2 ^ 22 / rate
+
+-- the ratio as it is sent: 32 bits, the mask, bit 27 into bit 28
+abbrev pub maskedOf : ℕ → ℕ
+maskedOf ratio = bitAnd (ratio % 2 ^ 32) 0x0fff_fffc
+
+unfoldable pub sentOf : ℕ → ℕ
+sentOf ratio = bitOr (maskedOf ratio) (bitAnd (maskedOf ratio) 0x0800_0000 * 2)
+
+abbrev pub pickIf : Bool → IfRegs → IfRegs → IfRegs
+pickIf true a b = a
+pickIf false a b = b
+
+abbrev pub pickResample : Bool → ResampleRegs → ResampleRegs → ResampleRegs
+pickResample true a b = a
+pickResample false a b = b
+
+-- six bits and two bytes, high first
+unfoldable pub ifRegsOf : ℕ → ℕ → IfRegs
+ifRegsOf hz xtal =
+    pickIf (eqb xtal 0) (record { refusal = 4; bytes = 0 ∷ 0 ∷ 0 ∷ [] })
+    (record { refusal = 0; bytes = ifRatioOf hz xtal / 2 ^ 16 % 2 ^ 6 ∷ ifRatioOf hz xtal / 2 ^ 8 % 2 ^ 8 ∷ ifRatioOf hz xtal % 2 ^ 8 ∷ [] })
+
+abbrev pub noResample : ℕ → ResampleRegs
+noResample number = record { refusal = number; bytes = 0 ∷ 0 ∷ 0 ∷ 0 ∷ [] }
+
+-- six bits and three bytes, high first
+unfoldable pub resampleRegsOf : ℕ → ℕ → ResampleRegs
+resampleRegsOf rate xtal =
+    pickResample (eqb rate 0) (noResample 3)
+    (pickResample (eqb xtal 0) (noResample 4)
+    (record { refusal = 0; bytes = ratioOf rate xtal / 2 ^ 24 % 2 ^ 6 ∷ ratioOf rate xtal / 2 ^ 16 % 2 ^ 8 ∷ ratioOf rate xtal / 2 ^ 8 % 2 ^ 8 ∷ ratioOf rate xtal % 2 ^ 8 ∷ [] }))
