@@ -1,10 +1,10 @@
 -- Document 01's table of kinds, "Transcript and script": one column for each of its rules, indexed by the kind. Kind 0 is none, so
 -- the first number of each column is never looked at.
 -- Assumes nothing.
-use Prim.Native.Nat.{ℕ, _≤_}
+use Prim.Native.Nat.{ℕ}
 use mathlib.Core.List.{List, [], _∷_}
-use mathlib.Core.Bool.{Bool, _&&_}
-use lib.Dec.{leb}
+use mathlib.Core.Bool.{Bool, _&&_, _||_}
+use lib.Dec.{leb, eqb}
 use lib.ListN.{getD}
 
 --             0   1 repeater   2 write   3 read   4, 5 demod   6, 7 block   8 block read   9 wait
@@ -31,14 +31,16 @@ addressMost = 0 ∷ 0 ∷ 0 ∷ 0 ∷ 65535 ∷ 65535 ∷ 65535 ∷ 65535 ∷ 65
 unfoldable pub firstMost : List ℕ
 firstMost = 0 ∷ 1 ∷ 255 ∷ 255 ∷ 255 ∷ 255 ∷ 255 ∷ 255 ∷ 255 ∷ 0 ∷ []
 
--- how many of a failed entry's data bytes stay: none of a read's ("zeros if failed"), all of the others'
-unfoldable pub failedKeeps : List ℕ
-failedKeeps = 0 ∷ 8 ∷ 8 ∷ 0 ∷ 8 ∷ 8 ∷ 8 ∷ 8 ∷ 0 ∷ 8 ∷ []
+-- kinds 3 and 8, whose data are "zeros if failed"
+abbrev pub isRead : ℕ → Bool
+isRead k = eqb k 3 || eqb k 8
 
--- kind, outcome, target, n, address and first data byte are within their columns
+-- a kind of the table, with outcome, target, n, address and first data byte within their columns
 unfoldable pub rowFits : ℕ → ℕ → ℕ → ℕ → ℕ → ℕ → Bool
 rowFits k o t n a b =
-    leb o (getD outcomeMost k 0)
+    leb 1 k
+    && leb k 9
+    && leb o (getD outcomeMost k 0)
     && leb t (getD targetMost k 0)
     && leb (getD nLow k 0) n
     && leb n (getD nHigh k 0)

@@ -39,7 +39,7 @@ wide-requires : tie.Need-wide-requires Inv-loop μ-loop
 wide-requires c κs = search needs
 
 add-n : tie.Need-add-n Inv-loop μ-loop
-add-n c = 
+add-n c =
     let a = c .before .before .before .before .before .args in
     let l = c .before .before .before .loop in
     record { fits = get-fits (l .n) (c .wide .result) (l .i) (a .k) (search needs) (search needs) (search needs) (l .inv .1 .1) (search needs) }
@@ -48,12 +48,15 @@ loop-less : tie.Need-loop-less Inv-loop μ-loop
 loop-less c = search needs
 
 loop-again : tie.Need-loop-again Inv-loop μ-loop
-loop-again c = 
+loop-again c =
     let a = c .before .before .before .before .before .args in
-    let l = c .before .before .before .loop in
-    (omega arith,
-    (ap₂ (λ x y. x * 256 + y) (l .inv .1 .0) (c .wide .ensures .0) ∙ get-turn (now (a .s)) (a .at) (l .i) (a .k) (search needs) (search needs) (search needs),
-    get-below (l .n) (c .wide .result) (l .i) (a .k) (search needs) (search needs) (l .inv .1 .1) (search needs)))
+    let l = c .before .before .before .loop in (
+      omega arith,
+      (
+        ap₂ (λ x y. x * 256 + y) (l .inv .1 .0) (c .wide .ensures .0) ∙ get-turn (now (a .s)) (a .at) (l .i) (a .k) (search needs) (search needs) (search needs),
+        get-below (l .n) (c .wide .result) (l .i) (a .k) (search needs) (search needs) (l .inv .1 .1) (search needs),
+      ),
+    )
 
 returns : tie.Need-returns Inv-loop μ-loop
 returns c = get-end (now (c .before .before .before .args .s)) (c .before .before .before .args .at) (c .before .loop .i) (c .before .before .before .args .k) (c .before .loop .n) (search needs) (c .before .loop .inv .1 .0) (c .before .loop .inv .1 .1)
