@@ -38,8 +38,8 @@ isRead k = eqb k 3 || eqb k 8
 -- a kind of the table, with outcome, target, n, address and first data byte within their columns
 unfoldable pub rowFits : ℕ → ℕ → ℕ → ℕ → ℕ → ℕ → Bool
 rowFits k o t n a b =
-    leb 1 k
-    && leb k 9
+    leb k 9
+    && leb 1 k
     && leb o (getD outcomeMost k 0)
     && leb t (getD targetMost k 0)
     && leb (getD nLow k 0) n
