@@ -1,3 +1,5 @@
 pub mod Laid
 pub mod Fitting
 pub mod Reading
+pub mod Rows
+pub mod Exact

@@ -1,7 +1,7 @@
 -- The reader's tests, and what they say of a slice: one law for each way in which the reader stops, one for a section that it reads.
 -- Assumes nothing.
 use Prim.Native.Nat.{ℕ, zero, suc, _+_, _-_, _*_, _<_, _≤_}
-use mathlib.Core.Path.{_≡_, refl, sym, ap, _∙_}
+use mathlib.Core.Path.{_≡_, refl, sym, ap₂, _∙_}
 use mathlib.Core.List.{List, [], _∷_}
 use mathlib.Core.Bool.{Bool, true, false, _&&_, and-false}
 use native.Mathlib.Omega.{arith}
@@ -26,7 +26,7 @@ module _ (s : List ℕ) (at i k : ℕ) where
 
   pub fit-on : (t : Bool) → i < k → t ≡ fits (take 16 (drop (at + 16 * i) s)) → t ≡ true
       → allFit (k - (i + 1)) (drop (at + 16 * (i + 1)) s) ≡ allFit (k - i) (drop (at + 16 * i) s)
-  fit-on t h e yes = rw (fit-turn h, ← e, yes)
+  fit-on t h e fine = rw (fit-turn h, ← e, fine)
 
   pub fit-stop : (t : Bool) → i < k → t ≡ fits (take 16 (drop (at + 16 * i) s)) → t ≡ false → false ≡ allFit (k - i) (drop (at + 16 * i) s)
   fit-stop t h e never = rw (fit-turn h, ← e, never)
@@ -43,7 +43,7 @@ module _ (s : List ℕ) (at i k : ℕ) where
       let here : at + 16 * 0 ≡ at = omega arith in
       rw (all, here)
 
-both : (a b : Bool) → a && b ≡ true → (a ≡ true) × (b ≡ true)
+pub both : (a b : Bool) → a && b ≡ true → (a ≡ true) × (b ≡ true)
 both true b h = (refl, h)
 both false b h =
     let z : _≡_ {A = ℕ} 0 1 = cc in
@@ -113,7 +113,7 @@ module _ (s : List ℕ) (count distance : ℕ) (long : 8 ≤ length s) (c : coun
     there = omega arith
 
     same : all ≡ allFit (countOf s) (drop (startOf s) s)
-    same = rw (← c, ← there, e)
+    same = e ∙ ap₂ (λ k i. allFit k (drop i s)) c there
 
     pub unfit : all ≡ false → Refused ≡ sectionOf s
     unfolding isSection
@@ -121,8 +121,8 @@ module _ (s : List ℕ) (count distance : ℕ) (long : 8 ≤ length s) (c : coun
 
     pub settled : count ≤ 4096 → distance ≤ length s - 8 → all ≡ true → Read (length s - 8 - distance) count ≡ sectionOf s
     unfolding sectionOf
-    settled h room yes =
-        let good : isSection s ≡ true = is-section s (record { long = long; most = omega arith; near = omega arith; room = omega arith; fit = sym same ∙ yes }) in
+    settled h room fine =
+        let good : isSection s ≡ true = is-section s (record { long = long; most = omega arith; near = omega arith; room = omega arith; fit = sym same ∙ fine }) in
         rw (good, there, c)
 
 -- a section that the reader found lies in the slice
@@ -168,8 +168,9 @@ entries-part s a k h =
     let wide : a + 16 * k - a ≡ 16 * k = omega arith in
     rw (f .0, wide, f .1 .0, f .1 .1)
 
-pub before-part : (s : List ℕ) (a k : ℕ) → Read a k ≡ sectionOf s → take a s ≡ beforeOf s
+pub before-part : (s : List ℕ) (a k : ℕ) → Read a k ≡ sectionOf s → take (a - 0) s ≡ beforeOf s
 unfolding beforeOf
 before-part s a k h =
     let f = found s a k h in
-    rw (f .0, f .1 .0)
+    let all : a - 0 ≡ a = omega arith in
+    rw (f .0, all, f .1 .0)

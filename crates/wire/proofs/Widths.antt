@@ -6,7 +6,7 @@ use mathlib.Core.List.{List, [], _∷_}
 use native.Mathlib.Omega.{arith}
 use native.Mathlib.Nat.{pow-succ', pow-le-pow-right}
 use lib.ListN.{length, getD, take, drop}
-use lib.Seq.{drop-cons}
+use lib.Seq.{drop-cons, getD-drop}
 use Rattle.wire.specs.Bytes.{leValue, leBytes, Bytes}
 
 pub length-leBytes : (k n : ℕ) → length (leBytes k n) ≡ k
@@ -83,3 +83,13 @@ get-end s at i k n h e b =
     let all : k - i ≡ k = omega arith in
     let here : at + i ≡ at = omega arith in
     (rw (all, here) at e, rw all at b)
+
+-- parts of bytes are bytes
+pub bytes-drop : (n : ℕ) (bs : List ℕ) → Bytes bs → Bytes (drop n bs)
+bytes-drop n bs h i = rw (getD-drop n bs i 0) (h (n + i))
+
+pub bytes-take : (n : ℕ) (bs : List ℕ) → Bytes bs → Bytes (take n bs)
+bytes-take zero bs h i = omega arith
+bytes-take (suc n) [] h i = omega arith
+bytes-take (suc n) (b ∷ bs) h zero = h 0
+bytes-take (suc n) (b ∷ bs) h (suc i) = bytes-take n bs (λ j. h (suc j)) i

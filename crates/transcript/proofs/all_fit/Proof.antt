@@ -4,6 +4,7 @@ use Prim.Native.Nat.{_≤_, _+_, _-_, _*_}
 use mathlib.Core.Path.{_≡_, refl, _∙_}
 use native.Mathlib.Omega.{arith}
 use borrow.Author.Needs.{needs}
+use borrow.Author.Tests.{not-true, not-false}
 use denote.Ref.{now}
 use lib.ListN.{length, drop}
 use Rattle.transcript.specs.Sections.{allFit}
@@ -36,7 +37,7 @@ returns : tie.Need-returns Inv-loop μ-loop
 returns c = 
     let a = c .before .before .before .before .before .args in
     let l = c .before .before .before .loop in
-    fit-stop (now (a .s)) (a .at) (l .i) (a .count) (c .before .entry-fits .result) (omega arith) (c .before .entry-fits .ensures) (c .if1 .taken) ∙ l .inv .1
+    fit-stop (now (a .s)) (a .at) (l .i) (a .count) (c .before .entry-fits .result) (omega arith) (c .before .entry-fits .ensures) (not-true (c .before .entry-fits .result) (c .if1 .taken)) ∙ l .inv .1
 
 add-i : tie.Need-add-i Inv-loop μ-loop
 add-i c = search needs
@@ -48,7 +49,7 @@ loop-again : tie.Need-loop-again Inv-loop μ-loop
 loop-again c = 
     let a = c .before .before .before .before .before .args in
     let l = c .before .before .before .loop in
-    (omega arith, fit-on (now (a .s)) (a .at) (l .i) (a .count) (c .before .entry-fits .result) (omega arith) (c .before .entry-fits .ensures) (c .if1 .left) ∙ l .inv .1)
+    (omega arith, fit-on (now (a .s)) (a .at) (l .i) (a .count) (c .before .entry-fits .result) (omega arith) (c .before .entry-fits .ensures) (not-false (c .before .entry-fits .result) (c .if1 .left)) ∙ l .inv .1)
 
 returns-2 : tie.Need-returns-2 Inv-loop μ-loop
 returns-2 c = 

@@ -1,3 +1,9 @@
+-- `transcript::section_before` meets its contract: the part lies in the slice, by what the reader found.
+-- Assumes nothing.
+use mathlib.Core.Path.{_≡_, sym, _∙_}
+use native.Mathlib.Omega.{arith}
+use denote.Ref.{now}
+use Rattle.transcript.proofs.Reading.{lies, before-part, none-before}
 use borrow.Author.Needs.{needs}
 use Rattle.transcript.proofs.section_before.Statement.{statement}
 use Rattle.transcript.proofs.section_before.Tie as tie
@@ -5,49 +11,40 @@ use Rattle.transcript.proofs.section_before.Reads as reads
 use Rattle.transcript.proofs.section_before.Lts as lts
 use Rattle.transcript.proofs.read_section.Reads as read-section-reads
 
--- src/lib.rt:214:11
 read-section-requires : tie.Need-read-section-requires
 read-section-requires c κs = search needs
 
--- src/lib.rt:215:25
 enum-known-start : tie.Need-enum-known-start
 enum-known-start c = search needs
 
--- src/lib.rt:215:46
 sub-result : tie.Need-sub-result
 sub-result c = search needs
 
--- src/lib.rt:215:46
 part-result-start : tie.Need-part-result-start
 part-result-start c = search needs
 
--- src/lib.rt:215:46
 part-result-end : tie.Need-part-result-end
-part-result-end c = ?
+part-result-end c = 
+    let f = lies (now (c .before .before .before .before .before .args .s)) _ _ (sym (c .before .start .given .1) ∙ c .before .before .before .read-section .ensures) in
+    omega arith
 
--- src/lib.rt:216:29
 enum-told : tie.Need-enum-told
 enum-told c = search needs
 
--- src/lib.rt:216:29
 sub-result-2 : tie.Need-sub-result-2
 sub-result-2 c = search needs
 
--- src/lib.rt:216:29
 part-result-start-2 : tie.Need-part-result-start-2
 part-result-start-2 c = search needs
 
--- src/lib.rt:216:29
 part-result-end-2 : tie.Need-part-result-end-2
 part-result-end-2 c = search needs
 
--- src/lib.rt:211:1
 returns : tie.Need-returns
-returns c = ?
+returns c = before-part (now (c .before .before .before .before .before .before .args .s)) _ _ (sym (c .before .before .start .given .1) ∙ c .before .before .before .before .read-section .ensures)
 
--- src/lib.rt:211:1
 returns-2 : tie.Need-returns-2
-returns-2 c = ?
+returns-2 c = none-before (now (c .before .before .before .before .before .args .s)) (sym (c .before .enum-told .given .1) ∙ c .before .before .before .read-section .ensures)
 
 pub section-before-spec : {M : Type 1} → statement M
 section-before-spec =

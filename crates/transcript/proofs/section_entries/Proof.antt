@@ -1,3 +1,9 @@
+-- `transcript::section_entries` meets its contract: the part lies in the slice, by what the reader found.
+-- Assumes nothing.
+use mathlib.Core.Path.{_≡_, sym, _∙_}
+use native.Mathlib.Omega.{arith}
+use denote.Ref.{now}
+use Rattle.transcript.proofs.Reading.{lies, entries-part, no-entries}
 use borrow.Author.Needs.{needs}
 use Rattle.transcript.proofs.section_entries.Statement.{statement}
 use Rattle.transcript.proofs.section_entries.Tie as tie
@@ -5,57 +11,50 @@ use Rattle.transcript.proofs.section_entries.Reads as reads
 use Rattle.transcript.proofs.section_entries.Lts as lts
 use Rattle.transcript.proofs.read_section.Reads as read-section-reads
 
--- src/lib.rt:204:11
 read-section-requires : tie.Need-read-section-requires
 read-section-requires c κs = search needs
 
--- src/lib.rt:205:25
 enum-known-start : tie.Need-enum-known-start
 enum-known-start c = search needs
 
--- src/lib.rt:205:61
 mul-result : tie.Need-mul-result
-mul-result c = ?
+mul-result c = 
+    let f = lies (now (c .before .before .before .before .before .args .s)) _ _ (sym (c .before .start .given .1) ∙ c .before .before .before .read-section .ensures) in
+    record { fits = omega arith }
 
--- src/lib.rt:205:53
 add-result : tie.Need-add-result
-add-result c = ?
+add-result c = 
+    let f = lies (now (c .before .before .before .before .before .args .s)) _ _ (sym (c .before .start .given .1) ∙ c .before .before .before .read-section .ensures) in
+    record { fits = omega arith }
 
--- src/lib.rt:205:43
 sub-result : tie.Need-sub-result
 sub-result c = search needs
 
--- src/lib.rt:205:43
 part-result-start : tie.Need-part-result-start
 part-result-start c = search needs
 
--- src/lib.rt:205:43
 part-result-end : tie.Need-part-result-end
-part-result-end c = ?
+part-result-end c = 
+    let f = lies (now (c .before .before .before .before .before .args .s)) _ _ (sym (c .before .start .given .1) ∙ c .before .before .before .read-section .ensures) in
+    omega arith
 
--- src/lib.rt:206:29
 enum-told : tie.Need-enum-told
 enum-told c = search needs
 
--- src/lib.rt:206:29
 sub-result-2 : tie.Need-sub-result-2
 sub-result-2 c = search needs
 
--- src/lib.rt:206:29
 part-result-start-2 : tie.Need-part-result-start-2
 part-result-start-2 c = search needs
 
--- src/lib.rt:206:29
 part-result-end-2 : tie.Need-part-result-end-2
 part-result-end-2 c = search needs
 
--- src/lib.rt:201:1
 returns : tie.Need-returns
-returns c = ?
+returns c = entries-part (now (c .before .before .before .before .before .before .args .s)) _ _ (sym (c .before .before .start .given .1) ∙ c .before .before .before .before .read-section .ensures)
 
--- src/lib.rt:201:1
 returns-2 : tie.Need-returns-2
-returns-2 c = ?
+returns-2 c = no-entries (now (c .before .before .before .before .before .args .s)) (sym (c .before .enum-told .given .1) ∙ c .before .before .before .read-section .ensures)
 
 pub section-entries-spec : {M : Type 1} → statement M
 section-entries-spec =
