@@ -74,7 +74,7 @@ sound s h =
       most = leb-true (countOf s) 4096 (t .1);
       near = eqb-true (distanceOf s) (16 * countOf s) (r .1);
       room = leb-true (16 * countOf s) (length s - 8) (q .1);
-      fit = p .1
+      fit = p .1;
     }
 
 pub is-section : (s : List ℕ) → Sound s → isSection s ≡ true

@@ -68,7 +68,7 @@ row-of e h =
       n = omega (arith, leb-true (e .n) (getD nHigh k 0) (r6 .1), column 8 nHigh refl k);
       address = omega (arith, leb-true (e .address) (getD addressMost k 0) (r7 .1), column 65535 addressMost refl k);
       eight = eqb-true (length (e .bytes)) 8 (q .1);
-      padded = p .1
+      padded = p .1;
     }
 
 -- an entry's 16 bytes stand for it: the one reading-back fact, for all kinds
@@ -95,7 +95,7 @@ written-read b bytes h =
     let long : length b ≡ 16 = omega (arith, length-drop 8 b, eight) in
     let two : length (take 2 (drop 4 b)) ≡ 2 = length-take 2 (drop 4 b) ∙ simp length-drop (omega arith) in
     let value : leBytes 2 (leValue (take 2 (drop 4 b))) ≡ take 2 (drop 4 b) =
-      rw two at (bytes-value (take 2 (drop 4 b)) (bytes-take 2 (drop 4 b) (bytes-drop 4 b bytes))) in
+    rw two at (bytes-value (take 2 (drop 4 b)) (bytes-take 2 (drop 4 b) (bytes-drop 4 b bytes))) in
     let spelt : take 2 (drop 4 b) ≡ getD b 4 0 ∷ getD b 5 0 ∷ [] = rw (drop-cons b 4 0 (omega arith), drop-cons b 5 0 (omega arith)) in
     ap₂ (λ (x : List ℕ) (y : ℕ). (getD b 0 0 ∷ getD b 1 0 ∷ getD b 2 0 ∷ getD b 3 0 ∷ []) ++ (x ++ (0 ∷ y ∷ drop 8 b))) (value ∙ spelt) (sym seven)
     ∙ ap (λ (x : ℕ). getD b 0 0 ∷ getD b 1 0 ∷ getD b 2 0 ∷ getD b 3 0 ∷ getD b 4 0 ∷ getD b 5 0 ∷ x ∷ getD b 7 0 ∷ drop 8 b) (sym six)

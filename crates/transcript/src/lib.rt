@@ -10,10 +10,15 @@ ghost use Rattle.transcript.specs.Sections.{trailerBytes, allFit, sectio
 
 // The table of kinds, a column for each rule; kind 0 is none.
 const N_LOW: [u8; 10] = [0, 1, 1, 1, 1, 2, 1, 2, 1, 0];
+
 const N_HIGH: [u8; 10] = [0, 1, 8, 5, 1, 2, 1, 2, 1, 0];
+
 const OUTCOME_MOST: [u8; 10] = [0, 1, 1, 1, 1, 1, 1, 1, 1, 0];
+
 const TARGET_MOST: [u8; 10] = [0, 0, 255, 255, 255, 255, 255, 255, 255, 0];
+
 const ADDRESS_MOST: [u16; 10] = [0, 0, 0, 0, 65535, 65535, 65535, 65535, 65535, 65535];
+
 const FIRST_MOST: [u8; 10] = [0, 1, 255, 255, 255, 255, 255, 255, 255, 0];
 
 // "An entry has 16 bytes: kind, outcome (0 done, 1 failed), target, n, address (u16, low byte first), two zeros, eight data

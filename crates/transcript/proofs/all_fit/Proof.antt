@@ -34,7 +34,7 @@ entry-fits-requires : tie.Need-entry-fits-requires Inv-loop μ-loop
 entry-fits-requires c κs = search needs
 
 returns : tie.Need-returns Inv-loop μ-loop
-returns c = 
+returns c =
     let a = c .before .before .before .before .before .args in
     let l = c .before .before .before .loop in
     fit-stop (now (a .s)) (a .at) (l .i) (a .count) (c .before .entry-fits .result) (omega arith) (c .before .entry-fits .ensures) (not-true (c .before .entry-fits .result) (c .if1 .taken)) ∙ l .inv .1
@@ -46,13 +46,13 @@ loop-less : tie.Need-loop-less Inv-loop μ-loop
 loop-less c = search needs
 
 loop-again : tie.Need-loop-again Inv-loop μ-loop
-loop-again c = 
+loop-again c =
     let a = c .before .before .before .before .before .args in
     let l = c .before .before .before .loop in
     (omega arith, fit-on (now (a .s)) (a .at) (l .i) (a .count) (c .before .entry-fits .result) (omega arith) (c .before .entry-fits .ensures) (not-false (c .before .entry-fits .result) (c .if1 .left)) ∙ l .inv .1)
 
 returns-2 : tie.Need-returns-2 Inv-loop μ-loop
-returns-2 c = 
+returns-2 c =
     let a = c .before .before .before .args in
     let l = c .before .loop in
     fit-end (now (a .s)) (a .at) (l .i) (a .count) (omega arith) ∙ l .inv .1

@@ -29,7 +29,7 @@ fits-requires : tie.Need-fits-requires
 fits-requires c κs = search needs
 
 returns : tie.Need-returns
-returns c = 
+returns c =
     let a = c .before .before .before .before .before .args in
     fits-made (now (a .s)) (a .at) (c .before .before .before .get .result) (c .fits2 .result) (c .before .before .before .get .ensures) (c .fits2 .ensures)
 

@@ -24,7 +24,7 @@ get-requires-2 : tie.Need-get-requires-2
 get-requires-2 c κs = search needs
 
 returns-2 : tie.Need-returns-2
-returns-2 c = 
+returns-2 c =
     let s = now (c .before .before .before .before .before .args .s) in
     let k = c .before .before .get in
     let d = c .before .get2 in
@@ -34,14 +34,14 @@ mul-if3 : tie.Need-mul-if3
 mul-if3 c = search needs
 
 returns-3 : tie.Need-returns-3
-returns-3 c = 
+returns-3 c =
     let s = now (c .before .before .before .before .before .before .args .s) in
     let k = c .before .before .before .get in
     let d = c .before .before .get2 in
     too-far s (k .result) (d .result) (c .before .before .before .before .if1 .left) (k .ensures .0) (d .ensures .0) (c .before .if2 .left) (c .if3 .taken)
 
 returns-4 : tie.Need-returns-4
-returns-4 c = 
+returns-4 c =
     let s = now (c .before .before .before .before .before .before .before .args .s) in
     let k = c .before .before .before .before .get in
     let d = c .before .before .before .get2 in
@@ -51,7 +51,7 @@ all-fit-requires : tie.Need-all-fit-requires
 all-fit-requires c κs = search needs
 
 returns-5 : tie.Need-returns-5
-returns-5 c = 
+returns-5 c =
     let s = now (c .before .before .before .before .before .before .before .before .before .args .s) in
     let k = c .before .before .before .before .before .before .get in
     let d = c .before .before .before .before .before .get2 in
@@ -60,7 +60,7 @@ returns-5 c =
     (a .result) (a .ensures) (c .before .before .before .if3 .left) (c .before .before .before .before .if2 .left) (c .before .before .if4 .left) (c .if5 .taken)
 
 returns-6 : tie.Need-returns-6
-returns-6 c = 
+returns-6 c =
     let s = now (c .before .before .before .before .before .before .before .before .before .args .s) in
     let k = c .before .before .before .before .before .before .get in
     let d = c .before .before .before .before .before .get2 in

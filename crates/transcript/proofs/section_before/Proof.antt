@@ -24,7 +24,7 @@ part-result-start : tie.Need-part-result-start
 part-result-start c = search needs
 
 part-result-end : tie.Need-part-result-end
-part-result-end c = 
+part-result-end c =
     let f = lies (now (c .before .before .before .before .before .args .s)) _ _ (sym (c .before .start .given .1) ∙ c .before .before .before .read-section .ensures) in
     omega arith
 

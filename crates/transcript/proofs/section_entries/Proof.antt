@@ -18,12 +18,12 @@ enum-known-start : tie.Need-enum-known-start
 enum-known-start c = search needs
 
 mul-result : tie.Need-mul-result
-mul-result c = 
+mul-result c =
     let f = lies (now (c .before .before .before .before .before .args .s)) _ _ (sym (c .before .start .given .1) ∙ c .before .before .before .read-section .ensures) in
     record { fits = omega arith }
 
 add-result : tie.Need-add-result
-add-result c = 
+add-result c =
     let f = lies (now (c .before .before .before .before .before .args .s)) _ _ (sym (c .before .start .given .1) ∙ c .before .before .before .read-section .ensures) in
     record { fits = omega arith }
 
@@ -34,7 +34,7 @@ part-result-start : tie.Need-part-result-start
 part-result-start c = search needs
 
 part-result-end : tie.Need-part-result-end
-part-result-end c = 
+part-result-end c =
     let f = lies (now (c .before .before .before .before .before .args .s)) _ _ (sym (c .before .start .given .1) ∙ c .before .before .before .read-section .ensures) in
     omega arith
 

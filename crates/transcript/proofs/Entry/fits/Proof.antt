@@ -32,7 +32,7 @@ zeros-from-requires : tie.Need-zeros-from-requires
 zeros-from-requires c κs = search needs
 
 returns-2 : tie.Need-returns-2
-returns-2 c = 
+returns-2 c =
     let e = c .before .before .before .before .before .before .args .self in
     let w = c .before .before .before .before .before .wide in
     let eight : length (e .bytes) ≡ 8 = search needs in

@@ -61,7 +61,7 @@ cast-t24 : tie.Need-cast-t24
 cast-t24 c = search needs
 
 returns : tie.Need-returns
-returns c = 
+returns c =
     let a = c .before .before .before .before .before .before .before .before .before .before .before .args in
     let part = drop (a .at) (now (a .s)) in
     let wide : a .at + 16 - a .at ≡ 16 = omega arith in
