@@ -5,6 +5,9 @@ ghost use mathlib.Core.Path.{_≡_};
 ghost use Prim.Native.Nat.{_+_, _^_, _≤_, _<_};
 ghost use lib.ListN.{length, take, drop};
 ghost use lib.Seq.{sets};
+ghost use lib.Ieee.{ofBits, toBits, binary32};
+ghost use mir.Syntax.{w32};
+ghost use mir.Val.{toZ, ofZ};
 ghost use Rattle.wire.specs.Bytes.{leValue, leBytes};
 
 fn wide(x: u8) -> u64
@@ -51,4 +54,44 @@ pub fn copy(dst: &mut [u8], at: usize, src: &[u8])
         dst[at + i] = src[i];
         i += 1;
     }
+}
+
+// A 32-bit signed number of its bits. The upper half counts down from -1.
+pub fn to_signed(x: u32) -> i32
+    ensures { λ r. ⌜ r ≡ toZ w32 x ⌝ }
+{
+    if x < 0x8000_0000 {
+        return x as i32;
+    }
+    -1 - ((0xffff_ffff - x) as i32)
+}
+
+// The bits of a 32-bit signed number.
+pub fn to_bits(x: i32) -> u32
+    ensures { λ r. ⌜ r ≡ ofZ w32 x ⌝ }
+{
+    if x < 0 {
+        return 0xffff_ffff - ((-1 - x) as u32);
+    }
+    x as u32
+}
+
+// The binary32 of any bits. All NaN patterns are the one NaN, which `from_bits` is not asked for.
+pub fn float_of(bits: u32) -> f32
+    ensures { λ r. ⌜ r ≡ ofBits binary32 bits ⌝ }
+{
+    if 0x7f80_0000 < bits % 0x8000_0000 {
+        return 0.0 / 0.0;
+    }
+    f32::from_bits(bits)
+}
+
+// The bits of any binary32; those of a NaN are 0x7fc00000.
+pub fn bits_of(x: f32) -> u32
+    ensures { λ r. ⌜ r ≡ toBits binary32 x ⌝ }
+{
+    if x != x {
+        return 0x7fc0_0000;
+    }
+    f32::to_bits(x)
 }
