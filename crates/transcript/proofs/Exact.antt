@@ -1,10 +1,10 @@
 -- The reader accepts exactly the sections: what is written is read back, with what stood before it, and each slice that is accepted is
 -- what stood before followed by the section of its entries.
 -- Assumes nothing.
-use Prim.Native.Nat.{ℕ, zero, suc, _+_, _-_, _*_, _^_, _<_, _≤_}
+use Prim.Native.Nat.{ℕ, zero, suc, _+_, _-_, _*_, _<_, _≤_}
 use mathlib.Core.Path.{_≡_, refl, sym, ap, ap₂, _∙_, subst}
 use mathlib.Core.List.{List, [], _∷_, _++_, append-nil, append-assoc}
-use mathlib.Core.Bool.{Bool, true, false, _&&_}
+use mathlib.Core.Bool.{true, _&&_}
 use native.Mathlib.Omega.{arith}
 use native.Mathlib.Nat.{zero-add, suc-add}
 use lib.Dec.{eqb}
@@ -18,7 +18,7 @@ use Rattle.transcript.specs.Entries.{entryBytes, entryOf, entryFits, fit
 use Rattle.transcript.specs.Sections.{entriesBytes, trailerBytes, sectionBytes, entriesIn, allFit, countOf, distanceOf, startOf, isSection, sectionOf, entriesOf, beforeOf, sectionEntries, AllFit, Parted}
 use Rattle.transcript.proofs.Laid.{length-entryBytes, length-entriesBytes, length-sectionBytes}
 use Rattle.transcript.proofs.Reading.{both, Sound, sound, is-section}
-use Rattle.transcript.proofs.Rows.{Row, row-of, read-written, fits-written, written-read}
+use Rattle.transcript.proofs.Rows.{row-of, read-written, fits-written, written-read}
 
 drop-take : (n m : ℕ) (l : List ℕ) → drop n (take (n + m) l) ≡ take m (drop n l)
 drop-take zero m l = ap (λ (k : ℕ). take k l) (zero-add m)
@@ -31,6 +31,16 @@ pub length-entriesIn : (k : ℕ) (l : List ℕ) → length (entriesIn k l) ≡ k
 unfolding entriesIn
 length-entriesIn zero l = refl
 length-entriesIn (suc k) l = ap suc (length-entriesIn k (drop 16 l))
+
+-- each stands in its own 16 bytes
+pub entry-at : (k i : ℕ) (l : List ℕ) (d : Entry) → i < k → getD (entriesIn k l) i d ≡ entryOf (take 16 (drop (16 * i) l))
+unfolding entriesIn
+entry-at zero i l d h = absurd (omega arith)
+entry-at (suc k) zero l d h = refl
+entry-at (suc k) (suc i) l d h =
+    let next : 16 * suc i ≡ 16 + 16 * i = omega arith in
+    let less : i < k = omega arith in
+    rw (next, ← drop-drop (16 * i) 16 l) (entry-at k i (drop 16 l) d less)
 
 -- the first k entries lie in the first 16 k bytes
 pub entriesIn-take : (k : ℕ) (l : List ℕ) → entriesIn k (take (16 * k) l) ≡ entriesIn k l

@@ -3,3 +3,4 @@ pub mod Fitting
 pub mod Reading
 pub mod Rows
 pub mod Exact
+pub mod Worked

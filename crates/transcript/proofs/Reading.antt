@@ -1,18 +1,17 @@
 -- The reader's tests, and what they say of a slice: one law for each way in which the reader stops, one for a section that it reads.
 -- Assumes nothing.
-use Prim.Native.Nat.{ℕ, zero, suc, _+_, _-_, _*_, _<_, _≤_}
+use Prim.Native.Nat.{ℕ, suc, _+_, _-_, _*_, _<_, _≤_}
 use mathlib.Core.Path.{_≡_, refl, sym, ap₂, _∙_}
-use mathlib.Core.List.{List, [], _∷_}
+use mathlib.Core.List.{List, []}
 use mathlib.Core.Bool.{Bool, true, false, _&&_, and-false}
 use native.Mathlib.Omega.{arith}
 use lib.Dec.{eqb, leb}
 use borrow.Author.Tests.{eq-eqb, ne-eqb, eqb-true, lt-leb, le-leb, leb-true}
 use lib.ListN.{length, take, drop}
 use lib.Seq.{drop-drop}
-use Rattle.transcript.specs.declared.Section.{Section}
 use Rattle.transcript.specs.declared.Section.the-variants.{Read, Refused}
 use Rattle.transcript.specs.Entries.{fits}
-use Rattle.transcript.specs.Sections.{allFit, countOf, distanceOf, startOf, isSection, pickSection, sectionOf, pickPart, entriesOf, beforeOf}
+use Rattle.transcript.specs.Sections.{allFit, countOf, distanceOf, startOf, isSection, pickSection, sectionOf, entriesOf, beforeOf}
 
 -- a loop over entries that have to fit: it goes on, it stops, it ends
 module _ (s : List ℕ) (at i k : ℕ) where

@@ -1,14 +1,14 @@
 -- One reading-back fact for all kinds, each way, and what an entry that fits the table is known to be.
 -- Assumes nothing.
-use Prim.Native.Nat.{ℕ, zero, suc, _+_, _-_, _*_, _<_, _≤_}
-use mathlib.Core.Path.{_≡_, refl, sym, ap, ap₂, _∙_, subst}
+use Prim.Native.Nat.{ℕ, zero, suc, _<_, _≤_}
+use mathlib.Core.Path.{_≡_, refl, sym, ap, ap₂, _∙_}
 use mathlib.Core.List.{List, [], _∷_, _++_}
-use mathlib.Core.Bool.{Bool, true, false, _&&_}
+use mathlib.Core.Bool.{Bool, true, _&&_}
 use native.Mathlib.Omega.{arith}
 use lib.Dec.{eqb, leb}
 use borrow.Author.Tests.{eqb-true, leb-true}
 use lib.ListN.{length, getD, take, drop, length-drop, length-take}
-use lib.Seq.{drop-cons, getD-drop, getD-take}
+use lib.Seq.{drop-cons}
 use Rattle.wire.specs.Bytes.{leBytes, leValue, Bytes}
 use Rattle.wire.proofs.Widths.{value-bytes, bytes-value, bytes-take, bytes-drop}
 use Rattle.transcript.specs.declared.Entry.{Entry}

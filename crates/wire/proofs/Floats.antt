@@ -1,12 +1,12 @@
 -- binary32 by its bits, for every pattern: which patterns are the one NaN, and the way there and back.
 -- Assumes nothing.
-use Prim.Native.Nat.{ℕ, _*_, _%_, _<_, _≤_}
+use Prim.Native.Nat.{ℕ, _%_, _<_, _≤_}
 use mathlib.Core.Path.{_≡_, refl, sym, ap, _∙_, subst}
 use mathlib.Core.Bool.{true, false, not}
 use native.Mathlib.Omega.{arith}
 use borrow.Author.Tests.{lt-ltb, le-ltb}
-use lib.Dec.{T, ltb}
-use lib.Ieee.{Float, nan, inf, fin, ne, div, isNan, nanBits, ofBits, toBits, binary32, ones, hid, top}
+use lib.Dec.{T}
+use lib.Ieee.{Float, nan, inf, fin, ne, div, isNan, nanBits, ofBits, toBits, binary32}
 use lib.Ieee.Bits.{nanBits-is, nanBits-above, toBits-ofBits}
 use lib.Ieee.Compare.{differs-from-itself}
 

@@ -25,7 +25,8 @@ pub fn get(s: &[u8], at: usize, k: usize) -> u64
     let mut i = k;
     while 0 < i {
         i -= 1;
-        n = n * 256 + wide(s[at + i]);
+        let b = wide(s[at + i]);
+        n = n * 256 + b;
     }
     n
 }

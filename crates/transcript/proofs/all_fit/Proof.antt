@@ -1,19 +1,16 @@
 -- `transcript::all_fit` meets its contract. The loop's invariant: whether the entries from i on fit says it for all.
 -- Assumes nothing.
 use Prim.Native.Nat.{_≤_, _+_, _-_, _*_}
-use mathlib.Core.Path.{_≡_, refl, _∙_}
+use mathlib.Core.Path.{_≡_, _∙_}
 use native.Mathlib.Omega.{arith}
 use borrow.Author.Needs.{needs}
 use borrow.Author.Tests.{not-true, not-false}
 use denote.Ref.{now}
-use lib.ListN.{length, drop}
+use lib.ListN.{drop}
 use Rattle.transcript.specs.Sections.{allFit}
 use Rattle.transcript.proofs.Reading.{fit-on, fit-stop, fit-end, fit-start}
 use Rattle.transcript.proofs.all_fit.Statement.{statement}
 use Rattle.transcript.proofs.all_fit.Tie as tie
-use Rattle.transcript.proofs.all_fit.Reads as reads
-use Rattle.transcript.proofs.all_fit.Lts as lts
-use Rattle.transcript.proofs.entry_fits.Reads as entry-fits-reads
 
 abbrev Inv-loop : tie.InvT-loop
 Inv-loop s at count i₀ i = (i ≤ count) × (allFit (count - i) (drop (at + 16 * i) s) ≡ allFit count (drop at s))

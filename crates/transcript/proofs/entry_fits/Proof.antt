@@ -5,10 +5,6 @@ use Rattle.transcript.proofs.Fitting.{fits-made}
 use borrow.Author.Needs.{needs}
 use Rattle.transcript.proofs.entry_fits.Statement.{statement}
 use Rattle.transcript.proofs.entry_fits.Tie as tie
-use Rattle.transcript.proofs.entry_fits.Reads as reads
-use Rattle.transcript.proofs.entry_fits.Lts as lts
-use Rattle.transcript.proofs.Entry.fits.Reads as fits-reads
-use Rattle.transcript.proofs.Entry.get.Reads as get-reads
 
 get-requires : tie.Need-get-requires
 get-requires c κs = search needs

@@ -1,12 +1,8 @@
 -- `transcript::kept_by` meets its contract: the test picks the case of `keptBy`.
 -- Assumes nothing.
-use mathlib.Core.Path.{_∙_}
 use borrow.Author.Needs.{needs}
 use Rattle.transcript.proofs.kept_by.Statement.{statement}
 use Rattle.transcript.proofs.kept_by.Tie as tie
-use Rattle.transcript.proofs.kept_by.Reads as reads
-use Rattle.transcript.proofs.kept_by.Lts as lts
-use Rattle.transcript.proofs.wide.Reads as wide-reads
 
 returns : tie.Need-returns
 returns c = simp (c .if1 .taken)

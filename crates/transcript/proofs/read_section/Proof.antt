@@ -1,15 +1,10 @@
 -- `transcript::read_section` meets its contract: at each `return` the tests that led there say which case of `sectionOf` holds.
 -- Assumes nothing.
-use native.Mathlib.Omega.{arith}
 use denote.Ref.{now}
 use Rattle.transcript.proofs.Reading.{too-short, too-many, too-far, no-room, unfit, settled}
 use borrow.Author.Needs.{needs}
 use Rattle.transcript.proofs.read_section.Statement.{statement}
 use Rattle.transcript.proofs.read_section.Tie as tie
-use Rattle.transcript.proofs.read_section.Reads as reads
-use Rattle.transcript.proofs.read_section.Lts as lts
-use Rattle.transcript.proofs.all_fit.Reads as all-fit-reads
-use Rattle.wire.proofs.get.Reads as get-reads
 
 returns : tie.Need-returns
 returns c = too-short (now (c .before .before .args .s)) (c .if1 .taken)

@@ -6,8 +6,6 @@ use Rattle.transcript.specs.Table.{rowFits, nLow, nHigh, outcomeMost, ta
 use borrow.Author.Needs.{needs}
 use Rattle.transcript.proofs.row_fits.Statement.{statement}
 use Rattle.transcript.proofs.row_fits.Tie as tie
-use Rattle.transcript.proofs.row_fits.Reads as reads
-use Rattle.transcript.proofs.row_fits.Lts as lts
 
 array-read-result : tie.Need-array-read-result
 array-read-result c = search needs

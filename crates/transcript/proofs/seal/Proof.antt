@@ -1,7 +1,7 @@
 -- `transcript::seal` meets its contract: the two numbers, stored one behind the other, are the trailer.
 -- Assumes nothing.
 use Prim.Native.Nat.{_+_, _*_}
-use mathlib.Core.Path.{_≡_, ap, _∙_}
+use mathlib.Core.Path.{ap, _∙_}
 use borrow.Author.Needs.{needs}
 use denote.Ref.{now}
 use lib.Seq.{sets}
@@ -10,9 +10,6 @@ use Rattle.transcript.proofs.Laid.{trailer-laid}
 use borrow.Author.Needs.{needs}
 use Rattle.transcript.proofs.seal.Statement.{statement}
 use Rattle.transcript.proofs.seal.Tie as tie
-use Rattle.transcript.proofs.seal.Reads as reads
-use Rattle.transcript.proofs.seal.Lts as lts
-use Rattle.wire.proofs.put.Reads as put-reads
 
 mul-at : tie.Need-mul-at
 mul-at c = search needs

@@ -1,15 +1,12 @@
 -- `transcript::section_before` meets its contract: the part lies in the slice, by what the reader found.
 -- Assumes nothing.
-use mathlib.Core.Path.{_≡_, sym, _∙_}
+use mathlib.Core.Path.{sym, _∙_}
 use native.Mathlib.Omega.{arith}
 use denote.Ref.{now}
 use Rattle.transcript.proofs.Reading.{lies, before-part, none-before}
 use borrow.Author.Needs.{needs}
 use Rattle.transcript.proofs.section_before.Statement.{statement}
 use Rattle.transcript.proofs.section_before.Tie as tie
-use Rattle.transcript.proofs.section_before.Reads as reads
-use Rattle.transcript.proofs.section_before.Lts as lts
-use Rattle.transcript.proofs.read_section.Reads as read-section-reads
 
 read-section-requires : tie.Need-read-section-requires
 read-section-requires c κs = search needs

@@ -1,6 +1,6 @@
 -- `transcript::zeros_from` meets its contract. The loop's invariant: whether the bytes from i on are zeros says it for all.
 -- Assumes nothing.
-use Prim.Native.Nat.{_≤_, _-_}
+use Prim.Native.Nat.{_-_}
 use mathlib.Core.Path.{_≡_, refl, _∙_}
 use native.Mathlib.Omega.{arith}
 use borrow.Author.Needs.{needs}
@@ -9,8 +9,6 @@ use Rattle.transcript.specs.Entries.{zeros}
 use Rattle.transcript.proofs.Fitting.{zeros-on, zeros-stop, zeros-end}
 use Rattle.transcript.proofs.zeros_from.Statement.{statement}
 use Rattle.transcript.proofs.zeros_from.Tie as tie
-use Rattle.transcript.proofs.zeros_from.Reads as reads
-use Rattle.transcript.proofs.zeros_from.Lts as lts
 
 abbrev Inv-loop : tie.InvT-loop
 Inv-loop from b i₀ i = (length b ≡ 8) × (zeros (drop i b) ≡ zeros (drop from b))

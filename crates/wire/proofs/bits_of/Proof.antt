@@ -4,8 +4,6 @@ use Rattle.wire.proofs.Floats.{nan-bits, no-nan}
 use borrow.Author.Needs.{needs}
 use Rattle.wire.proofs.bits_of.Statement.{statement}
 use Rattle.wire.proofs.bits_of.Tie as tie
-use Rattle.wire.proofs.bits_of.Reads as reads
-use Rattle.wire.proofs.bits_of.Lts as lts
 
 returns : tie.Need-returns
 returns c = nan-bits (c .before .args .x) (c .if1 .taken)

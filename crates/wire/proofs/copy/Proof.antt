@@ -10,8 +10,6 @@ use denote.Ref.{now}
 use Rattle.wire.proofs.Stores.{copy-turn, copy-start, copy-end}
 use Rattle.wire.proofs.copy.Statement.{statement}
 use Rattle.wire.proofs.copy.Tie as tie
-use Rattle.wire.proofs.copy.Reads as reads
-use Rattle.wire.proofs.copy.Lts as lts
 
 abbrev Inv-loop : tie.InvT-loop
 Inv-loop dst₀ at src i₀ dst i = (i ≤ length src) × ((length dst ≡ length dst₀) × (sets dst (at + i) (drop i src) ≡ sets dst₀ at src))

@@ -4,8 +4,6 @@ use Rattle.wire.proofs.Floats.{nan-above, no-nan-above}
 use borrow.Author.Needs.{needs}
 use Rattle.wire.proofs.float_of.Statement.{statement}
 use Rattle.wire.proofs.float_of.Tie as tie
-use Rattle.wire.proofs.float_of.Reads as reads
-use Rattle.wire.proofs.float_of.Lts as lts
 
 returns : tie.Need-returns
 returns c = nan-above (c .before .args .bits) (c .if1 .taken)

@@ -4,15 +4,12 @@ use Prim.Native.Nat.{_≤_, _<_, _+_, _*_, _-_, _^_}
 use mathlib.Core.Path.{_≡_, ap₂, _∙_}
 use native.Mathlib.Omega.{arith}
 use borrow.Author.Needs.{needs}
-use lib.ListN.{length, take, drop, getD}
+use lib.ListN.{take, drop}
 use denote.Ref.{now}
 use Rattle.wire.specs.Bytes.{leValue}
 use Rattle.wire.proofs.Widths.{get-turn, get-below, get-fits, get-start, get-end}
 use Rattle.wire.proofs.get.Statement.{statement}
 use Rattle.wire.proofs.get.Tie as tie
-use Rattle.wire.proofs.get.Reads as reads
-use Rattle.wire.proofs.get.Lts as lts
-use Rattle.wire.proofs.wide.Reads as wide-reads
 
 abbrev Inv-loop : tie.InvT-loop
 Inv-loop s at k n₀ i₀ n i = (i ≤ k) × ((n ≡ leValue (take (k - i) (drop (at + i) s))) × (n < 256 ^ (k - i)))
@@ -26,9 +23,6 @@ loop-holds c = (search needs, get-start (now (c .before .args .s)) (c .before .a
 sub-i : tie.Need-sub-i Inv-loop μ-loop
 sub-i c = search needs
 
-mul-n : tie.Need-mul-n Inv-loop μ-loop
-mul-n c = record { fits = omega (arith, get-fits (c .before .loop .n) 0 (c .before .loop .i) (c .before .before .before .args .k) (search needs) (search needs) (search needs) (c .before .loop .inv .1 .1) (search needs)) }
-
 add-wide : tie.Need-add-wide Inv-loop μ-loop
 add-wide c = search needs
 
@@ -37,6 +31,12 @@ shared-slice-read-wide c = search needs
 
 wide-requires : tie.Need-wide-requires Inv-loop μ-loop
 wide-requires c κs = search needs
+
+mul-n : tie.Need-mul-n Inv-loop μ-loop
+mul-n c =
+    let a = c .before .before .before .before .before .args in
+    let l = c .before .before .before .loop in
+    record { fits = omega (arith, get-fits (l .n) (c .wide .result) (l .i) (a .k) (search needs) (search needs) (search needs) (l .inv .1 .1) (search needs)) }
 
 add-n : tie.Need-add-n Inv-loop μ-loop
 add-n c =
@@ -69,10 +69,10 @@ get-spec =
     μ-loop
     loop-holds
     sub-i
-    mul-n
     add-wide
     shared-slice-read-wide
     wide-requires
+    mul-n
     add-n
     loop-less
     loop-again

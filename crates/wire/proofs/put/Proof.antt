@@ -10,8 +10,6 @@ use Rattle.wire.specs.Bytes.{leBytes}
 use Rattle.wire.proofs.Stores.{put-turn, put-start, put-end}
 use Rattle.wire.proofs.put.Statement.{statement}
 use Rattle.wire.proofs.put.Tie as tie
-use Rattle.wire.proofs.put.Reads as reads
-use Rattle.wire.proofs.put.Lts as lts
 
 abbrev Inv-loop : tie.InvT-loop
 Inv-loop s₀ at n k rest₀ i₀ s rest i = (i ≤ k) × ((length s ≡ length s₀) × (sets s (at + i) (leBytes (k - i) rest) ≡ sets s₀ at (leBytes k n)))

@@ -4,15 +4,13 @@ use mathlib.Core.Path.{sym, subst}
 use Prim.Native.Nat.{_≤_}
 use native.Mathlib.Omega.{arith}
 use lib.Dec.{T}
-use lib.IntN.{ℤ, natAbs}
+use lib.IntN.{natAbs}
 use lib.Signed.{nonNeg}
 use mir.Syntax.{w32}
 use mir.Val.{Fits}
 use Rattle.wire.proofs.Signs.{turned-fits, kept, kept-bits, positive-kept}
 use Rattle.wire.proofs.to_bits.Statement.{statement}
 use Rattle.wire.proofs.to_bits.Tie as tie
-use Rattle.wire.proofs.to_bits.Reads as reads
-use Rattle.wire.proofs.to_bits.Lts as lts
 
 sub-result : tie.Need-sub-result
 sub-result c = turned-fits (c .before .args .x) (c .before .fits .x) (c .if1 .taken)
@@ -27,7 +25,7 @@ returns : tie.Need-returns
 returns c = kept-bits (c .before .args .x) (c .before .fits .x) (c .if1 .taken)
 
 cast-result-2 : tie.Need-cast-result-2
-cast-result-2 c = 
+cast-result-2 c =
     let p = positive-kept (c .before .args .x) (c .before .fits .x) (c .if1 .left) in
     (p .0, record { fits = p .1 .0 })
 

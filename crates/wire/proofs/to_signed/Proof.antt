@@ -7,8 +7,6 @@ use Rattle.wire.proofs.Signs.{below-fits, below-bits}
 use borrow.Author.Needs.{needs}
 use Rattle.wire.proofs.to_signed.Statement.{statement}
 use Rattle.wire.proofs.to_signed.Tie as tie
-use Rattle.wire.proofs.to_signed.Reads as reads
-use Rattle.wire.proofs.to_signed.Lts as lts
 
 cast-result : tie.Need-cast-result
 cast-result c = search needs

@@ -6,12 +6,6 @@ use Rattle.transcript.proofs.Fitting.{no-kind, tests-made}
 use borrow.Author.Needs.{needs}
 use Rattle.transcript.proofs.Entry.fits.Statement.{statement}
 use Rattle.transcript.proofs.Entry.fits.Tie as tie
-use Rattle.transcript.proofs.Entry.fits.Reads as reads
-use Rattle.transcript.proofs.Entry.fits.Lts as lts
-use Rattle.transcript.proofs.kept_by.Reads as kept-by-reads
-use Rattle.transcript.proofs.row_fits.Reads as row-fits-reads
-use Rattle.transcript.proofs.wide.Reads as wide-reads
-use Rattle.transcript.proofs.zeros_from.Reads as zeros-from-reads
 
 wide-requires : tie.Need-wide-requires
 wide-requires c κs = search needs

@@ -10,10 +10,6 @@ use Rattle.transcript.proofs.Fitting.{entry-made}
 use borrow.Author.Needs.{needs}
 use Rattle.transcript.proofs.Entry.get.Statement.{statement}
 use Rattle.transcript.proofs.Entry.get.Tie as tie
-use Rattle.transcript.proofs.Entry.get.Reads as reads
-use Rattle.transcript.proofs.Entry.get.Lts as lts
-use Rattle.wire.proofs.copy.Reads as copy-reads
-use Rattle.wire.proofs.get.Reads as get-reads
 
 add-e : tie.Need-add-e
 add-e c = search needs

@@ -1,17 +1,14 @@
 -- `transcript::Entry::put` meets its contract: the head and the data, stored one behind the other, are the entry's 16 bytes.
 -- Assumes nothing.
 use Prim.Native.Nat.{_<_, _+_}
-use mathlib.Core.Path.{_≡_, refl, sym, ap, _∙_}
+use mathlib.Core.Path.{ap, _∙_}
 use borrow.Author.Needs.{needs}
 use denote.Ref.{now}
 use lib.Seq.{sets}
-use Rattle.transcript.proofs.Laid.{entry-laid, headBytes}
+use Rattle.transcript.proofs.Laid.{entry-laid}
 use borrow.Author.Needs.{needs}
 use Rattle.transcript.proofs.Entry.put.Statement.{statement}
 use Rattle.transcript.proofs.Entry.put.Tie as tie
-use Rattle.transcript.proofs.Entry.put.Reads as reads
-use Rattle.transcript.proofs.Entry.put.Lts as lts
-use Rattle.wire.proofs.copy.Reads as copy-reads
 
 array-write-image : tie.Need-array-write-image
 array-write-image c = search needs
