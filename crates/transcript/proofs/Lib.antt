@@ -1,0 +1,6 @@
+pub mod Laid
+pub mod Fitting
+pub mod Reading
+pub mod Rows
+pub mod Exact
+pub mod Worked

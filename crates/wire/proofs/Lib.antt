@@ -1,0 +1,4 @@
+pub mod Widths
+pub mod Stores
+pub mod Signs
+pub mod Floats
