@@ -7,4 +7,5 @@ pub mod dice;
 pub mod page;
 pub mod records;
 pub mod run;
+pub mod steps;
 pub mod tally;

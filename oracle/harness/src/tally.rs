@@ -12,7 +12,7 @@ impl Tally {
         if !holds {
             self.faults += 1;
             if self.faults <= 20 {
-                println!("FAULT {}", what());
+                println!("FAULT {:.400}", what());
             }
         }
     }
