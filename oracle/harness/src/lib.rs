@@ -4,6 +4,7 @@ pub mod answer;
 pub mod case;
 pub mod cases;
 pub mod dice;
+pub mod judge;
 pub mod page;
 pub mod records;
 pub mod run;

@@ -7,10 +7,10 @@
 //!
 //! A reload that is all done leaves nothing doubtful, and record, shadow and chip the same.
 use harness::answer::answer;
-use harness::case::{Answer, Case};
+use harness::case::Case;
 use harness::cases;
 use harness::dice::Dice;
-use harness::page;
+use harness::judge;
 use harness::records::{FIRST, Tuner};
 use harness::run::{self, run};
 use harness::tally::Tally;
@@ -43,10 +43,6 @@ impl Chip {
     }
 }
 
-fn entries(answer: &Answer) -> Vec<Entry> {
-    answer.section.iter().flat_map(|section| section.chunks(16)).filter(|chunk| chunk.len() == 16).map(|chunk| chunk.try_into().unwrap()).collect()
-}
-
 /// The same call on the chip that lived all along.
 fn lived(chip: &R82xx, case: &Case, record: &Tuner) {
     let path = || run::path(case.a as u8);
@@ -75,27 +71,6 @@ fn lived(chip: &R82xx, case: &Case, record: &Tuner) {
     });
 }
 
-/// A cut call against the uncut one: "the one with the failing step done and all other outcomes and replies equal".
-fn cut(case: &Case, found: &Answer, tally: &mut Tally) {
-    let bare = |entry: &Entry| {
-        let mut entry = *entry;
-        entry[1] = 0;
-        if entry[0] == 3 || entry[0] == 8 {
-            entry[8..].fill(0);
-        }
-        entry
-    };
-    let mut whole = case.clone();
-    whole.outcomes[found.index] = 0;
-    let (made, uncut) = (entries(found), entries(&answer(&whole)));
-    let upto = found.index + 1;
-    tally.that(uncut.len() >= upto && made[..upto].iter().map(bare).eq(uncut[..upto].iter().map(bare)), || format!("steps before the failing one: {case:?}"));
-    // Open: behind a done opening whose closing was not yet tried; a closing that failed is not tried again.
-    let open = made[..upto].iter().rfind(|entry| entry[0] == 1).is_some_and(|entry| entry[1] == 0 && entry[8] == 1);
-    let closing = &made[upto..];
-    tally.that(closing.len() == open as usize && closing.iter().all(page::closes), || format!("what follows the failing step: {case:?}"));
-}
-
 fn chain(length: u64, dice: &mut Dice, tally: &mut Tally, seen: &mut [u64; 3]) {
     let mut record = Tuner::fresh(dice.below(2) as u8, 28_800_000, 0x74);
     let long = run::chip(&record);
@@ -112,7 +87,7 @@ fn chain(length: u64, dice: &mut Dice, tally: &mut Tally, seen: &mut [u64; 3]) {
             case.a %= 2_000_000_000;
         }
         let found = answer(&case);
-        let made = entries(&found);
+        let made = judge::entries(&found);
         seen[0] += 1;
         seen[1] += made.len() as u64;
         seen[2] += (found.refusal == 11) as u64;
@@ -128,9 +103,7 @@ fn chain(length: u64, dice: &mut Dice, tally: &mut Tally, seen: &mut [u64; 3]) {
             tally.same(record.doubtful[place], chip.done[place] != Some(true), || format!("doubtful mark {place} after {case:?}"));
             tally.that(record.doubtful[place] || record.attempted[place] == chip.bytes[place], || format!("chip's byte {place} after {case:?}"));
         }
-        if found.refusal == 11 {
-            cut(&case, &found, tally);
-        }
+        judge::all(&case, &found, tally);
         if call == 9 && found.refusal == 0 {
             tally.that(record.doubtful == [false; 27] && record.shadow == record.attempted && record.attempted == chip.bytes, || format!("reload {case:?}"));
         }
