@@ -419,6 +419,7 @@ fn gains(all: &mut Vec<Case>) {
     for pair in page::STEPS.windows(2) {
         let middle = (pair[0] + pair[1]) / 2;
         all.extend([middle - 1, middle, middle + 1].map(tenth));
+        all.push(at(((middle as f32 + 0.6) / 10.0).to_bits())); // cut, not rounded
     }
     // One bit off a middle: the product is rounded, then cut.
     for t in [4, 20, 32, 57, 82, 487, 488] {
@@ -477,7 +478,6 @@ fn small_calls(all: &mut Vec<Case>, dice: &mut Dice) {
     values(7, &ifs);
     values(8, &[0, 1, 2, 3, 255]);
     values(20, &[0, 1, 2, 3, 255]);
-    values(11, &[0, 1, 2, 255]);
     values(31, &[0, 1, 2, 3, 4, 5, 6, 7, 8, 9, 255]);
     values(32, &[0, 1, 2, 3, 4, 5, 6, 7, 8, 9, 255]);
     let rates: Vec<u64> = RATES.into_iter().flat_map(around).filter(|&rate| rate <= u32::MAX as u64).collect();
@@ -517,6 +517,10 @@ fn small_calls(all: &mut Vec<Case>, dice: &mut Dice) {
     }
     all.push(Case { replies: vec![0x00, 0xff], ..plain(31) });
     all.push(Case { replies: vec![0xff, 0x00], ..plain(31) });
+    for (notch, value) in [(false, 0), (false, 1), (false, 2), (true, 0), (true, 255)] {
+        let tuner = Tuner { notch, ..Tuner::fresh(1, 28_800_000, 0x74) };
+        all.push(Case { a: value, tuner: tuner.bytes(), ..plain(11) });
+    }
     all.push(Case { room: 200, ..plain(15) });
     all.push(plain(15));
     for gain in [0u32, 0x7fc0_0000, 0x7f80_0000, 0x8000_0000, 0x42c8_0000] {
@@ -532,10 +536,10 @@ fn sample_rates(all: &mut Vec<Case>, dice: &mut Dice) {
     for rate in edges.into_iter().flat_map(around).chain([1, 225_002, 300_000, 900_000, 900_001, 2_048_000, 3_200_000, u32::MAX as u64]) {
         all.push(Case { a: rate, ..plain(19) });
     }
-    let mut zero = Tuner::fresh(0, 28_800_000, 0x34);
-    zero.intermediate = 0;
-    for rate in [999_999, 1_000_000, 2_500_000] {
-        all.push(Case { a: rate, tuner: zero.bytes(), ..plain(19) }); // an IF of 0 stays 0
+    // An IF of 0 stays 0; any other is replaced.
+    for intermediate in [0, 1, 1 << 32] {
+        let tuner = Tuner { intermediate, ..Tuner::fresh(0, 28_800_000, 0x34) };
+        all.extend([999_999, 1_000_000, 2_500_000].map(|rate| Case { a: rate, tuner: tuner.bytes(), ..plain(19) }));
     }
     for (board, frequency) in [(0, 7 * MHZ), (1, 28_799_999), (1, 28_800_000), (1, 28_800_001), (1, 0), (1, u64::MAX)] {
         let driver = Driver { board, nominal: 28_800_000, ppm: dice.below(200) as i32 - 100, frequency, rate: 1 };
@@ -587,6 +591,20 @@ fn steps_of_each(all: &mut Vec<Case>, dice: &mut Dice) {
     }
 }
 
+/// Every mask, seen on a shadow of zeros and on one of ones.
+fn masks(all: &mut Vec<Case>) {
+    for byte in [0x00, 0xff] {
+        let tuner = |kind: u8| Tuner { shadow: [byte; 27], attempted: [byte; 27], ..Tuner::fresh(kind, 28_800_000, 0x74) }.bytes();
+        let quick = |fine: u8| replies_for(fine, Some(0), byte);
+        all.extend([2, 4, 6, 9, 19].map(|call| Case { tuner: tuner(1), ..plain(call) }));
+        all.extend([2_300_000, 3_570_000].map(|a| Case { a, tuner: tuner(0), ..plain(7) }));
+        all.extend([0, 1, 2].map(|a| Case { a, tuner: tuner(1), ..plain(8) }));
+        all.extend([0, 28].map(|a| Case { a, tuner: tuner(0), ..plain(5) }));
+        all.extend([0, 3].map(|fine| Case { a: 30 * MHZ, tuner: tuner(1), replies: quick(fine), ..plain(3) }));
+        all.push(Case { a: 1_149_700_000, tuner: tuner(0), replies: replies_for(2, Some(1), byte), ..plain(3) }); // F 0
+    }
+}
+
 /// List 1: the calls.
 pub fn calls() -> Vec<Case> {
     let mut dice = Dice(0x5041_5345_544f_4e45);
@@ -599,6 +617,7 @@ pub fn calls() -> Vec<Case> {
     small_calls(&mut all, &mut dice);
     sample_rates(&mut all, &mut dice);
     steps_of_each(&mut all, &mut dice);
+    masks(&mut all);
     for call in (1..=35).filter(|call| !matches!(call, 15 | 22)) {
         let times = match call {
             3 => 240,
