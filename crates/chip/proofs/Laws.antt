@@ -45,21 +45,21 @@ module _ {L : Type 0} (put : L → ℕ → Entry → L) (os : List ℕ) where
 
   -- the same, where the next record and how it went were worked out apart
   pub made : (s : Step) (w : Line L) (c : Chip) (u : Went)
-    → c ≡ after s (w .chip) (okFor os (w .count) s)
-    → u ≡ wentFor s (okFor os (w .count) s) (w .count) (w .went)
-    → acts s (w .went) (w .held) ≡ true
-    → line c (put (w .log) (w .count) (emit s (w .chip) (okFor os (w .count) s))) (w .count + 1) u (heldFor s (okFor os (w .count) s) (w .held)) ≡ step put os s w
+      → c ≡ after s (w .chip) (okFor os (w .count) s)
+      → u ≡ wentFor s (okFor os (w .count) s) (w .count) (w .went)
+      → acts s (w .went) (w .held) ≡ true
+      → line c (put (w .log) (w .count) (emit s (w .chip) (okFor os (w .count) s))) (w .count + 1) u (heldFor s (okFor os (w .count) s) (w .held)) ≡ step put os s w
   made s w c u p q h =
       (λ i. line (p i) (put (w .log) (w .count) (emit s (w .chip) (okFor os (w .count) s))) (w .count + 1) (q i) (heldFor s (okFor os (w .count) s) (w .held)))
       ∙ active s w h
 
   -- the same for a masked write, whose byte was worked out apart too
   pub made-mask : (w : Line L) (r v m byte : ℕ) (c : Chip) (u : Went)
-    → byte ≡ maskedByte (w .chip) r v m
-    → c ≡ withLists (w .chip) (set (w .chip .shadow) (r - 5) byte) (set (w .chip .attempted) (r - 5) byte) (set (w .chip .doubtful) (r - 5) (not (eqb (getD os (w .count) 0) 0)))
-    → u ≡ toldOf (eqb (getD os (w .count) 0) 0) (w .count)
-    → goes (w .went) ≡ true
-    → line c (put (w .log) (w .count) (written (w .chip .address) 2 (pair r byte) (eqb (getD os (w .count) 0) 0))) (w .count + 1) u (w .held) ≡ step put os (Mask r v m) w
+      → byte ≡ maskedByte (w .chip) r v m
+      → c ≡ withLists (w .chip) (set (w .chip .shadow) (r - 5) byte) (set (w .chip .attempted) (r - 5) byte) (set (w .chip .doubtful) (r - 5) (not (eqb (getD os (w .count) 0) 0)))
+      → u ≡ toldOf (eqb (getD os (w .count) 0) 0) (w .count)
+      → goes (w .went) ≡ true
+      → line c (put (w .log) (w .count) (written (w .chip .address) 2 (pair r byte) (eqb (getD os (w .count) 0) 0))) (w .count + 1) u (w .held) ≡ step put os (Mask r v m) w
   unfolding attemptedBy
   made-mask w r v m byte c u b p q h =
       (λ i. line (p i) (put (w .log) (w .count) (written (w .chip .address) 2 (pair r byte) (eqb (getD os (w .count) 0) 0))) (w .count + 1) (q i) (w .held))
@@ -138,11 +138,11 @@ module _ {L : Type 0} (put : L → ℕ → Entry → L) (os : List ℕ) where
 
   -- two parts behind one open repeater
   pub part : (xs ys : List Step) (w : Line L) → every inner ys ≡ true
-    → closing put os (run put os ys (closing put os (run put os xs w))) ≡ closing put os (run put os (xs ++ ys) w)
+      → closing put os (run put os ys (closing put os (run put os xs w))) ≡ closing put os (run put os (xs ++ ys) w)
   part xs ys w i = go (goes (run put os xs w .went)) refl
     where
       go : (g : Bool) → goes (run put os xs w .went) ≡ g
-        → closing put os (run put os ys (closing put os (run put os xs w))) ≡ closing put os (run put os (xs ++ ys) w)
+          → closing put os (run put os ys (closing put os (run put os xs w))) ≡ closing put os (run put os (xs ++ ys) w)
       go true e = ap (λ (x : Line L). closing put os (run put os ys x)) (closing-going (run put os xs w) e) ∙ ap (closing put os) (sym (run-app xs ys w))
       go false e =
           let x : Line L = run put os xs w in
@@ -159,7 +159,7 @@ module _ {L : Type 0} (put : L → ℕ → Entry → L) (os : List ℕ) where
   bracket ss w = close-closing (run put os ss (step put os Open w)) ∙ sym (run-app ss (Close ∷ []) (step put os Open w))
 
   pub bracketed : (ss : List Step) (w x y : Line L) → x ≡ step put os Open w → y ≡ closing put os (run put os ss x)
-    → step put os Close y ≡ run put os (Open ∷ (ss ++ (Close ∷ []))) w
+      → step put os Close y ≡ run put os (Open ∷ (ss ++ (Close ∷ []))) w
   bracketed ss w x y p q = ap (step put os Close) q ∙ ap (λ (v : Line L). step put os Close (closing put os (run put os ss v))) p ∙ bracket ss w
 
   -- a write whose bytes were worked out apart

@@ -66,7 +66,7 @@ mask-step u e = rw e
 module _ {L : Type 0} (put : L → ℕ → Entry → L) (os : List ℕ) where
   -- one step is taken off the list
   pub turn : {A : Type 0} (f : A → Step) (l : List A) (n i : ℕ) (d : A) (w : Line L) → i < n → n ≤ length l
-    → run put os (map f (drop (i + 1) (take n l))) (step put os (f (getD l i d)) w) ≡ run put os (map f (drop i (take n l))) w
+      → run put os (map f (drop (i + 1) (take n l))) (step put os (f (getD l i d)) w) ≡ run put os (map f (drop i (take n l))) w
   unfolding run
   turn f l n i d w h k =
       let there : i < length (take n l) = rw (length-take-le n l k) h in

@@ -2,7 +2,7 @@
 -- the room. Document 01, "Transcript and script", "Refusal numbers".
 -- Assumes nothing.
 use Prim.Native.Nat.{ℕ, _+_, _*_}
-use mathlib.Core.Bool.{Bool, true, false}
+use mathlib.Core.Bool.{Bool, true, false, _&&_, _||_}
 use mathlib.Core.List.{List, [], _∷_}
 use lib.Dec.{eqb, ltb}
 use lib.ListN.{length}
@@ -15,7 +15,7 @@ use Rattle.chip.specs.declared.Chip.{Chip}
 use Rattle.chip.specs.declared.Seen.{Seen}
 use Rattle.chip.specs.declared.Went.{Went}
 use Rattle.chip.specs.declared.Went.the-variants.{Going, Failed}
-use Rattle.chip.specs.Entries.{look, unseen}
+use Rattle.chip.specs.Entries.{isTry, lockBit, look, unseen}
 use Rattle.chip.specs.Steps.{Step, Line, Logged, Trace, line, logged, trace}
 
 abbrev pub pickN : Bool → ℕ → ℕ → ℕ
@@ -81,6 +81,15 @@ sealed room count = sets room (16 * count) (trailerBytes count)
 unfoldable pub seenFrom : Seen → List Entry → Seen
 seenFrom s [] = s
 seenFrom s (e ∷ es) = seenFrom (look s e) es
+
+-- how many done reads of three bytes there are among entries, and whether one of them has the lock bit
+unfoldable pub triesIn : List Entry → ℕ
+triesIn [] = 0
+triesIn (e ∷ es) = pickN (isTry e) 1 0 + triesIn es
+
+unfoldable pub lockedIn : List Entry → Bool
+lockedIn [] = false
+lockedIn (e ∷ es) = (isTry e && lockBit e) || lockedIn es
 
 -- a trace as the code leaves it: its entries laid out in the room
 abbrev pub laidOut : List ℕ → Trace → Line Logged

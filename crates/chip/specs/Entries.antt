@@ -27,7 +27,7 @@ repeater on ok =
       target = 0;
       n = 1;
       address = 0;
-      bytes = on ∷ 0 ∷ 0 ∷ 0 ∷ 0 ∷ 0 ∷ 0 ∷ 0 ∷ []
+      bytes = on ∷ 0 ∷ 0 ∷ 0 ∷ 0 ∷ 0 ∷ 0 ∷ 0 ∷ [];
     }
 
 -- "2 I2C write | chip | 1..8 | 0; bytes"
@@ -60,7 +60,7 @@ settled e ok =
       target = e .target;
       n = e .n;
       address = e .address;
-      bytes = pickBytes ((eqb (e .kind) 3 || eqb (e .kind) 8) && not ok) zeros8 (e .bytes)
+      bytes = pickBytes ((eqb (e .kind) 3 || eqb (e .kind) 8) && not ok) zeros8 (e .bytes);
     }
 
 -- the lock bit of a status of three bytes, whose bits are reversed

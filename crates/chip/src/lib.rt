@@ -15,18 +15,28 @@ ghost use Rattle.chip.specs.Steps.Step.{Open, Close, Send, Mask, Plain};
 use transcript::Entry;
 
 pub const NUM_REGS: usize = 27;
+
 pub const REG_SHADOW_START: u8 = 0x05;
 
 // Refusal numbers of document 01's table.
 pub const SETUP: u8 = 1;
+
 pub const FREQUENCY: u8 = 2;
+
 pub const RATE: u8 = 3;
+
 pub const CORRECTION: u8 = 4;
+
 pub const REGISTER: u8 = 5;
+
 pub const PIN: u8 = 6;
+
 pub const COEFFICIENT: u8 = 7;
+
 pub const ROOM: u8 = 8;
+
 pub const OUTCOMES: u8 = 9;
+
 pub const REPLIES: u8 = 10;
 
 // What the record says of the chip's registers 0x05 to 0x1f: the shadow, and our attempt record.
@@ -269,7 +279,14 @@ pub fn send(f: Flow, n: u8, bytes: [u8; 8], outcomes: &[u8], room: &mut [u8]) ->
 }
 
 // `write_reg_mask_raw`: the shadow is stored before the write is tried.
-pub fn write_reg_mask_raw(f: Flow, register: u8, value: u8, mask: u8, outcomes: &[u8], room: &mut [u8]) -> Flow
+pub fn write_reg_mask_raw(
+    f: Flow,
+    register: u8,
+    value: u8,
+    mask: u8,
+    outcomes: &[u8],
+    room: &mut [u8],
+) -> Flow
     requires { ⌜ (5 ≤ register) × (register ≤ 31) × (f .count < length (now outcomes)) × (16 * f .count + 16 ≤ length (now room)) ⌝ }
     ensures { λ r. ⌜ onRoom r (now (room .exit))
         ≡ step inRoom (now (outcomes .entry)) (Mask register value mask) (onRoom f (now (room .entry))) ⌝ }
@@ -322,7 +339,13 @@ fn write_update(f: Flow, u: Update, outcomes: &[u8], room: &mut [u8]) -> Flow
     ensures bounds { λ r. ⌜ r .count + due (r .held) ≤ f .count + 1 + due (f .held) ⌝ }
 {
     if u.past {
-        return send(f, 2, [u.register, u.value, 0, 0, 0, 0, 0, 0], outcomes, room);
+        return send(
+            f,
+            2,
+            [u.register, u.value, 0, 0, 0, 0, 0, 0],
+            outcomes,
+            room,
+        );
     }
     write_reg_mask_raw(f, u.register, u.value, u.mask, outcomes, room)
 }
@@ -388,7 +411,14 @@ fn send_chunk(f: Flow, bs: [u8; 27], k: Chunk, outcomes: &[u8], room: &mut [u8])
 }
 
 // The chunks of the table from `from` to `to`, behind an open repeater.
-fn send_chunks(f: Flow, bs: [u8; 27], from: usize, to: usize, outcomes: &[u8], room: &mut [u8]) -> Flow
+fn send_chunks(
+    f: Flow,
+    bs: [u8; 27],
+    from: usize,
+    to: usize,
+    outcomes: &[u8],
+    room: &mut [u8],
+) -> Flow
     requires { ⌜ (from ≤ to) × (to ≤ 5)
         × (f .count + (to - from) + due (f .held) ≤ length (now outcomes)) × (16 * (f .count + (to - from) + due (f .held)) ≤ length (now room)) ⌝ }
     ensures { λ r. ⌜ onRoom r (now (room .exit))
@@ -414,7 +444,14 @@ fn send_chunks(f: Flow, bs: [u8; 27], from: usize, to: usize, outcomes: &[u8], r
 }
 
 // `i2c_write_tuner` of the chunks from `from` to `to`.
-pub fn i2c_write_tuner(f: Flow, bs: [u8; 27], from: usize, to: usize, outcomes: &[u8], room: &mut [u8]) -> Flow
+pub fn i2c_write_tuner(
+    f: Flow,
+    bs: [u8; 27],
+    from: usize,
+    to: usize,
+    outcomes: &[u8],
+    room: &mut [u8],
+) -> Flow
     requires { ⌜ (from ≤ to) × (to ≤ 5)
         × (f .count + (to - from) + 2 ≤ length (now outcomes)) × (16 * (f .count + (to - from) + 2) ≤ length (now room)) ⌝ }
     ensures { λ r. ⌜ onRoom r (now (room .exit)) ≡ run inRoom (now (outcomes .entry)) (tunerWrite bs from to) (onRoom f (now (room .entry))) ⌝ }

@@ -30,7 +30,7 @@ close-repeater-requires c κs = let a : c .before .before .before .before .befor
     let d : length (c .before .before .before .send-chunks .last .1 .1 .1 .1 .1 .0) ≡ length (c .before .before .before .before .before .before .before .open-repeater .last .1 .1 .0) = c .before .before .before .send-chunks .kept .1 .1 .1 .1 .1 .0 in
     let e : length (c .before .before .before .before .before .before .before .open-repeater .last .1 .1 .0) ≡ length (now (c .before .before .before .before .before .before .before .before .before .before .before .args .room)) = c .before .before .before .before .before .before .before .open-repeater .kept .1 .1 .0 in
     let g : (c .before .before .before .send-chunks .result .count + due (c .before .before .before .send-chunks .result .held) ≤ length (now (c .before .before .before .before .before .before .before .before .before .before .before .args .outcomes))) × (16 * (c .before .before .before .send-chunks .result .count + due (c .before .before .before .send-chunks .result .held)) ≤ length (c .before .before .before .send-chunks .last .1 .1 .1 .1 .1 .0)) =
-        omega (arith, c .before .before .before .before .before .before .before .before .before .before .before .pre) in
+    omega (arith, c .before .before .before .before .before .before .before .before .before .before .before .pre) in
     g
 
 -- src/lib.rt:417:1
