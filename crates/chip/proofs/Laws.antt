@@ -1,0 +1,167 @@
+-- What a step, a run and a closing are, as laws: a proof of the code cites these and never opens the definitions.
+-- Assumes nothing.
+use Prim.Native.Nat.{ℕ, _+_, _-_, _≤_}
+use mathlib.Core.Path.{_≡_, refl, sym, ap, _∙_}
+use mathlib.Core.Bool.{Bool, true, false, not, _&&_}
+use mathlib.Core.List.{List, [], _∷_, _++_}
+use native.Mathlib.Omega.{arith}
+use lib.ListN.{getD, set}
+use lib.Dec.{eqb}
+use Rattle.transcript.specs.declared.Entry.{Entry}
+use Rattle.chip.specs.declared.Chip.{Chip}
+use Rattle.chip.specs.declared.Went.{Went}
+use Rattle.chip.specs.declared.Went.the-variants.{Going, Failed}
+use Rattle.chip.specs.Chips.{attemptedBy, maskedByte, pair, withLists}
+use Rattle.chip.specs.Entries.{written}
+use Rattle.chip.specs.Steps.{Step, Line, acts, after, closing, due, emit, every, goes, heldFor, inner, line, okFor, pickLine, run, step, taken, toldOf, wentFor}
+use Rattle.chip.specs.Steps.Step.{Open, Close, Send, Mask, Plain}
+
+pub and-left : (a b : Bool) → (a && b) ≡ true → a ≡ true
+and-left true b h = refl
+and-left false b h = h
+
+pub and-right : (a b : Bool) → (a && b) ≡ true → b ≡ true
+and-right true b h = h
+and-right false b h = cc
+
+-- an open repeater costs one entry, its closing, and a shut one none
+pub due-one : (held : Bool) → due held ≤ 1
+due-one true = omega arith
+due-one false = omega arith
+
+pub due-held : (held : Bool) → held ≡ true → due held ≡ 1
+due-held held e = ap due e
+
+module _ {L : Type 0} (put : L → ℕ → Entry → L) (os : List ℕ) where
+  -- a step that is not taken leaves the line as it was
+  pub idle : (s : Step) (w : Line L) → acts s (w .went) (w .held) ≡ false → w ≡ step put os s w
+  unfolding step
+  idle s w h = rw h
+
+  -- a step that is taken
+  pub active : (s : Step) (w : Line L) → acts s (w .went) (w .held) ≡ true → taken put os (okFor os (w .count) s) s w ≡ step put os s w
+  unfolding step
+  active s w h = rw h
+
+  -- the same, where the next record and how it went were worked out apart
+  pub made : (s : Step) (w : Line L) (c : Chip) (u : Went)
+      → c ≡ after s (w .chip) (okFor os (w .count) s)
+      → u ≡ wentFor s (okFor os (w .count) s) (w .count) (w .went)
+      → acts s (w .went) (w .held) ≡ true
+      → line c (put (w .log) (w .count) (emit s (w .chip) (okFor os (w .count) s))) (w .count + 1) u (heldFor s (okFor os (w .count) s) (w .held)) ≡ step put os s w
+  made s w c u p q h =
+      (λ i. line (p i) (put (w .log) (w .count) (emit s (w .chip) (okFor os (w .count) s))) (w .count + 1) (q i) (heldFor s (okFor os (w .count) s) (w .held)))
+      ∙ active s w h
+
+  -- the same for a masked write, whose byte was worked out apart too
+  pub made-mask : (w : Line L) (r v m byte : ℕ) (c : Chip) (u : Went)
+      → byte ≡ maskedByte (w .chip) r v m
+      → c ≡ withLists (w .chip) (set (w .chip .shadow) (r - 5) byte) (set (w .chip .attempted) (r - 5) byte) (set (w .chip .doubtful) (r - 5) (not (eqb (getD os (w .count) 0) 0)))
+      → u ≡ toldOf (eqb (getD os (w .count) 0) 0) (w .count)
+      → goes (w .went) ≡ true
+      → line c (put (w .log) (w .count) (written (w .chip .address) 2 (pair r byte) (eqb (getD os (w .count) 0) 0))) (w .count + 1) u (w .held) ≡ step put os (Mask r v m) w
+  unfolding attemptedBy
+  made-mask w r v m byte c u b p q h =
+      (λ i. line (p i) (put (w .log) (w .count) (written (w .chip .address) 2 (pair r byte) (eqb (getD os (w .count) 0) 0))) (w .count + 1) (q i) (w .held))
+      ∙ (λ i. line (withLists (w .chip) (set (w .chip .shadow) (r - 5) (b i)) (set (w .chip .attempted) (r - 5) (b i)) (set (w .chip .doubtful) (r - 5) (not (eqb (getD os (w .count) 0) 0))))
+      (put (w .log) (w .count) (written (w .chip .address) 2 (pair r (b i)) (eqb (getD os (w .count) 0) 0))) (w .count + 1)
+      (toldOf (eqb (getD os (w .count) 0) 0) (w .count)) (w .held))
+      ∙ active (Mask r v m) w h
+
+  -- ---- programs one after the other
+
+  pub run-app : (xs ys : List Step) (w : Line L) → run put os (xs ++ ys) w ≡ run put os ys (run put os xs w)
+  unfolding run
+  run-app [] ys w = refl
+  run-app (x ∷ xs) ys w = run-app xs ys (step put os x w)
+
+  -- ---- a closing
+
+  pub closing-going : (w : Line L) → goes (w .went) ≡ true → closing put os w ≡ w
+  unfolding closing
+  closing-going w h = rw h
+
+  pub closing-stopped : (w : Line L) → goes (w .went) ≡ false → closing put os w ≡ step put os Close w
+  unfolding closing
+  closing-stopped w h = rw h
+
+  close-held : (w : Line L) → step put os Close w .held ≡ false
+  close-held w = go (w .held) refl
+    where
+      go : (h : Bool) → w .held ≡ h → step put os Close w .held ≡ false
+      go true e = sym (ap (λ (x : Line L). x .held) (active Close w e))
+      go false e = sym (ap (λ (x : Line L). x .held) (idle Close w e)) ∙ e
+
+  pub close-went : (w : Line L) → step put os Close w .went ≡ w .went
+  close-went w = go (w .held) refl
+    where
+      go : (h : Bool) → w .held ≡ h → step put os Close w .went ≡ w .went
+      go true e = sym (ap (λ (x : Line L). x .went) (active Close w e))
+      go false e = sym (ap (λ (x : Line L). x .went) (idle Close w e))
+
+  -- once closed, a closing does nothing more
+  pub close-close : (w : Line L) → step put os Close (step put os Close w) ≡ step put os Close w
+  close-close w = sym (idle Close (step put os Close w) (close-held w))
+
+  pub close-closing : (w : Line L) → step put os Close (closing put os w) ≡ step put os Close w
+  close-closing w = go (goes (w .went)) refl
+    where
+      go : (g : Bool) → goes (w .went) ≡ g → step put os Close (closing put os w) ≡ step put os Close w
+      go true e = ap (step put os Close) (closing-going w e)
+      go false e = ap (step put os Close) (closing-stopped w e) ∙ close-close w
+
+  -- ---- what follows a failing step is not taken
+
+  inner-acts : (s : Step) (went : Went) (held : Bool) → inner s ≡ true → goes went ≡ false → acts s went held ≡ false
+  inner-acts Open went held i h = h
+  inner-acts Close went held i h = cc
+  inner-acts (Send n bytes) went held i h = h
+  inner-acts (Mask r v m) went held i h = h
+  inner-acts (Plain e) went held i h = h
+
+  pub idle-run : (ss : List Step) (w : Line L) → every inner ss ≡ true → goes (w .went) ≡ false → w ≡ run put os ss w
+  unfolding run every
+  idle-run [] w i h = refl
+  idle-run (s ∷ ss) w i h =
+      let same : w ≡ step put os s w = idle s w (inner-acts s (w .went) (w .held) (and-left (inner s) (every inner ss) i) h) in
+      idle-run ss w (and-right (inner s) (every inner ss) i) h ∙ ap (run put os ss) same
+
+  -- a failing step, or a line that came stopped: what is left of the program is not taken, and the repeater is closed
+  pub stop : (rest : List Step) (x y : Line L) → goes (x .went) ≡ false → every inner rest ≡ true → run put os rest x ≡ y → step put os Close x ≡ closing put os y
+  stop rest x y h i e =
+      let same : x ≡ y = idle-run rest x i h ∙ e in
+      sym (closing-stopped x h) ∙ ap (closing put os) same
+
+  -- a program that went through
+  pub keep : (x y : Line L) → x ≡ y → goes (x .went) ≡ true → x ≡ closing put os y
+  keep x y e h = sym (closing-going x h) ∙ ap (closing put os) e
+
+  -- two parts behind one open repeater
+  pub part : (xs ys : List Step) (w : Line L) → every inner ys ≡ true
+      → closing put os (run put os ys (closing put os (run put os xs w))) ≡ closing put os (run put os (xs ++ ys) w)
+  part xs ys w i = go (goes (run put os xs w .went)) refl
+    where
+      go : (g : Bool) → goes (run put os xs w .went) ≡ g
+          → closing put os (run put os ys (closing put os (run put os xs w))) ≡ closing put os (run put os (xs ++ ys) w)
+      go true e = ap (λ (x : Line L). closing put os (run put os ys x)) (closing-going (run put os xs w) e) ∙ ap (closing put os) (sym (run-app xs ys w))
+      go false e =
+          let x : Line L = run put os xs w in
+          let shut : goes (step put os Close x .went) ≡ false = ap goes (close-went x) ∙ e in
+          ap (λ (v : Line L). closing put os (run put os ys v)) (closing-stopped x e)
+          ∙ sym (stop ys (step put os Close x) (run put os ys (step put os Close x)) shut i refl)
+          ∙ close-close x
+          ∙ stop ys x (run put os ys x) e i refl
+          ∙ ap (closing put os) (sym (run-app xs ys w))
+
+  -- a whole bracket: opening, steps that close where one fails, closing
+  bracket : (ss : List Step) (w : Line L) → step put os Close (closing put os (run put os ss (step put os Open w))) ≡ run put os (Open ∷ (ss ++ (Close ∷ []))) w
+  unfolding run
+  bracket ss w = close-closing (run put os ss (step put os Open w)) ∙ sym (run-app ss (Close ∷ []) (step put os Open w))
+
+  pub bracketed : (ss : List Step) (w x y : Line L) → x ≡ step put os Open w → y ≡ closing put os (run put os ss x)
+      → step put os Close y ≡ run put os (Open ∷ (ss ++ (Close ∷ []))) w
+  bracketed ss w x y p q = ap (step put os Close) q ∙ ap (λ (v : Line L). step put os Close (closing put os (run put os ss v))) p ∙ bracket ss w
+
+  -- a write whose bytes were worked out apart
+  pub by-bytes : (n : ℕ) (xs ys : List ℕ) (w v : Line L) → xs ≡ ys → v ≡ step put os (Send n xs) w → v ≡ step put os (Send n ys) w
+  by-bytes n xs ys w v e h = h ∙ ap (λ (l : List ℕ). step put os (Send n l) w) e

@@ -1,0 +1,87 @@
+-- Programs that are lists of one kind of step, worked off one by one: what is left, turn by turn. One law serves updates, chunks and plain steps.
+-- Assumes nothing.
+use Prim.Native.Nat.{ℕ, zero, suc, _+_, _≤_, _<_}
+use mathlib.Core.Path.{_≡_, refl, sym, ap, _∙_}
+use mathlib.Core.Bool.{Bool, true, false, _&&_}
+use mathlib.Core.List.{List, [], _∷_, map}
+use native.Mathlib.Omega.{arith}
+use native.Mathlib.Numerals.{add-one}
+use native.Mathlib.Nat.{le-of-suc-le-suc}
+use borrow.Author.Tests.{leb-true}
+use lib.Dec.{leb}
+use lib.ListN.{length, getD, take, drop, drop-of-length-le, length-take}
+use lib.Seq.{drop-cons, getD-take, length-take-le}
+use Rattle.transcript.specs.declared.Entry.{Entry}
+use Rattle.chip.specs.declared.Chunk.{Chunk}
+use Rattle.chip.specs.declared.Update.{Update}
+use Rattle.chip.specs.Chips.{pair}
+use Rattle.chip.specs.Steps.{Step, Line, chunkStep, every, inRange, inner, run, step, updateStep}
+use Rattle.chip.specs.Steps.Step.{Send, Mask, Plain}
+use Rattle.chip.proofs.Laws.{and-left, and-right}
+
+none : (i : ℕ) → i < 0 → ⊥
+none i l = omega arith
+
+pub every-at : {A : Type 0} (p : A → Bool) (l : List A) (i : ℕ) (d : A) → i < length l → every p l ≡ true → p (getD l i d) ≡ true
+unfolding every
+every-at p [] i d l h = absurd (none i l)
+every-at p (a ∷ rest) zero d l h = and-left (p a) (every p rest) h
+every-at p (a ∷ rest) (suc i) d l h = every-at p rest i d (le-of-suc-le-suc l) (and-right (p a) (every p rest) h)
+
+-- what all of the first n pass, each of them passes
+pub every-take : {A : Type 0} (p : A → Bool) (l : List A) (n i : ℕ) (d : A) → i < n → n ≤ length l → every p (take n l) ≡ true → p (getD l i d) ≡ true
+every-take p l n i d h k e =
+    let there : i < length (take n l) = rw (length-take-le n l k) h in
+    ap p (sym (getD-take n l i d h)) ∙ every-at p (take n l) i d there e
+
+-- steps of one kind, none of them a closing
+pub every-inner : {A : Type 0} (f : A → Step) → ((a : A) → inner (f a) ≡ true) → (l : List A) → every inner (map f l) ≡ true
+unfolding every
+every-inner f h [] = refl
+every-inner f h (a ∷ rest) = rw (h a) (every-inner f h rest)
+
+pub inner-update : (u : Update) → inner (updateStep u) ≡ true
+inner-update u = go (u .past) refl
+  where
+    go : (p : Bool) → u .past ≡ p → inner (updateStep u) ≡ true
+    go true e = rw e
+    go false e = rw e
+
+pub inner-chunk : (bs : List ℕ) (k : Chunk) → inner (chunkStep bs k) ≡ true
+inner-chunk bs k = refl
+
+-- a register in range
+pub low : (u : Update) → inRange u ≡ true → 5 ≤ u .register
+low u h = leb-true 5 (u .register) (and-left (leb 5 (u .register)) (leb (u .register) 31) h)
+
+pub high : (u : Update) → inRange u ≡ true → u .register ≤ 31
+high u h = leb-true (u .register) 31 (and-right (leb 5 (u .register)) (leb (u .register) 31) h)
+
+past-step : (u : Update) → u .past ≡ true → Send 2 (pair (u .register) (u .value)) ≡ updateStep u
+past-step u e = rw e
+
+mask-step : (u : Update) → u .past ≡ false → Mask (u .register) (u .value) (u .mask) ≡ updateStep u
+mask-step u e = rw e
+
+module _ {L : Type 0} (put : L → ℕ → Entry → L) (os : List ℕ) where
+  -- one step is taken off the list
+  pub turn : {A : Type 0} (f : A → Step) (l : List A) (n i : ℕ) (d : A) (w : Line L) → i < n → n ≤ length l
+      → run put os (map f (drop (i + 1) (take n l))) (step put os (f (getD l i d)) w) ≡ run put os (map f (drop i (take n l))) w
+  unfolding run
+  turn f l n i d w h k =
+      let there : i < length (take n l) = rw (length-take-le n l k) h in
+      rw (add-one, drop-cons (take n l) i d there, getD-take n l i d h)
+
+  -- none is left
+  pub end : {A : Type 0} (f : A → Step) (l : List A) (n i : ℕ) (w : Line L) → n ≤ i → w ≡ run put os (map f (drop i (take n l))) w
+  unfolding run
+  end f l n i w h =
+      let over : length (take n l) ≤ i = rw length-take (omega arith) in
+      rw (drop-of-length-le (take n l) over)
+
+  -- an update is one of the two writes
+  pub by-past : (u : Update) (w v : Line L) → u .past ≡ true → v ≡ step put os (Send 2 (pair (u .register) (u .value))) w → v ≡ step put os (updateStep u) w
+  by-past u w v e h = h ∙ ap (λ (s : Step). step put os s w) (past-step u e)
+
+  pub by-mask : (u : Update) (w v : Line L) → u .past ≡ false → v ≡ step put os (Mask (u .register) (u .value) (u .mask)) w → v ≡ step put os (updateStep u) w
+  by-mask u w v e h = h ∙ ap (λ (s : Step). step put os s w) (mask-step u e)

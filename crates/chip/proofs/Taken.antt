@@ -1,0 +1,169 @@
+-- What the code has laid out in the room is the section of its program's trace, and all behind it is as it was.
+-- Assumes nothing.
+use Prim.Native.Nat.{ℕ, suc, _+_, _*_, _%_, _^_, _≤_, _<_}
+use mathlib.Core.Path.{_≡_, refl, sym, ap, subst, _∙_}
+use mathlib.Core.Bool.{Bool, true, false, not, _&&_, _||_, or-false}
+use mathlib.Core.List.{List, [], _∷_, _++_}
+use native.Mathlib.Omega.{arith}
+use native.Mathlib.Numerals.{add-one}
+use borrow.Author.Tests.{eqb-true}
+use lib.Dec.{eqb}
+use lib.ListN.{length, length-append}
+use lib.Seq.{sets}
+use Rattle.transcript.specs.declared.Entry.{Entry}
+use Rattle.transcript.specs.Entries.{Eight, Eights, entryBytes}
+use Rattle.transcript.specs.Sections.{entriesBytes, sectionBytes, trailerBytes}
+use Rattle.transcript.proofs.Laid.{eights-append, entry-next, section-laid}
+use Rattle.chip.specs.declared.Answer.{Answer}
+use Rattle.chip.specs.declared.Chip.{Chip}
+use Rattle.chip.specs.declared.Flow.{Flow}
+use Rattle.chip.specs.declared.Seen.{Seen}
+use Rattle.chip.specs.declared.Went.{Went}
+use Rattle.chip.specs.declared.Went.the-variants.{Going, Failed}
+use Rattle.chip.specs.Entries.{isTry, lockBit, look, pickBytes, pickSeen, settled, unseen, zeros8}
+use Rattle.chip.specs.Steps.{Step, Line, Logged, Trace, acts, after, eight, emit, every, heldFor, inList, inRoom, line, logged, okFor, onRoom, run, step, taken, trace, wentFor}
+use Rattle.chip.specs.Steps.Step.{Open, Close, Send, Mask, Plain}
+use Rattle.chip.specs.Calls.{Called, answerOf, called, laidOut, lockedIn, pickN, performed, sealed, seenFrom, triesIn}
+use Rattle.chip.proofs.Laws.{active, and-left, and-right, idle}
+
+or-assoc : (a b c : Bool) → ((a || b) || c) ≡ (a || (b || c))
+or-assoc true b c = refl
+or-assoc false b c = refl
+
+seen-snoc : (s : Seen) (es : List Entry) (e : Entry) → look (seenFrom s es) e ≡ seenFrom s (es ++ (e ∷ []))
+unfolding seenFrom
+seen-snoc s [] e = refl
+seen-snoc s (x ∷ es) e = seen-snoc (look s x) es e
+
+pick-eight : (b : Bool) (xs ys : List ℕ) → length xs ≡ 8 → length ys ≡ 8 → length (pickBytes b xs ys) ≡ 8
+pick-eight true xs ys p q = p
+pick-eight false xs ys p q = q
+
+-- a step's entry has its eight data bytes
+pub emit-eight : (s : Step) (c : Chip) (ok : Bool) → eight s ≡ true → Eight (emit s c ok)
+emit-eight Open c ok h = refl
+emit-eight Close c ok h = refl
+emit-eight (Send n bytes) c ok h = eqb-true (length bytes) 8 h
+emit-eight (Mask r v m) c ok h = refl
+emit-eight (Plain e) c ok h = pick-eight ((eqb (e .kind) 3 || eqb (e .kind) 8) && not ok) zeros8 (e .bytes) refl (eqb-true (length (e .bytes)) 8 h)
+
+-- a trace whose count is that of its entries
+pub record Kept (t : Trace) : Type 0 where
+  pub counted : t .count ≡ length (t .log)
+  pub eights : Eights (t .log)
+
+module _ (os : List ℕ) where
+  pub kept-step : (s : Step) (t : Trace) → eight s ≡ true → Kept t → Kept (step inList os s t)
+  kept-step s t h k = go (acts s (t .went) (t .held)) refl
+    where
+      go : (a : Bool) → acts s (t .went) (t .held) ≡ a → Kept (step inList os s t)
+      go false e = subst Kept (idle inList os s t e) k
+      go true e =
+          subst Kept (active inList os s t e)
+          (record {
+            counted = ap (λ (n : ℕ). n + 1) (k .counted) ∙ sym (length-append (t .log) (emit s (t .chip) (okFor os (t .count) s) ∷ []));
+            eights = eights-append (t .log) (emit s (t .chip) (okFor os (t .count) s) ∷ []) (k .eights) (emit-eight s (t .chip) (okFor os (t .count) s) h, tt);
+          })
+
+  pub kept-run : (ss : List Step) (t : Trace) → every eight ss ≡ true → Kept t → Kept (run inList os ss t)
+  unfolding run every
+  kept-run [] t h k = k
+  kept-run (s ∷ ss) t h k =
+      kept-run ss (step inList os s t) (and-right (eight s) (every eight ss) h) (kept-step s t (and-left (eight s) (every eight ss) h) k)
+
+  module _ (room : List ℕ) where
+    -- one entry more, laid out
+    next : (es : List Entry) (k : ℕ) (e : Entry) → k ≡ length es → Eights es
+        → inRoom (logged (sets room 0 (entriesBytes es)) (seenFrom unseen es)) k e ≡ logged (sets room 0 (entriesBytes (es ++ (e ∷ [])))) (seenFrom unseen (es ++ (e ∷ [])))
+    unfolding inRoom
+    next es k e q h =
+        (λ i. logged (sets (sets room 0 (entriesBytes es)) (16 * q i) (entryBytes e)) (seen-snoc unseen es e i))
+        ∙ ap (λ (l : List ℕ). logged l (seenFrom unseen (es ++ (e ∷ [])))) (entry-next room es e h)
+
+    sim-step : (s : Step) (t : Trace) → Kept t → step inRoom os s (laidOut room t) ≡ laidOut room (step inList os s t)
+    sim-step s t k = go (acts s (t .went) (t .held)) refl
+      where
+        ok : Bool
+        ok = okFor os (t .count) s
+
+        e : Entry
+        e = emit s (t .chip) ok
+
+        at : ℕ → Line Logged
+        at n = taken inRoom os (okFor os n s) s (line (t .chip) (logged (sets room 0 (entriesBytes (t .log))) (seenFrom unseen (t .log))) n (t .went) (t .held))
+
+        go : (a : Bool) → acts s (t .went) (t .held) ≡ a → step inRoom os s (laidOut room t) ≡ laidOut room (step inList os s t)
+        go false x = sym (idle inRoom os s (laidOut room t) x) ∙ ap (laidOut room) (idle inList os s t x)
+        go true x =
+            sym (active inRoom os s (laidOut room t) x)
+            ∙ ap at (sym (k .counted))
+            ∙ (λ i. line (after s (t .chip) ok) (next (t .log) (t .count) e (k .counted) (k .eights) i) (longer i) (wentFor s ok (t .count) (t .went)) (heldFor s ok (t .held)))
+            ∙ ap (laidOut room) (active inList os s t x)
+          where
+            longer : t .count + 1 ≡ length (t .log ++ (e ∷ []))
+            longer = ap (λ (n : ℕ). n + 1) (k .counted) ∙ sym (length-append (t .log) (e ∷ []))
+
+    sim : (ss : List Step) (t : Trace) → every eight ss ≡ true → Kept t → run inRoom os ss (laidOut room t) ≡ laidOut room (run inList os ss t)
+    unfolding run every
+    sim [] t h k = refl
+    sim (s ∷ ss) t h k =
+        ap (run inRoom os ss) (sim-step s t k)
+        ∙ sim ss (step inList os s t) (and-right (eight s) (every eight ss) h) (kept-step s t (and-left (eight s) (every eight ss) h) k)
+
+    -- the room's law: a program's run in the room is its trace, laid out
+    pub laid-out : (ss : List Step) (c : Chip) → every eight ss ≡ true
+        → run inRoom os ss (line c (logged room unseen) 0 Going false) ≡ laidOut room (trace os ss c)
+    unfolding trace entriesBytes seenFrom
+    laid-out ss c h = sim ss (line c [] 0 Going false) h (record { counted = refl; eights = tt })
+
+    -- where the code stands after a program is its trace, laid out
+    pub stands : (ss : List Step) (c : Chip) (f : Flow) (mid : List ℕ) → every eight ss ≡ true
+        → onRoom f mid ≡ run inRoom os ss (line c (logged room unseen) 0 Going false) → onRoom f mid ≡ laidOut room (trace os ss c)
+    stands ss c f mid h e = e ∙ laid-out ss c h
+
+    pub kept-trace : (ss : List Step) (c : Chip) → every eight ss ≡ true → Kept (trace os ss c)
+    unfolding trace
+    kept-trace ss c h = kept-run ss (line c [] 0 Going false) h (record { counted = refl; eights = tt })
+
+    -- and with its trailer: what a call hands back
+    pub handed : {R : Type 0} (ss : List Step) (c : Chip) (keep : Trace → R) (whole : Answer) (r : R) (f : Flow) (mid after : List ℕ) (answer : Answer)
+        → every eight ss ≡ true
+        → onRoom f mid ≡ run inRoom os ss (line c (logged room unseen) 0 Going false)
+        → after ≡ sealed mid (f .count) → answer ≡ answerOf whole (f .went)
+        → r ≡ keep (trace os ss c)
+        → called r after (f .count) answer ≡ performed whole keep room (trace os ss c)
+    handed ss c keep whole r f mid after answer h e p q same =
+        let t : Trace = trace os ss c in
+        let all : onRoom f mid ≡ laidOut room t = stands ss c f mid h e in
+        let count : f .count ≡ length (t .log) = ap (λ (w : Line Logged). w .count) all in
+        let out : mid ≡ sets room 0 (entriesBytes (t .log)) = ap (λ (w : Line Logged). w .log .room) all in
+        let went : f .went ≡ t .went = ap (λ (w : Line Logged). w .went) all in
+        let full : after ≡ sets room 0 (sectionBytes (t .log)) =
+        p ∙ (λ i. sealed (out i) (count i)) ∙ section-laid room (t .log) (kept-trace ss c h .eights) in
+        let told : answer ≡ answerOf whole (t .went) = q ∙ ap (answerOf whole) went in
+        λ i. called (same i) (full i) (count i) (told i)
+
+-- one entry of the count below: it is a try or not
+counted-one : (s : Seen) (e : Entry) (es : List Entry) (b : Bool) → isTry e ≡ b → s .tries + suc (length es) < 2 ^ 64
+    → ((r : Seen) → r .tries + length es < 2 ^ 64 → seenFrom r es ≡ record { tries = r .tries + triesIn es; locked = r .locked || lockedIn es })
+    → seenFrom (look s e) es ≡ record { tries = s .tries + (pickN (isTry e) 1 0 + triesIn es); locked = s .locked || ((isTry e && lockBit e) || lockedIn es) }
+unfolding look
+counted-one s e es true x h rest =
+    let small : (s .tries + 1) % 2 ^ 64 ≡ s .tries + 1 = omega arith in
+    let fits : (s .tries + 1) % 2 ^ 64 + length es < 2 ^ 64 = omega arith in
+    let sum : (s .tries + 1) % 2 ^ 64 + triesIn es ≡ s .tries + (1 + triesIn es) = omega arith in
+    rw x (rest (record { tries = (s .tries + 1) % 2 ^ 64; locked = s .locked || lockBit e }) fits
+    ∙ (λ i. record { tries = sum i; locked = or-assoc (s .locked) (lockBit e) (lockedIn es) i }))
+counted-one s e es false x h rest =
+    let fits : s .tries + length es < 2 ^ 64 = omega arith in
+    let sum : s .tries + triesIn es ≡ s .tries + (0 + triesIn es) = omega arith in
+    rw x (rest s fits ∙ (λ i. record { tries = sum i; locked = s .locked || lockedIn es }))
+
+-- what the tries have said, counted: a room's entries never reach 2 ^ 64
+pub seen-counted : (s : Seen) (es : List Entry) → s .tries + length es < 2 ^ 64
+    → seenFrom s es ≡ record { tries = s .tries + triesIn es; locked = s .locked || lockedIn es }
+unfolding seenFrom triesIn lockedIn
+seen-counted s [] h =
+    let none : s .tries ≡ s .tries + 0 = omega arith in
+    λ i. record { tries = none i; locked = sym (or-false (s .locked)) i }
+seen-counted s (e ∷ es) h = counted-one s e es (isTry e) refl h (λ r k. seen-counted r es k)

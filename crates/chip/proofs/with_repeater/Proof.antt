@@ -1,0 +1,55 @@
+use Rattle.chip.specs.Steps.{due, inRoom, updates}
+use Prim.Native.Nat.{_+_, _*_, _-_, _≤_, _<_}
+use denote.Ref.{now}
+use lib.ListN.{length, take}
+use Rattle.chip.proofs.Laws.{bracketed}
+use mathlib.Core.Path.{_≡_, refl, sym, ap, _∙_}
+use native.Mathlib.Omega.{arith}
+use borrow.Author.Needs.{needs}
+use Rattle.chip.proofs.with_repeater.Statement.{statement}
+use Rattle.chip.proofs.with_repeater.Tie as tie
+use Rattle.chip.proofs.with_repeater.Reads as reads
+use Rattle.chip.proofs.with_repeater.Lts as lts
+use Rattle.chip.proofs.close_repeater.Reads as close-repeater-reads
+use Rattle.chip.proofs.open_repeater.Reads as open-repeater-reads
+use Rattle.chip.proofs.write_all.Reads as write-all-reads
+
+-- src/lib.rt:363:9
+open-repeater-requires : tie.Need-open-repeater-requires
+open-repeater-requires c κs = search needs
+
+-- src/lib.rt:364:9
+write-all-requires : tie.Need-write-all-requires
+write-all-requires c κs = search needs
+
+-- src/lib.rt:365:5
+close-repeater-requires : tie.Need-close-repeater-requires
+close-repeater-requires c κs = let a : c .before .before .before .before .before .before .before .open-repeater .result .count + due (c .before .before .before .before .before .before .before .open-repeater .result .held) ≤ c .before .before .before .before .before .before .before .before .before .before .before .args .f .count + 2 = c .before .before .before .before .before .before .before .open-repeater .ensures .1 in
+    let b : c .before .before .before .write-all .result .count + due (c .before .before .before .write-all .result .held) ≤ c .before .before .before .before .before .before .before .open-repeater .result .count + c .before .before .before .before .before .before .before .before .before .before .before .args .n + due (c .before .before .before .before .before .before .before .open-repeater .result .held) = c .before .before .before .write-all .ensures .1 in
+    let d : length (c .before .before .before .write-all .last .1 .1 .1 .1 .0) ≡ length (c .before .before .before .before .before .before .before .open-repeater .last .1 .1 .0) = c .before .before .before .write-all .kept .1 .1 .1 .1 .0 in
+    let e : length (c .before .before .before .before .before .before .before .open-repeater .last .1 .1 .0) ≡ length (now (c .before .before .before .before .before .before .before .before .before .before .before .args .room)) = c .before .before .before .before .before .before .before .open-repeater .kept .1 .1 .0 in
+    let g : (c .before .before .before .write-all .result .count + due (c .before .before .before .write-all .result .held) ≤ length (now (c .before .before .before .before .before .before .before .before .before .before .before .args .outcomes))) × (16 * (c .before .before .before .write-all .result .count + due (c .before .before .before .write-all .result .held)) ≤ length (c .before .before .before .write-all .last .1 .1 .1 .1 .0)) =
+    omega (arith, c .before .before .before .before .before .before .before .before .before .before .before .pre) in
+    g
+
+-- src/lib.rt:356:1
+same-length : tie.Need-same-length
+same-length c = search needs
+
+-- src/lib.rt:356:1
+returns : tie.Need-returns
+returns c = let a : c .before .before .before .before .before .before .before .before .before .before .open-repeater .result .count + due (c .before .before .before .before .before .before .before .before .before .before .open-repeater .result .held) ≤ c .before .before .before .before .before .before .before .before .before .before .before .before .before .before .args .f .count + 2 = c .before .before .before .before .before .before .before .before .before .before .open-repeater .ensures .1 in
+    let b : c .before .before .before .before .before .before .write-all .result .count + due (c .before .before .before .before .before .before .write-all .result .held) ≤ c .before .before .before .before .before .before .before .before .before .before .open-repeater .result .count + c .before .before .before .before .before .before .before .before .before .before .before .before .before .before .args .n + due (c .before .before .before .before .before .before .before .before .before .before .open-repeater .result .held) = c .before .before .before .before .before .before .write-all .ensures .1 in
+    let d : c .before .before .close-repeater .result .count + due (c .before .before .close-repeater .result .held) ≤ c .before .before .before .before .before .before .write-all .result .count + due (c .before .before .before .before .before .before .write-all .result .held) = c .before .before .close-repeater .ensures .1 in
+    let most : c .before .before .close-repeater .result .count + due (c .before .before .close-repeater .result .held) ≤ c .before .before .before .before .before .before .before .before .before .before .before .before .before .before .args .f .count + c .before .before .before .before .before .before .before .before .before .before .before .before .before .before .args .n + 2 = omega arith in
+    (c .before .before .close-repeater .ensures .0 ∙ bracketed inRoom _ (updates (take (c .before .before .before .before .before .before .before .before .before .before .before .before .before .before .args .n) (c .before .before .before .before .before .before .before .before .before .before .before .before .before .before .args .us))) _ _ _ (c .before .before .before .before .before .before .before .before .before .before .open-repeater .ensures .0) (c .before .before .before .before .before .before .write-all .ensures .0), most)
+
+pub with-repeater-spec : {M : Type 1} → statement M
+with-repeater-spec =
+    tie.close
+    (tie.spec
+    open-repeater-requires
+    write-all-requires
+    close-repeater-requires
+    same-length
+    returns)

@@ -1,0 +1,97 @@
+-- A call over a program: refusals before any step leave all as it was; else the program's trace decides the answer, the record and
+-- the room. Document 01, "Transcript and script", "Refusal numbers".
+-- Assumes nothing.
+use Prim.Native.Nat.{ℕ, _+_, _*_}
+use mathlib.Core.Bool.{Bool, true, false, _&&_, _||_}
+use mathlib.Core.List.{List, [], _∷_}
+use lib.Dec.{eqb, ltb}
+use lib.ListN.{length}
+use lib.Seq.{sets}
+use Rattle.transcript.specs.declared.Entry.{Entry}
+use Rattle.transcript.specs.Sections.{entriesBytes, sectionBytes, trailerBytes}
+use Rattle.chip.specs.declared.Answer.{Answer}
+use Rattle.chip.specs.declared.Answer.the-variants.{Done, Refused, Stopped}
+use Rattle.chip.specs.declared.Chip.{Chip}
+use Rattle.chip.specs.declared.Seen.{Seen}
+use Rattle.chip.specs.declared.Went.{Went}
+use Rattle.chip.specs.declared.Went.the-variants.{Going, Failed}
+use Rattle.chip.specs.Entries.{isTry, lockBit, look, unseen}
+use Rattle.chip.specs.Steps.{Step, Line, Logged, Trace, line, logged, trace}
+
+abbrev pub pickN : Bool → ℕ → ℕ → ℕ
+pickN true a b = a
+pickN false a b = b
+
+-- "8 room, 9 outcomes, 10 replies | lent slice too short": for a call of at most n entries and m replies; 0 where all suffice.
+-- "room is 16 bytes for each of its most entries, plus 8"
+unfoldable pub lentOf : ℕ → ℕ → ℕ → ℕ → ℕ → ℕ
+lentOf n m room outcomes replies =
+    pickN (ltb room (16 * n + 8)) 8 (pickN (ltb outcomes n) 9 (pickN (ltb replies m) 10 0))
+
+-- document 01's number, value and index of an answer: "A refused call's value is 0; 11 also gives the failing entry's index"
+abbrev pub numberOf : Answer → ℕ
+numberOf (Done value) = 0
+numberOf (Refused number) = number
+numberOf (Stopped index) = 11
+
+abbrev pub valueOf : Answer → ℕ
+valueOf (Done value) = value
+valueOf (Refused number) = 0
+valueOf (Stopped index) = 0
+
+abbrev pub indexOf : Answer → ℕ
+indexOf (Done value) = 0
+indexOf (Refused number) = 0
+indexOf (Stopped index) = index
+
+-- the answer of a call whose steps went so, and which answers `whole` where none failed
+abbrev pub answerOf : Answer → Went → Answer
+answerOf whole Going = whole
+answerOf whole (Failed k) = Stopped k
+
+-- what a call leaves: the next record, the lent room, how many entries it made, its answer
+pub record Called (R : Type 0) : Type 0 where
+  pub next : R
+  pub room : List ℕ
+  pub count : ℕ
+  pub answer : Answer
+
+abbrev pub called : {R : Type 0} → R → List ℕ → ℕ → Answer → Called R
+called next room count answer = record { next = next; room = room; count = count; answer = answer }
+
+abbrev pub pickCalled : {R : Type 0} → Bool → Called R → Called R → Called R
+pickCalled true a b = a
+pickCalled false a b = b
+
+-- steps were taken: "Each call with steps writes its section at the start of the lent room"; "Bytes past the section stay as they were"
+abbrev pub performed : {R : Type 0} → Answer → (Trace → R) → List ℕ → Trace → Called R
+performed whole keep room t =
+    called (keep t) (sets room 0 (sectionBytes (t .log))) (length (t .log)) (answerOf whole (t .went))
+
+-- a call refused by a number before any step, or performed
+unfoldable pub callOf : {R : Type 0} → ℕ → Answer → List ℕ → List Step → Chip → (Trace → R) → R → List ℕ → Called R
+callOf number whole os ss c keep old room =
+    pickCalled (eqb number 0) (performed whole keep room (trace os ss c)) (called old room 0 (Refused number))
+
+-- the room once the trailer stands behind its entries
+abbrev pub sealed : List ℕ → ℕ → List ℕ
+sealed room count = sets room (16 * count) (trailerBytes count)
+
+-- what all tries have said, read off the entries
+unfoldable pub seenFrom : Seen → List Entry → Seen
+seenFrom s [] = s
+seenFrom s (e ∷ es) = seenFrom (look s e) es
+
+-- how many done reads of three bytes there are among entries, and whether one of them has the lock bit
+unfoldable pub triesIn : List Entry → ℕ
+triesIn [] = 0
+triesIn (e ∷ es) = pickN (isTry e) 1 0 + triesIn es
+
+unfoldable pub lockedIn : List Entry → Bool
+lockedIn [] = false
+lockedIn (e ∷ es) = (isTry e && lockBit e) || lockedIn es
+
+-- a trace as the code leaves it: its entries laid out in the room
+abbrev pub laidOut : List ℕ → Trace → Line Logged
+laidOut room t =
+    line (t .chip) (logged (sets room 0 (entriesBytes (t .log))) (seenFrom unseen (t .log))) (length (t .log)) (t .went) (t .held)

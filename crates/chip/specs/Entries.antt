@@ -1,0 +1,83 @@
+-- The entries that steps make. Document 01, "Transcript and script", the table of kinds.
+-- Assumes nothing.
+use Prim.Native.Nat.{ℕ, _+_, _%_, _^_}
+use mathlib.Core.Bool.{Bool, true, false, not, _&&_, _||_}
+use mathlib.Core.List.{List, [], _∷_}
+use lib.Bits.{bitAnd}
+use lib.Dec.{eqb}
+use lib.ListN.{getD}
+use Rattle.transcript.specs.declared.Entry.{Entry}
+use Rattle.status.specs.Reversal.{reversed}
+use Rattle.chip.specs.declared.Seen.{Seen}
+
+abbrev pub zeros8 : List ℕ
+zeros8 = 0 ∷ 0 ∷ 0 ∷ 0 ∷ 0 ∷ 0 ∷ 0 ∷ 0 ∷ []
+
+-- "outcome (0 done, 1 failed)"
+abbrev pub flagOf : Bool → ℕ
+flagOf true = 0
+flagOf false = 1
+
+-- "1 repeater | 0 | 1 | 0; 1 opens, 0 closes"
+abbrev pub repeater : ℕ → Bool → Entry
+repeater on ok =
+    record {
+      kind = 1;
+      outcome = flagOf ok;
+      target = 0;
+      n = 1;
+      address = 0;
+      bytes = on ∷ 0 ∷ 0 ∷ 0 ∷ 0 ∷ 0 ∷ 0 ∷ 0 ∷ [];
+    }
+
+-- "2 I2C write | chip | 1..8 | 0; bytes"
+abbrev pub written : ℕ → ℕ → List ℕ → Bool → Entry
+written chip n bytes ok =
+    record { kind = 2; outcome = flagOf ok; target = chip; n = n; address = 0; bytes = bytes }
+
+-- "the one-byte write of 0x00", before a read
+abbrev pub pointer : ℕ → Entry
+pointer chip = written chip 1 zeros8 true
+
+-- "3 I2C read | chip | 1..5 | 0; raw bytes, zeros if failed"
+abbrev pub readEntry : ℕ → ℕ → List ℕ → Entry
+readEntry chip n bytes = record { kind = 3; outcome = 0; target = chip; n = n; address = 0; bytes = bytes }
+
+-- "9 wait | 0 | 0 | milliseconds; zeros"
+abbrev pub wait : ℕ → Entry
+wait ms = record { kind = 9; outcome = 0; target = 0; n = 0; address = ms; bytes = zeros8 }
+
+abbrev pub pickBytes : Bool → List ℕ → List ℕ → List ℕ
+pickBytes true a b = a
+pickBytes false a b = b
+
+-- an entry once it is known how its step went: "zeros if failed" for the two reads
+abbrev pub settled : Entry → Bool → Entry
+settled e ok =
+    record {
+      kind = e .kind;
+      outcome = flagOf ok;
+      target = e .target;
+      n = e .n;
+      address = e .address;
+      bytes = pickBytes ((eqb (e .kind) 3 || eqb (e .kind) 8) && not ok) zeros8 (e .bytes);
+    }
+
+-- the lock bit of a status of three bytes, whose bits are reversed
+abbrev pub lockBit : Entry → Bool
+lockBit e = not (eqb (bitAnd (reversed (getD (e .bytes) 2 0)) 0x40) 0)
+
+-- a done read of three bytes
+abbrev pub isTry : Entry → Bool
+isTry e = eqb (e .kind) 3 && eqb (e .n) 3 && eqb (e .outcome) 0
+
+abbrev pub pickSeen : Bool → Seen → Seen → Seen
+pickSeen true a b = a
+pickSeen false a b = b
+
+-- what the tries have said, one entry later. The count is kept in 64 bits, which no room's entries reach
+unfoldable pub look : Seen → Entry → Seen
+look s e = pickSeen (isTry e) (record { tries = (s .tries + 1) % 2 ^ 64; locked = s .locked || lockBit e }) s
+
+abbrev pub unseen : Seen
+unseen = record { tries = 0; locked = false }

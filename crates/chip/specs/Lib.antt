@@ -1,0 +1,4 @@
+pub mod Chips
+pub mod Entries
+pub mod Steps
+pub mod Calls

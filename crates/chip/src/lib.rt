@@ -1,0 +1,510 @@
+// The chip's record, the five steps that a call is made of, and how a step goes: `with_repeater`, `write_reg_mask_raw`,
+// `read_status_raw`'s transfers of src/tuners/r82xx.rs and `i2c_write_tuner` of src/device.rs, over a script of outcomes and
+// a room for the entries. Document 01, "Transcript and script", "Refusal numbers", "The record", "Forms that change".
+// A step is taken only while none has failed; a closing only while the repeater is open. `run` of specs/Steps.antt says it once.
+ghost use mathlib.Core.List.{map};
+ghost use mathlib.Core.Path.{_≡_};
+ghost use mathlib.Core.Bool.{true, not};
+ghost use Prim.Native.Nat.{_+_, _-_, _*_, _≤_, _<_};
+ghost use lib.ListN.{length, getD, take, drop, set};
+ghost use Rattle.chip.specs.Chips.{maskOf, attemptedBy, withLists};
+ghost use Rattle.chip.specs.Entries.{flagOf, look, settled};
+ghost use Rattle.chip.specs.Steps.{due, toldOf, step, run, closing, inRoom, onRoom, line, logged, updates, updateStep, allIn, inRange, behind, chunkBytes, chunkStep, chunkTable, within, tunerWrite};
+ghost use Rattle.chip.specs.Calls.{lentOf, answerOf, sealed};
+ghost use Rattle.chip.specs.Steps.Step.{Open, Close, Send, Mask, Plain};
+use transcript::Entry;
+
+pub const NUM_REGS: usize = 27;
+
+pub const REG_SHADOW_START: u8 = 0x05;
+
+// Refusal numbers of document 01's table.
+pub const SETUP: u8 = 1;
+
+pub const FREQUENCY: u8 = 2;
+
+pub const RATE: u8 = 3;
+
+pub const CORRECTION: u8 = 4;
+
+pub const REGISTER: u8 = 5;
+
+pub const PIN: u8 = 6;
+
+pub const COEFFICIENT: u8 = 7;
+
+pub const ROOM: u8 = 8;
+
+pub const OUTCOMES: u8 = 9;
+
+pub const REPLIES: u8 = 10;
+
+// What the record says of the chip's registers 0x05 to 0x1f: the shadow, and our attempt record.
+pub struct Chip {
+    pub address: u8,
+    pub shadow: [u8; 27],
+    pub attempted: [u8; 27],
+    pub doubtful: [bool; 27],
+}
+
+// A register's partial update; `past` writes the value as it is, past the shadow.
+pub struct Update {
+    pub register: u8,
+    pub value: u8,
+    pub mask: u8,
+    pub past: bool,
+}
+
+// How the steps have gone: the first failing step's entry by its index.
+pub enum Went {
+    Going,
+    Failed(usize),
+}
+
+// What the done three-byte reads of the status have said.
+pub struct Seen {
+    pub tries: u64,
+    pub locked: bool,
+}
+
+// What is carried from step to step.
+pub struct Flow {
+    pub chip: Chip,
+    pub count: usize,
+    pub went: Went,
+    pub held: bool,
+    pub seen: Seen,
+}
+
+// A call's answer: its value, a refusal's number, or refusal 11 with the failing entry's index.
+pub enum Answer {
+    Done(u64),
+    Refused(u8),
+    Stopped(usize),
+}
+
+// A part of the 27 bytes that is sent in one write: `size` bytes from `at`.
+pub struct Chunk {
+    pub at: usize,
+    pub size: usize,
+}
+
+// "chunks (7, 7, 2, then 7, 4)": `i2c_write_tuner` sends at most seven registers in one write.
+const CHUNKS: [Chunk; 5] = [
+    Chunk { at: 0, size: 7 },
+    Chunk { at: 7, size: 7 },
+    Chunk { at: 14, size: 2 },
+    Chunk { at: 16, size: 7 },
+    Chunk { at: 23, size: 4 },
+];
+
+fn flag(ok: bool) -> u8
+    ensures { λ r. ⌜ r ≡ flagOf ok ⌝ }
+{
+    if ok { 0 } else { 1 }
+}
+
+fn told(ok: bool, k: usize) -> Went
+    ensures { λ r. ⌜ r ≡ toldOf ok k ⌝ }
+{
+    if ok { Went::Going } else { Went::Failed(k) }
+}
+
+// The byte that a masked write stores and sends.
+pub fn mask_into(old: u8, value: u8, mask: u8) -> u8
+    ensures { λ r. ⌜ r ≡ maskOf old value mask ⌝ }
+{
+    (old & !mask) | (value & mask)
+}
+
+// An entry once it is known how its step went.
+fn settle(e: Entry, ok: bool) -> Entry
+    ensures { λ r. ⌜ r ≡ settled e ok ⌝ }
+{
+    let kind = e.kind;
+    let outcome = flag(ok);
+    if ((kind == 3) | (kind == 8)) & !ok {
+        return Entry {
+            kind: kind,
+            outcome: outcome,
+            target: e.target,
+            n: e.n,
+            address: e.address,
+            bytes: [0u8; 8],
+        };
+    }
+    let bytes = e.bytes;
+    Entry {
+        kind: kind,
+        outcome: outcome,
+        target: e.target,
+        n: e.n,
+        address: e.address,
+        bytes: bytes,
+    }
+}
+
+fn looked(s: Seen, e: Entry) -> Seen
+    ensures { λ r. ⌜ r ≡ look s e ⌝ }
+{
+    if (e.kind == 3) & (e.n == 3) & (e.outcome == 0) {
+        return Seen {
+            tries: std::num::wrapping_add_u64(s.tries, 1),
+            locked: s.locked | (status::bit_reverse(e.bytes[2]) & 0x40 != 0),
+        };
+    }
+    s
+}
+
+// A step's entry behind those laid out so far, and what is carried on.
+fn lay(f: Flow, chip: Chip, e: Entry, ok: bool, went: Went, held: bool, room: &mut [u8]) -> Flow
+    requires { ⌜ 16 * f .count + 16 ≤ length (now room) ⌝ }
+    ensures { λ r. ⌜ onRoom r (now (room .exit))
+        ≡ line chip (inRoom (logged (now (room .entry)) (f .seen)) (f .count) (settled e ok)) (f .count + 1) went held ⌝ }
+    ensures bounds { λ r. ⌜ r .count + due (r .held) ≡ f .count + 1 + due held ⌝ }
+{
+    let k = f.count;
+    let seen = f.seen;
+    let done = settle(e, ok);
+    done.put(room, 16 * k);
+    Flow {
+        chip: chip,
+        count: k + 1,
+        went: went,
+        held: held,
+        seen: looked(seen, done),
+    }
+}
+
+// One register's byte was attempted.
+fn attempt_one(c: Chip, index: usize, byte: u8, ok: bool) -> Chip
+    requires { ⌜ index < 27 ⌝ }
+    ensures { λ r. ⌜ r ≡ withLists c (c .shadow) (set (c .attempted) index byte) (set (c .doubtful) index (not ok)) ⌝ }
+{
+    let mut next = c;
+    next.attempted[index] = byte;
+    next.doubtful[index] = !ok;
+    next
+}
+
+// A write of n bytes attempts n - 1 registers upward from its first byte.
+fn attempt(c: Chip, n: usize, bytes: [u8; 8], ok: bool) -> Chip
+    requires { ⌜ (1 ≤ n) × (n ≤ 8) × (5 ≤ getD bytes 0 0) × (getD bytes 0 0 + n ≤ 33) ⌝ }
+    ensures { λ r. ⌜ r ≡ attemptedBy c n bytes ok ⌝ }
+{
+    let mut next = c;
+    let first = bytes[0] as usize - 5;
+    let mut i = 0;
+    while i + 1 < n {
+        next = attempt_one(next, first + i, bytes[i + 1], ok);
+        i += 1;
+    }
+    next
+}
+
+// "1 opens": a failed opening leaves the repeater shut, so it is not closed.
+pub fn open_repeater(f: Flow, outcomes: &[u8], room: &mut [u8]) -> Flow
+    requires { ⌜ (f .count < length (now outcomes)) × (16 * f .count + 16 ≤ length (now room)) ⌝ }
+    ensures { λ r. ⌜ onRoom r (now (room .exit)) ≡ step inRoom (now (outcomes .entry)) Open (onRoom f (now (room .entry))) ⌝ }
+    ensures bounds { λ r. ⌜ r .count + due (r .held) ≤ f .count + 2 ⌝ }
+{
+    let went = f.went;
+    let Went::Going = went else {
+        return f;
+    };
+    let k = f.count;
+    let ok = outcomes[k] == 0;
+    let chip = f.chip;
+    let e = Entry {
+        kind: 1,
+        outcome: 0,
+        target: 0,
+        n: 1,
+        address: 0,
+        bytes: [1, 0, 0, 0, 0, 0, 0, 0],
+    };
+    lay(f, chip, e, ok, told(ok, k), ok, room)
+}
+
+// "A failed closing is recorded and otherwise ignored": its outcome is told by its entry alone.
+pub fn close_repeater(f: Flow, outcomes: &[u8], room: &mut [u8]) -> Flow
+    requires { ⌜ (f .count + due (f .held) ≤ length (now outcomes)) × (16 * (f .count + due (f .held)) ≤ length (now room)) ⌝ }
+    ensures { λ r. ⌜ onRoom r (now (room .exit)) ≡ step inRoom (now (outcomes .entry)) Close (onRoom f (now (room .entry))) ⌝ }
+    ensures bounds { λ r. ⌜ r .count + due (r .held) ≤ f .count + due (f .held) ⌝ }
+{
+    let held = f.held;
+    if !held {
+        return f;
+    }
+    let k = f.count;
+    let ok = outcomes[k] == 0;
+    let chip = f.chip;
+    let went = f.went;
+    let e = Entry {
+        kind: 1,
+        outcome: 0,
+        target: 0,
+        n: 1,
+        address: 0,
+        bytes: [0, 0, 0, 0, 0, 0, 0, 0],
+    };
+    lay(f, chip, e, ok, went, false, room)
+}
+
+// `i2c_write_raw` of n bytes, the first of them a register of the record.
+pub fn send(f: Flow, n: u8, bytes: [u8; 8], outcomes: &[u8], room: &mut [u8]) -> Flow
+    requires { ⌜ (1 ≤ n) × (n ≤ 8) × (5 ≤ getD bytes 0 0) × (getD bytes 0 0 + n ≤ 33)
+        × (f .count < length (now outcomes)) × (16 * f .count + 16 ≤ length (now room)) ⌝ }
+    ensures { λ r. ⌜ onRoom r (now (room .exit)) ≡ step inRoom (now (outcomes .entry)) (Send n bytes) (onRoom f (now (room .entry))) ⌝ }
+    ensures bounds { λ r. ⌜ r .count + due (r .held) ≤ f .count + 1 + due (f .held) ⌝ }
+{
+    let went = f.went;
+    let Went::Going = went else {
+        return f;
+    };
+    let k = f.count;
+    let ok = outcomes[k] == 0;
+    let chip = f.chip;
+    let held = f.held;
+    let e = Entry {
+        kind: 2,
+        outcome: 0,
+        target: chip.address,
+        n: n,
+        address: 0,
+        bytes: bytes,
+    };
+    let next = attempt(chip, n as usize, bytes, ok);
+    lay(f, next, e, ok, told(ok, k), held, room)
+}
+
+// `write_reg_mask_raw`: the shadow is stored before the write is tried.
+pub fn write_reg_mask_raw(
+    f: Flow,
+    register: u8,
+    value: u8,
+    mask: u8,
+    outcomes: &[u8],
+    room: &mut [u8],
+) -> Flow
+    requires { ⌜ (5 ≤ register) × (register ≤ 31) × (f .count < length (now outcomes)) × (16 * f .count + 16 ≤ length (now room)) ⌝ }
+    ensures { λ r. ⌜ onRoom r (now (room .exit))
+        ≡ step inRoom (now (outcomes .entry)) (Mask register value mask) (onRoom f (now (room .entry))) ⌝ }
+    ensures bounds { λ r. ⌜ r .count + due (r .held) ≤ f .count + 1 + due (f .held) ⌝ }
+{
+    let went = f.went;
+    let Went::Going = went else {
+        return f;
+    };
+    let k = f.count;
+    let ok = outcomes[k] == 0;
+    let held = f.held;
+    let index = (register - REG_SHADOW_START) as usize;
+    let mut chip = f.chip;
+    let byte = mask_into(chip.shadow[index], value, mask);
+    chip.shadow[index] = byte;
+    let e = Entry {
+        kind: 2,
+        outcome: 0,
+        target: chip.address,
+        n: 2,
+        address: 0,
+        bytes: [register, byte, 0, 0, 0, 0, 0, 0],
+    };
+    let next = attempt_one(chip, index, byte, ok);
+    lay(f, next, e, ok, told(ok, k), held, room)
+}
+
+// Any step that leaves the chip's record alone: its entry as it is when the step is done.
+pub fn plain(f: Flow, e: Entry, outcomes: &[u8], room: &mut [u8]) -> Flow
+    requires { ⌜ (f .count < length (now outcomes)) × (16 * f .count + 16 ≤ length (now room)) ⌝ }
+    ensures { λ r. ⌜ onRoom r (now (room .exit)) ≡ step inRoom (now (outcomes .entry)) (Plain e) (onRoom f (now (room .entry))) ⌝ }
+    ensures bounds { λ r. ⌜ r .count + due (r .held) ≤ f .count + 1 + due (f .held) ⌝ }
+{
+    let went = f.went;
+    let Went::Going = went else {
+        return f;
+    };
+    let k = f.count;
+    let ok = (outcomes[k] == 0) | (e.kind == 9);
+    let chip = f.chip;
+    let held = f.held;
+    lay(f, chip, e, ok, told(ok, k), held, room)
+}
+
+// A register's update, through the shadow or past it.
+fn write_update(f: Flow, u: Update, outcomes: &[u8], room: &mut [u8]) -> Flow
+    requires { ⌜ (inRange u ≡ true) × (f .count < length (now outcomes)) × (16 * f .count + 16 ≤ length (now room)) ⌝ }
+    ensures { λ r. ⌜ onRoom r (now (room .exit)) ≡ step inRoom (now (outcomes .entry)) (updateStep u) (onRoom f (now (room .entry))) ⌝ }
+    ensures bounds { λ r. ⌜ r .count + due (r .held) ≤ f .count + 1 + due (f .held) ⌝ }
+{
+    if u.past {
+        return send(
+            f,
+            2,
+            [u.register, u.value, 0, 0, 0, 0, 0, 0],
+            outcomes,
+            room,
+        );
+    }
+    write_reg_mask_raw(f, u.register, u.value, u.mask, outcomes, room)
+}
+
+// The first n of a list of updates, behind an open repeater.
+pub fn write_all(f: Flow, us: [Update; 16], n: usize, outcomes: &[u8], room: &mut [u8]) -> Flow
+    requires { ⌜ (n ≤ 16) × (allIn (take n us) ≡ true)
+        × (f .count + n + due (f .held) ≤ length (now outcomes)) × (16 * (f .count + n + due (f .held)) ≤ length (now room)) ⌝ }
+    ensures { λ r. ⌜ onRoom r (now (room .exit))
+        ≡ closing inRoom (now (outcomes .entry)) (run inRoom (now (outcomes .entry)) (updates (take n us)) (onRoom f (now (room .entry)))) ⌝ }
+    ensures bounds { λ r. ⌜ r .count + due (r .held) ≤ f .count + n + due (f .held) ⌝ }
+{
+    let mut f = f;
+    let went = f.went;
+    let Went::Going = went else {
+        return close_repeater(f, outcomes, room);
+    };
+    let mut i = 0;
+    while i < n {
+        f = write_update(f, us[i], outcomes, room);
+        let went = f.went;
+        let Went::Going = went else {
+            return close_repeater(f, outcomes, room);
+        };
+        i += 1;
+    }
+    f
+}
+
+// `with_repeater` over a list of updates: open, steps, close.
+pub fn with_repeater(f: Flow, us: [Update; 16], n: usize, outcomes: &[u8], room: &mut [u8]) -> Flow
+    requires { ⌜ (n ≤ 16) × (allIn (take n us) ≡ true)
+        × (f .count + n + 2 ≤ length (now outcomes)) × (16 * (f .count + n + 2) ≤ length (now room)) ⌝ }
+    ensures { λ r. ⌜ onRoom r (now (room .exit))
+        ≡ run inRoom (now (outcomes .entry)) (behind (updates (take n us))) (onRoom f (now (room .entry))) ⌝ }
+    ensures bounds { λ r. ⌜ r .count + due (r .held) ≤ f .count + n + 2 ⌝ }
+{
+    let opened = open_repeater(f, outcomes, room);
+    let written = write_all(opened, us, n, outcomes, room);
+    close_repeater(written, outcomes, room)
+}
+
+// The chunk's first register, its bytes, and zeros.
+fn chunk_bytes(bs: [u8; 27], at: usize, size: usize) -> [u8; 8]
+    requires { ⌜ (size ≤ 7) × (at + size ≤ 27) ⌝ }
+    ensures { λ r. ⌜ r ≡ chunkBytes bs at size ⌝ }
+{
+    let mut bytes = [0u8; 8];
+    bytes[0] = 5 + at as u8;
+    wire::copy(&mut bytes, 1, &bs[at..at + size]);
+    bytes
+}
+
+fn send_chunk(f: Flow, bs: [u8; 27], k: Chunk, outcomes: &[u8], room: &mut [u8]) -> Flow
+    requires { ⌜ (within k ≡ true) × (f .count < length (now outcomes)) × (16 * f .count + 16 ≤ length (now room)) ⌝ }
+    ensures { λ r. ⌜ onRoom r (now (room .exit)) ≡ step inRoom (now (outcomes .entry)) (chunkStep bs k) (onRoom f (now (room .entry))) ⌝ }
+    ensures bounds { λ r. ⌜ r .count + due (r .held) ≤ f .count + 1 + due (f .held) ⌝ }
+{
+    let at = k.at;
+    let size = k.size;
+    let bytes = chunk_bytes(bs, at, size);
+    send(f, size as u8 + 1, bytes, outcomes, room)
+}
+
+// The chunks of the table from `from` to `to`, behind an open repeater.
+fn send_chunks(
+    f: Flow,
+    bs: [u8; 27],
+    from: usize,
+    to: usize,
+    outcomes: &[u8],
+    room: &mut [u8],
+) -> Flow
+    requires { ⌜ (from ≤ to) × (to ≤ 5)
+        × (f .count + (to - from) + due (f .held) ≤ length (now outcomes)) × (16 * (f .count + (to - from) + due (f .held)) ≤ length (now room)) ⌝ }
+    ensures { λ r. ⌜ onRoom r (now (room .exit))
+        ≡ closing inRoom (now (outcomes .entry))
+        (run inRoom (now (outcomes .entry)) (map (chunkStep bs) (drop from (take to chunkTable))) (onRoom f (now (room .entry)))) ⌝ }
+    ensures bounds { λ r. ⌜ r .count + due (r .held) ≤ f .count + (to - from) + due (f .held) ⌝ }
+{
+    let mut f = f;
+    let went = f.went;
+    let Went::Going = went else {
+        return close_repeater(f, outcomes, room);
+    };
+    let mut i = from;
+    while i < to {
+        f = send_chunk(f, bs, CHUNKS[i], outcomes, room);
+        let went = f.went;
+        let Went::Going = went else {
+            return close_repeater(f, outcomes, room);
+        };
+        i += 1;
+    }
+    f
+}
+
+// `i2c_write_tuner` of the chunks from `from` to `to`.
+pub fn i2c_write_tuner(
+    f: Flow,
+    bs: [u8; 27],
+    from: usize,
+    to: usize,
+    outcomes: &[u8],
+    room: &mut [u8],
+) -> Flow
+    requires { ⌜ (from ≤ to) × (to ≤ 5)
+        × (f .count + (to - from) + 2 ≤ length (now outcomes)) × (16 * (f .count + (to - from) + 2) ≤ length (now room)) ⌝ }
+    ensures { λ r. ⌜ onRoom r (now (room .exit)) ≡ run inRoom (now (outcomes .entry)) (tunerWrite bs from to) (onRoom f (now (room .entry))) ⌝ }
+    ensures bounds { λ r. ⌜ r .count + due (r .held) ≤ f .count + (to - from) + 2 ⌝ }
+{
+    let opened = open_repeater(f, outcomes, room);
+    let sent = send_chunks(opened, bs, from, to, outcomes, room);
+    close_repeater(sent, outcomes, room)
+}
+
+// The first n of a list of plain steps; those behind a failed one are not taken.
+pub fn plain_all(f: Flow, es: [Entry; 10], n: usize, outcomes: &[u8], room: &mut [u8]) -> Flow
+    requires { ⌜ (n ≤ 10) × (f .count + n + due (f .held) ≤ length (now outcomes)) × (16 * (f .count + n + due (f .held)) ≤ length (now room)) ⌝ }
+    ensures { λ r. ⌜ onRoom r (now (room .exit))
+        ≡ run inRoom (now (outcomes .entry)) (map Plain (take n es)) (onRoom f (now (room .entry))) ⌝ }
+    ensures bounds { λ r. ⌜ r .count + due (r .held) ≤ f .count + n + due (f .held) ⌝ }
+{
+    let mut f = f;
+    let mut i = 0;
+    while i < n {
+        f = plain(f, es[i], outcomes, room);
+        i += 1;
+    }
+    f
+}
+
+// Which lent slice is too short for a call of at most n entries and m replies: 8, 9, 10, or 0 where all suffice.
+pub fn lent(n: usize, m: usize, room: usize, outcomes: usize, replies: usize) -> u8
+    requires { ⌜ n ≤ 4096 ⌝ }
+    ensures { λ r. ⌜ r ≡ lentOf n m room outcomes replies ⌝ }
+{
+    if room < 16 * n + 8 {
+        return ROOM;
+    }
+    if outcomes < n {
+        return OUTCOMES;
+    }
+    if replies < m {
+        return REPLIES;
+    }
+    0
+}
+
+// The trailer, and the answer: what the call answers where no step failed, else refusal 11 with the index.
+pub fn finish(f: Flow, whole: Answer, room: &mut [u8]) -> Answer
+    requires { ⌜ (f .count ≤ 4096) × (16 * f .count + 8 ≤ length (now room)) ⌝ }
+    ensures { λ r. ⌜ (r ≡ answerOf whole (f .went)) × (now (room .exit) ≡ sealed (now (room .entry)) (f .count)) ⌝ }
+{
+    let count = f.count;
+    let went = f.went;
+    transcript::seal(room, count);
+    match went {
+        Went::Going => whole,
+        Went::Failed(k) => Answer::Stopped(k),
+    }
+}
