@@ -11,140 +11,103 @@ use Rattle.fir.proofs.Widths.{told}
 use borrow.Author.Needs.{needs}
 use Rattle.fir.proofs.unpack_fir.Statement.{statement}
 use Rattle.fir.proofs.unpack_fir.Tie as tie
-use Rattle.fir.proofs.unpack_fir.Reads as reads
-use Rattle.fir.proofs.unpack_fir.Lts as lts
-use Rattle.fir.proofs.short.Reads as short-reads
-use Rattle.fir.proofs.split.Reads as split-reads
 
--- src/lib.rt:166:19
 array-read-split : tie.Need-array-read-split
 array-read-split c = search needs
 
--- src/lib.rt:166:25
 array-read-split-2 : tie.Need-array-read-split-2
 array-read-split-2 c = search needs
 
--- src/lib.rt:166:31
 array-read-split-3 : tie.Need-array-read-split-3
 array-read-split-3 c = search needs
 
--- src/lib.rt:166:9
 split-requires : tie.Need-split-requires
 split-requires c κs = search needs
 
--- src/lib.rt:167:19
 array-read-split-4 : tie.Need-array-read-split-4
 array-read-split-4 c = search needs
 
--- src/lib.rt:167:26
 array-read-split-5 : tie.Need-array-read-split-5
 array-read-split-5 c = search needs
 
--- src/lib.rt:167:33
 array-read-split-6 : tie.Need-array-read-split-6
 array-read-split-6 c = search needs
 
--- src/lib.rt:167:9
 split-requires-2 : tie.Need-split-requires-2
 split-requires-2 c κs = search needs
 
--- src/lib.rt:168:19
 array-read-split-7 : tie.Need-array-read-split-7
 array-read-split-7 c = search needs
 
--- src/lib.rt:168:26
 array-read-split-8 : tie.Need-array-read-split-8
 array-read-split-8 c = search needs
 
--- src/lib.rt:168:33
 array-read-split-9 : tie.Need-array-read-split-9
 array-read-split-9 c = search needs
 
--- src/lib.rt:168:9
 split-requires-3 : tie.Need-split-requires-3
 split-requires-3 c κs = search needs
 
--- src/lib.rt:169:19
 array-read-split-10 : tie.Need-array-read-split-10
 array-read-split-10 c = search needs
 
--- src/lib.rt:169:26
 array-read-split-11 : tie.Need-array-read-split-11
 array-read-split-11 c = search needs
 
--- src/lib.rt:169:33
 array-read-split-12 : tie.Need-array-read-split-12
 array-read-split-12 c = search needs
 
--- src/lib.rt:169:9
 split-requires-4 : tie.Need-split-requires-4
 split-requires-4 c κs = search needs
 
--- src/lib.rt:171:15
 array-read-short : tie.Need-array-read-short
 array-read-short c = search needs
 
--- src/lib.rt:171:9
 short-requires : tie.Need-short-requires
 short-requires c κs = search needs
 
--- src/lib.rt:172:15
 array-read-short-2 : tie.Need-array-read-short-2
 array-read-short-2 c = search needs
 
--- src/lib.rt:172:9
 short-requires-2 : tie.Need-short-requires-2
 short-requires-2 c κs = search needs
 
--- src/lib.rt:173:15
 array-read-short-3 : tie.Need-array-read-short-3
 array-read-short-3 c = search needs
 
--- src/lib.rt:173:9
 short-requires-3 : tie.Need-short-requires-3
 short-requires-3 c κs = search needs
 
--- src/lib.rt:174:15
 array-read-short-4 : tie.Need-array-read-short-4
 array-read-short-4 c = search needs
 
--- src/lib.rt:174:9
 short-requires-4 : tie.Need-short-requires-4
 short-requires-4 c κs = search needs
 
--- src/lib.rt:175:15
 array-read-short-5 : tie.Need-array-read-short-5
 array-read-short-5 c = search needs
 
--- src/lib.rt:175:9
 short-requires-5 : tie.Need-short-requires-5
 short-requires-5 c κs = search needs
 
--- src/lib.rt:176:15
 array-read-short-6 : tie.Need-array-read-short-6
 array-read-short-6 c = search needs
 
--- src/lib.rt:176:9
 short-requires-6 : tie.Need-short-requires-6
 short-requires-6 c κs = search needs
 
--- src/lib.rt:177:15
 array-read-short-7 : tie.Need-array-read-short-7
 array-read-short-7 c = search needs
 
--- src/lib.rt:177:9
 short-requires-7 : tie.Need-short-requires-7
 short-requires-7 c κs = search needs
 
--- src/lib.rt:178:15
 array-read-short-8 : tie.Need-array-read-short-8
 array-read-short-8 c = search needs
 
--- src/lib.rt:178:9
 short-requires-8 : tie.Need-short-requires-8
 short-requires-8 c κs = search needs
 
--- src/lib.rt:163:1
 returns : tie.Need-returns
 unfolding unpackOf
 returns c =
