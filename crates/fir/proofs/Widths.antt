@@ -1,6 +1,6 @@
 -- A signed number and its bits at a width: each is the other's inverse, within the width. The width is said by half the numbers that it has.
 -- Assumes nothing.
-use mathlib.Core.Path.{_≡_, refl, sym, ap, _∙_, subst}
+use mathlib.Core.Path.{_≡_, refl, ap, _∙_, subst}
 use mathlib.Core.Bool.{Bool, true, false}
 use Prim.Native.Nat.{ℕ, zero, suc, _-_, _*_, _%_, _^_, _<_, _≤_}
 use native.Mathlib.Nat.{lt-of-lt-of-le, mod-lt, mod-eq-of-lt, zero-add}

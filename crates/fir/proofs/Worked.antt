@@ -1,11 +1,9 @@
 -- Document 01, "Worked numbers": "`FIR_DEFAULT`: ca dc d7 d8 e0 f2 0e 35 06 50 9c 0d 71 11 14 71 74 19 41 a5."
 -- Besides: the ends of both widths. Assumes nothing.
 use mathlib.Core.Path.{_≡_, refl}
-use mathlib.Core.Bool.{Bool, true, false}
-use mathlib.Core.List.{List, [], _∷_, map}
-use Prim.Native.Nat.{ℕ}
-use lib.IntN.{ℤ, pos, negsuc}
-use Rattle.fir.specs.declared.Packed.{Packed}
+use mathlib.Core.Bool.{true, false}
+use mathlib.Core.List.{[], _∷_, map}
+use lib.IntN.{pos, negsuc}
 use Rattle.fir.specs.Packing.{firDefault, firFits, lowOf, packOf, packed, within}
 
 pub default-packed :

@@ -1,7 +1,6 @@
 -- `fir::bytes_of` meets its contract: the sixteen are taken one by one, and what each call ensures is that part of the definition.
 -- Assumes nothing.
 use mathlib.Core.Path.{_≡_, refl, ap, _∙_}
-use mathlib.Core.List.{List, _∷_}
 use Prim.Native.Nat.{ℕ, _+_, _*_, _/_, _%_}
 use lib.IntN.{ℤ, pos}
 use lib.ListN.{getD}

@@ -1,15 +1,14 @@
 -- `fir::signed` meets its contract: the lower half of the numbers stands for itself, the upper for those below zero.
 -- Assumes nothing.
 use mathlib.Core.Path.{_≡_, sym, ap, _∙_, subst}
-use Prim.Native.Nat.{ℕ, _-_, _*_, _<_, _^_}
+use Prim.Native.Nat.{_-_, _*_, _<_, _^_}
 use native.Mathlib.Omega.{arith}
 use borrow.Author.Needs.{needs}
 use borrow.Author.Tests.{lt-ltb, le-ltb}
 use mir.Syntax.{w32}
-use mir.Val.{SFits, toZ, ofZ}
+use mir.Val.{SFits, toZ}
 use mir.ValLaws.{toZ-pos, toZ-ofZ}
-use lib.IntN.{ℤ, pos, negsuc, _-ℤ_}
-use Rattle.fir.specs.Packing.{signedOf}
+use lib.IntN.{ℤ, negsuc, _-ℤ_}
 use Rattle.fir.proofs.Widths.{minus}
 use Rattle.fir.proofs.signed.Statement.{statement}
 use Rattle.fir.proofs.signed.Tie as tie

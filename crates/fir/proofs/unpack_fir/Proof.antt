@@ -1,7 +1,6 @@
 -- `fir::unpack_fir` meets its contract: the twenty are taken one by one, and what each call ensures is that part of the definition.
 -- Assumes nothing.
-use mathlib.Core.Path.{_≡_, refl, ap, _∙_}
-use mathlib.Core.List.{List, _∷_}
+use mathlib.Core.Path.{refl, ap, _∙_}
 use Prim.Native.Nat.{ℕ, _+_, _*_, _/_, _%_}
 use lib.Dec.{lit<, lit≤}
 use lib.ListN.{getD}
