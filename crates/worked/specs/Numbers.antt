@@ -9,6 +9,7 @@ use Rattle.board.specs.declared.Board.the-variants.{V4}
 use Rattle.board.specs.declared.Path.the-variants.{Hf, Vhf}
 use Rattle.board.specs.declared.Route.the-variants.{By}
 use Rattle.board.specs.Plans as board
+use Rattle.fir.specs.Packing.{firDefault, packed}
 use Rattle.gain.specs.Product.{gainOf, tenthsOf}
 use Rattle.gain.specs.Steps.{chosenOf, stepAt}
 use Rattle.pll.specs.declared.Kind.{Kind}
@@ -79,3 +80,12 @@ pub record Worked : Type 0 where
   pub notch-first : board.inNotch 85_000_000 ≡ true
   pub notch-last : board.inNotch 112_000_000 ≡ true
   pub notch-past : board.inNotch 112_000_001 ≡ false
+  -- `FIR_DEFAULT`: ca dc d7 d8 e0 f2 0e 35 06 50 9c 0d 71 11 14 71 74 19 41 a5
+  pub fir-default :
+      packed firDefault
+      ≡ record {
+        refusal = 0;
+        bytes =
+            0xca ∷ 0xdc ∷ 0xd7 ∷ 0xd8 ∷ 0xe0 ∷ 0xf2 ∷ 0x0e ∷ 0x35 ∷ 0x06 ∷ 0x50 ∷ 0x9c ∷ 0x0d ∷ 0x71 ∷ 0x11 ∷ 0x14 ∷ 0x71 ∷ 0x74 ∷ 0x19 ∷ 0x41 ∷ 0xa5
+            ∷ [];
+      }
