@@ -1,5 +1,5 @@
--- Document 01's table of kinds, "Transcript and script": one column for each of its rules, indexed by the kind. Kind 0 is none, so
--- the first number of each column is never looked at.
+-- Document 01's table of kinds, "Transcript and script": one column for each of its rules, indexed by the kind. There is no kind 0: the
+-- first number of each column only holds the place.
 -- Assumes nothing.
 use Prim.Native.Nat.{ℕ}
 use mathlib.Core.List.{List, [], _∷_}
@@ -7,7 +7,7 @@ use mathlib.Core.Bool.{Bool, _&&_, _||_}
 use lib.Dec.{leb, eqb}
 use lib.ListN.{getD}
 
---             0   1 repeater   2 write   3 read   4, 5 demod   6, 7 block   8 block read   9 wait
+-- in each: none, 1 repeater, 2 I2C write, 3 I2C read, 4 and 5 demod write, 6 and 7 block write, 8 block read, 9 wait
 -- "n": 1; 1..8; 1..5; 1 / 2; 1 / 2; 1; 0
 unfoldable pub nLow : List ℕ
 nLow = 0 ∷ 1 ∷ 1 ∷ 1 ∷ 1 ∷ 2 ∷ 1 ∷ 2 ∷ 1 ∷ 0 ∷ []

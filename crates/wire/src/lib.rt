@@ -1,6 +1,6 @@
 // Numbers as bytes, low byte first, at every width to 8; 32-bit signed numbers and binary32 by their bits; a copy into a
 // slice. Ours: no file of the Rust has it. Document 01, "Transcript and script": "u16, low byte first", "u32, low byte
-// first"; "The record": numbers that cross to a host as bytes.
+// first"; "Modules, leaves first": "Records cross there as bytes".
 ghost use mathlib.Core.Path.{_≡_};
 ghost use Prim.Native.Nat.{_+_, _^_, _≤_, _<_};
 ghost use lib.ListN.{length, take, drop};

@@ -3,7 +3,6 @@
 use mathlib.Core.Path.{refl}
 use borrow.Author.Needs.{needs}
 use Rattle.transcript.specs.Table.{rowFits, nLow, nHigh, outcomeMost, targetMost, addressMost, firstMost}
-use borrow.Author.Needs.{needs}
 use Rattle.transcript.proofs.row_fits.Statement.{statement}
 use Rattle.transcript.proofs.row_fits.Tie as tie
 

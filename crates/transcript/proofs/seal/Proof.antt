@@ -7,7 +7,6 @@ use denote.Ref.{now}
 use lib.Seq.{sets}
 use Rattle.wire.specs.Bytes.{leBytes}
 use Rattle.transcript.proofs.Laid.{trailer-laid}
-use borrow.Author.Needs.{needs}
 use Rattle.transcript.proofs.seal.Statement.{statement}
 use Rattle.transcript.proofs.seal.Tie as tie
 

@@ -7,7 +7,6 @@ use borrow.Author.Needs.{needs}
 use denote.Ref.{now}
 use lib.ListN.{length, take, drop, length-take, length-drop}
 use Rattle.transcript.proofs.Fitting.{entry-made}
-use borrow.Author.Needs.{needs}
 use Rattle.transcript.proofs.Entry.get.Statement.{statement}
 use Rattle.transcript.proofs.Entry.get.Tie as tie
 

@@ -6,7 +6,6 @@ use borrow.Author.Needs.{needs}
 use denote.Ref.{now}
 use lib.Seq.{sets}
 use Rattle.transcript.proofs.Laid.{entry-laid}
-use borrow.Author.Needs.{needs}
 use Rattle.transcript.proofs.Entry.put.Statement.{statement}
 use Rattle.transcript.proofs.Entry.put.Tie as tie
 
