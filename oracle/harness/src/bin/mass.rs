@@ -20,8 +20,19 @@ fn tunes(n: u64, dice: &mut Dice, tally: &mut Tally) -> [u64; 3] {
         let (refusal, line) = steps::tune(&tuner, hz, &replies);
         let found = answer(&Case { a: hz, tuner: tuner.bytes(), replies, ..plain(3) });
         let before = line.entries.is_empty();
-        seen[if refusal == 0 { 0 } else if before { 2 } else { 1 }] += 1;
-        let expected = (refusal, if refusal == 0 { hz } else { 0 }, (!before).then(|| page::section(&line.entries)), (!before).then(|| line.tuner.bytes()));
+        seen[if refusal == 0 {
+            0
+        } else if before {
+            2
+        } else {
+            1
+        }] += 1;
+        let expected = (
+            refusal,
+            if refusal == 0 { hz } else { 0 },
+            (!before).then(|| page::section(&line.entries)),
+            (!before).then(|| line.tuner.bytes()),
+        );
         tally.same((found.refusal, found.value, found.section, found.tuner), expected, || format!("tune {hz} on {tuner:?}"));
     }
     seen
@@ -59,7 +70,9 @@ fn references(n: u64, dice: &mut Dice, tally: &mut Tally) -> u64 {
         tally.same((found.refusal, found.tuner), (if wanted.is_some() { 0 } else { 4 }, next), || format!("{ppm} ppm of {nominal}"));
         let driver = Driver { board: 0, nominal, ppm, frequency: 0, rate: 0 };
         let found = answer(&Case { driver: driver.bytes(), ..plain(18) });
-        tally.same((found.refusal, found.value), (wanted.is_none() as u8, wanted.unwrap_or(0) as u64), || format!("driver's {ppm} ppm of {nominal}"));
+        tally.same((found.refusal, found.value), (wanted.is_none() as u8, wanted.unwrap_or(0) as u64), || {
+            format!("driver's {ppm} ppm of {nominal}")
+        });
     }
     refused
 }
@@ -103,6 +116,8 @@ fn main() {
     let refused = references(n, &mut dice, &mut tally);
     ratios(n, &mut dice, &mut tally);
     rates(n, &mut dice, &mut tally);
-    let detail = format!("; {n} each of tune ({taken} taken, {late} refused in the PLL, {early} before), gain ({over} past the Rust), ppm ({refused} refused), IF and resampler ratios, sample rate");
+    let detail = format!(
+        "; {n} each of tune ({taken} taken, {late} refused in the PLL, {early} before), gain ({over} past the Rust), ppm ({refused} refused), IF and resampler ratios, sample rate"
+    );
     tally.end("mass", detail)
 }
