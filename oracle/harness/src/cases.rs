@@ -157,6 +157,11 @@ pub fn random(call: u8, dice: &mut Dice) -> Case {
         33 => (case.a, case.c) = (dice.spread(), dice.below(2)),
         _ => {}
     }
+    // More than is needed may be lent; it is not looked at.
+    if !case.replies.is_empty() {
+        let more = dice.below(3) as usize;
+        case.replies.extend(dice.bytes(more));
+    }
     case
 }
 

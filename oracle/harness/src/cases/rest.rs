@@ -177,11 +177,6 @@ pub fn steps_of_each(all: &mut Vec<Case>, dice: &mut Dice) {
         }
         case.replies = dice.bytes(case.replies.len());
         all.push(case.clone());
-        if call == 22 {
-            case.outcomes[7] = 1; // init_baseband under another name: its steps are cut below call 21
-            all.push(case);
-            continue;
-        }
         all.extend(at_every_step(&case));
         if matches!(call, 8 | 20) {
             for path in [0, 1] {
