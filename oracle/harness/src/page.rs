@@ -1,5 +1,6 @@
-//! Document 01's rules, written from its text and not from the Rust. Wide whole numbers throughout: nothing wraps here
-//! unless the page says so.
+//! Document 01's rules, written from its text and not from the Rust's code. Wide whole numbers throughout: nothing wraps
+//! here unless the page says so. What the page leaves to the Rust (the gain steps, the V4's bands, the rates at which the
+//! IF changes) is copied here as plain numbers.
 use rusb::rec::Entry;
 
 /// "nominal + nominal·ppm / 1,000,000, the quotient cut toward zero"; None where it is not 1..4,294,967,295.

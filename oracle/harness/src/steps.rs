@@ -1,5 +1,6 @@
-//! What the larger calls send when all is done, worked out from document 01's rules (page.rs) and its order of steps, to
-//! be held against what the Rust sends. Written apart from the Rust: a list of steps over a record, no interface.
+//! What the larger calls send when all is done, to be held against what the Rust sends: a list of steps over a record, no
+//! interface. The numbers come from document 01's formulas (page.rs). The register tables, masks and values are the
+//! published Rust's, for document 01 refers to it for them; they are written out here a second time, not shared with it.
 use crate::page;
 use crate::records::{Driver, FIRST, Tuner};
 use rusb::rec::Entry;
