@@ -1,5 +1,6 @@
-//! Document 01's rules, written from its text and not from the Rust. Wide whole numbers throughout: nothing wraps here
-//! unless the page says so.
+//! Document 01's rules, written from its text and not from the Rust's code. Wide whole numbers throughout: nothing wraps
+//! here unless the page says so. What the page leaves to the Rust (the gain steps, the V4's bands, the rates at which the
+//! IF changes) is copied here as plain numbers.
 use rusb::rec::Entry;
 
 /// "nominal + nominal·ppm / 1,000,000, the quotient cut toward zero"; None where it is not 1..4,294,967,295.
@@ -54,8 +55,9 @@ fn fraction(first: u64, k: u64) -> (u64, u64) {
     (sum, f)
 }
 
-pub const STEPS: [i32; 29] =
-    [0, 9, 14, 27, 37, 77, 87, 125, 144, 157, 166, 197, 207, 229, 254, 280, 297, 328, 338, 364, 372, 386, 402, 421, 434, 439, 445, 480, 496];
+pub const STEPS: [i32; 29] = [
+    0, 9, 14, 27, 37, 77, 87, 125, 144, 157, 166, 197, 207, 229, 254, 280, 297, 328, 338, 364, 372, 386, 402, 421, 434, 439, 445, 480, 496,
+];
 
 /// "One binary32 multiplication, cut toward zero into i32, saturating, NaN to 0."
 pub fn tenths(db: f32) -> i32 {

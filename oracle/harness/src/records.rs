@@ -101,7 +101,19 @@ impl Tuner {
             return None;
         }
         let doubtful = marks.map(|mark| mark == 1);
-        Some(Self { kind, address, shadow, nominal, corrected, lock: flag(lock)?, gain, intermediate, notch: flag(notch)?, attempted, doubtful })
+        Some(Self {
+            kind,
+            address,
+            shadow,
+            nominal,
+            corrected,
+            lock: flag(lock)?,
+            gain,
+            intermediate,
+            notch: flag(notch)?,
+            attempted,
+            doubtful,
+        })
     }
 
     /// What the original's own state holds of this record.

@@ -1,5 +1,6 @@
-//! What the larger calls send when all is done, worked out from document 01's rules (page.rs) and its order of steps, to
-//! be held against what the Rust sends. Written apart from the Rust: a list of steps over a record, no interface.
+//! What the larger calls send when all is done, to be held against what the Rust sends: a list of steps over a record, no
+//! interface. The numbers come from document 01's formulas (page.rs). The register tables, masks and values are the
+//! published Rust's, for document 01 refers to it for them; they are written out here a second time, not shared with it.
 use crate::page;
 use crate::records::{Driver, FIRST, Tuner};
 use rusb::rec::Entry;
@@ -51,6 +52,7 @@ impl Line {
 }
 
 /// Row start in MHz, open_d, multiplexer, tracking filter.
+#[rustfmt::skip]
 const ROWS: [(u64, u8, u8, u8); 21] = [
     (0, 8, 0x02, 0xdf), (50, 8, 0x02, 0xbe), (55, 8, 0x02, 0x8b), (60, 8, 0x02, 0x7b), (65, 8, 0x02, 0x69), (70, 8, 0x02, 0x58), (75, 0, 0x02, 0x44),
     (80, 0, 0x02, 0x44), (90, 0, 0x02, 0x34), (100, 0, 0x02, 0x34), (110, 0, 0x02, 0x24), (120, 0, 0x02, 0x24), (140, 0, 0x02, 0x14), (180, 0, 0x02, 0x13),
@@ -60,6 +62,7 @@ const ROWS: [(u64, u8, u8, u8); 21] = [
 fn mux(line: &mut Line, hz: u64) {
     let (_, open, rf, filter) = ROWS.into_iter().filter(|row| hz >= row.0 * 1_000_000).next_back().unwrap();
     let open = if line.tuner.notch { 0 } else { open };
+    #[rustfmt::skip]
     let writes = [
         (0x17, 0xa0, 0x30), (0x17, open, 0x08), (0x1a, rf, 0xc3), (0x1b, filter, 0xff), (0x10, 0x0b, 0x0b), (0x08, 0, 0x3f), (0x09, 0, 0x3f),
         (0x1d, 0x18, 0x38), (0x1c, 0x24, 0x04), (0x1e, 14, 0x1f), (0x1a, 0x20, 0x30),
@@ -144,7 +147,17 @@ pub fn intermediate(line: &mut Line, hz: u64) {
 
 fn bandwidth(line: &mut Line, hz: u32) {
     line.repeater(1);
-    line.mask(0x0a, if hz <= 6_000_000 { 8 } else if hz <= 7_000_000 { 6 } else { 0 }, 0x0f);
+    line.mask(
+        0x0a,
+        if hz <= 6_000_000 {
+            8
+        } else if hz <= 7_000_000 {
+            6
+        } else {
+            0
+        },
+        0x0f,
+    );
     line.repeater(0);
 }
 

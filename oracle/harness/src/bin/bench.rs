@@ -33,22 +33,38 @@ fn rows() -> Vec<(&'static str, usize, Work)> {
         ("tune-no-lock", 53, tune(a, replies_for(0, None, 0), 100_000_000)),
         ("tune-lock-at-once", 25, tune(b, replies_for(0, Some(0), 0), 100_000_000)),
         ("tune-refused", 13, tune(c, vec![], 1_900_000_000)),
-        ("gain", 7, Box::new(move || {
-            rec::begin(&[], &[]);
-            let _ = black_box(d.set_gain(black_box(32.8)));
-        })),
-        ("sample-rate", 17, Box::new(move || {
-            rec::begin(&[], &[]);
-            let _ = black_box(block_on(driver.set_sample_rate(black_box(2_048_000))));
-        })),
-        ("initialise", 19, Box::new(move || {
-            rec::begin(&[], &[]);
-            let _ = black_box(e.initialize());
-        })),
-        ("baseband", 45, Box::new(move || {
-            rec::begin(&[], &[]);
-            let _ = black_box(demod::init_baseband(run::usb().as_hw()));
-        })),
+        (
+            "gain",
+            7,
+            Box::new(move || {
+                rec::begin(&[], &[]);
+                let _ = black_box(d.set_gain(black_box(32.8)));
+            }),
+        ),
+        (
+            "sample-rate",
+            17,
+            Box::new(move || {
+                rec::begin(&[], &[]);
+                let _ = black_box(block_on(driver.set_sample_rate(black_box(2_048_000))));
+            }),
+        ),
+        (
+            "initialise",
+            19,
+            Box::new(move || {
+                rec::begin(&[], &[]);
+                let _ = black_box(e.initialize());
+            }),
+        ),
+        (
+            "baseband",
+            45,
+            Box::new(move || {
+                rec::begin(&[], &[]);
+                let _ = black_box(demod::init_baseband(run::usb().as_hw()));
+            }),
+        ),
     ]
 }
 

@@ -102,11 +102,15 @@ fn chain(length: u64, dice: &mut Dice, tally: &mut Tally, seen: &mut [u64; 3]) {
         tally.same(record.seen(), long.see(), || format!("record and long-lived chip after {case:?}"));
         for place in 0..27 {
             tally.same(record.doubtful[place], chip.done[place] != Some(true), || format!("doubtful mark {place} after {case:?}"));
-            tally.that(record.doubtful[place] || record.attempted[place] == chip.bytes[place], || format!("chip's byte {place} after {case:?}"));
+            tally.that(record.doubtful[place] || record.attempted[place] == chip.bytes[place], || {
+                format!("chip's byte {place} after {case:?}")
+            });
         }
         judge::all(&case, &found, tally);
         if call == 9 && found.refusal == 0 {
-            tally.that(record.doubtful == [false; 27] && record.shadow == record.attempted && record.attempted == chip.bytes, || format!("reload {case:?}"));
+            tally.that(record.doubtful == [false; 27] && record.shadow == record.attempted && record.attempted == chip.bytes, || {
+                format!("reload {case:?}")
+            });
         }
     }
 }

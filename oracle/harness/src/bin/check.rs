@@ -148,7 +148,11 @@ fn worked(tally: &mut Tally) {
     }
     let bytes = |call: u8, a: u64| {
         let found = answer(&Case { a, ..plain(call) });
-        if found.answered.is_empty() { judge::entries(&found).iter().flat_map(|entry| entry[8..8 + entry[3] as usize].to_vec()).collect() } else { found.answered }
+        if found.answered.is_empty() {
+            judge::entries(&found).iter().flat_map(|entry| entry[8..8 + entry[3] as usize].to_vec()).collect()
+        } else {
+            found.answered
+        }
     };
     tally.same(bytes(27, 3_570_000), vec![0x38, 0x11, 0x12], || "IF 3,570,000".into());
     tally.same(bytes(34, 3_570_000), vec![0x07, 0xee, 0xee], || "IF 3,570,000, positive".into());
@@ -177,7 +181,8 @@ fn worked(tally: &mut Tally) {
 
 /// Claims on single calls: which registers a call touches, in which order.
 fn order(tally: &mut Tally, dice: &mut Dice) {
-    let registers = |found: &Answer| judge::entries(found).iter().filter(|entry| entry[0] == 2).map(|entry| (entry[8], entry[3])).collect::<Vec<_>>();
+    let registers =
+        |found: &Answer| judge::entries(found).iter().filter(|entry| entry[0] == 2).map(|entry| (entry[8], entry[3])).collect::<Vec<_>>();
     let longest = answer(&plain(3));
     let head = [0x17, 0x17, 0x1a, 0x1b, 0x10, 0x08, 0x09, 0x1d, 0x1c, 0x1e, 0x1a, 0x10, 0x14, 0x16, 0x15, 0x12];
     tally.same(registers(&longest)[..16].iter().map(|pair| pair.0).collect(), head.to_vec(), || "order of tune's writes".into());

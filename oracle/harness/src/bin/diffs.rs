@@ -38,7 +38,11 @@ fn rust<T: Debug>(work: impl FnOnce() -> T) -> String {
 fn page(case: Case) -> String {
     let found = answer(&case);
     let value = if found.answered.is_empty() { format!("value {}", found.value) } else { format!("{:02x?}", found.answered) };
-    if found.refusal == 0 { format!("{value}, {} entries", found.count) } else { format!("refused {}, {} entries", found.refusal, found.count) }
+    if found.refusal == 0 {
+        format!("{value}, {} entries", found.count)
+    } else {
+        format!("refused {}, {} entries", found.refusal, found.count)
+    }
 }
 
 fn row(number: &str, input: &str, found: String, ruling: String) {
@@ -54,8 +58,18 @@ fn record(intermediate: u64) -> Tuner {
 fn tuned(chip: &R82xx, hz: u64) -> Result<(u64, String)> {
     let asked = chip.set_frequency(hz)?;
     let made = run::entries();
-    let written = |register: u8| made.iter().rfind(|entry| entry[0] == 2 && entry[3] == 2 && entry[8] == register).map_or(0, |entry| entry[9]);
-    Ok((asked, format!("taken, 0x10 {:#04x}, 0x14 {:#04x}, 0x16 {:#04x}, 0x15 {:#04x}", written(0x10), written(0x14), written(0x16), written(0x15))))
+    let written =
+        |register: u8| made.iter().rfind(|entry| entry[0] == 2 && entry[3] == 2 && entry[8] == register).map_or(0, |entry| entry[9]);
+    Ok((
+        asked,
+        format!(
+            "taken, 0x10 {:#04x}, 0x14 {:#04x}, 0x16 {:#04x}, 0x15 {:#04x}",
+            written(0x10),
+            written(0x14),
+            written(0x16),
+            written(0x15)
+        ),
+    ))
 }
 
 fn tune(number: &str, what: &str, hz: u64, intermediate: u64) {
@@ -84,7 +98,9 @@ fn corrected(number: &str, ppm: i32, hz: u64) {
     let set = rust(|| chip.set_ppm(ppm).map(|()| chip.see().corrected));
     row(number, &format!("set_ppm({ppm}) on 28800000, corrected"), set, page(Case { d: ppm as u32, ..plain(10) }));
     let ruling = match harness::page::corrected(28_800_000, ppm) {
-        Some(corrected) => page(Case { a: hz, tuner: Tuner { corrected, ..record(2_300_000) }.bytes(), replies: replies_for(1, Some(0), 0), ..plain(3) }),
+        Some(corrected) => {
+            page(Case { a: hz, tuner: Tuner { corrected, ..record(2_300_000) }.bytes(), replies: replies_for(1, Some(0), 0), ..plain(3) })
+        }
         None => "not reachable".into(),
     };
     row(&format!("{number}t"), &format!("then tune {hz}"), rust(|| tuned(&chip, hz)), ruling);
@@ -101,7 +117,12 @@ fn references() {
         let driver = Driver { board: 0, nominal: 28_800_000, ppm, frequency: 0, rate: 0 };
         let chip = Arc::new(run::chip(&record(2_300_000)));
         let made = page(Case { a: 28_800_000, d: ppm as u32, ..plain(16) });
-        row(number, &format!("corrected_xtal_hz at {ppm} ppm of 28800000"), rust(|| run::driver(chip, 1, &driver).see_corrected()), format!("{made} (at the driver's making)"));
+        row(
+            number,
+            &format!("corrected_xtal_hz at {ppm} ppm of 28800000"),
+            rust(|| run::driver(chip, 1, &driver).see_corrected()),
+            format!("{made} (at the driver's making)"),
+        );
     }
     let driver = Driver { board: 0, nominal: 28_800_000, ppm: -1_000_000, frequency: 0, rate: 0 };
     let chip = Arc::new(run::chip(&record(2_300_000)));
@@ -110,19 +131,41 @@ fn references() {
 }
 
 fn gains() {
-    for (number, bits) in [("10", 0xcd4c_cccc_u32), ("11", 0xcd4c_cccb), ("11a", 0xcd4c_cccd), ("11b", 0xff80_0000), ("11c", 0xcd4c_ccca), ("11d", 0x7fc0_0000)] {
+    for (number, bits) in [
+        ("10", 0xcd4c_cccc_u32),
+        ("11", 0xcd4c_cccb),
+        ("11a", 0xcd4c_cccd),
+        ("11b", 0xff80_0000),
+        ("11c", 0xcd4c_ccca),
+        ("11d", 0x7fc0_0000),
+    ] {
         let db = f32::from_bits(bits);
         let chip = run::chip(&record(0));
         let ruling = answer(&Case { a: bits as u64, ..plain(4) });
-        row(number, &format!("gain {bits:#010x}, product {}", (db * 10.0) as f64), rust(|| chip.set_gain(db)), format!("{} dB, {} entries", f32::from_bits(ruling.value as u32), ruling.count));
+        row(
+            number,
+            &format!("gain {bits:#010x}, product {}", (db * 10.0) as f64),
+            rust(|| chip.set_gain(db)),
+            format!("{} dB, {} entries", f32::from_bits(ruling.value as u32), ruling.count),
+        );
     }
 }
 
 fn small() {
     let usb = run::usb();
     for (number, pin) in [("12", 8), ("12a", 255)] {
-        row(number, &format!("set_gpio_output({pin})"), rust(|| usb.set_gpio_output(pin).map(|()| written(&run::entries()))), page(Case { a: pin as u64, ..plain(31) }));
-        row(number, &format!("set_gpio_bit({pin}, true)"), rust(|| usb.set_gpio_bit(pin, true).map(|()| written(&run::entries()))), page(Case { a: pin as u64, ..plain(32) }));
+        row(
+            number,
+            &format!("set_gpio_output({pin})"),
+            rust(|| usb.set_gpio_output(pin).map(|()| written(&run::entries()))),
+            page(Case { a: pin as u64, ..plain(31) }),
+        );
+        row(
+            number,
+            &format!("set_gpio_bit({pin}, true)"),
+            rust(|| usb.set_gpio_bit(pin, true).map(|()| written(&run::entries()))),
+            page(Case { a: pin as u64, ..plain(32) }),
+        );
     }
     for (number, register) in [("13", 0), ("13a", 4), ("13b", 0x20), ("13c", 0xff)] {
         let chip = run::chip(&record(0));
@@ -133,10 +176,20 @@ fn small() {
     row("14a", "set_if_freq_xtal(0, 0)", rust(|| demod::set_if_freq_xtal(usb.as_hw(), 0, 0)), page(Case { a: 0, b: 0, ..plain(27) }));
     row("15", "resample_regs(0, 1)", rust(|| registers::resample_regs(0, 1)), page(Case { a: 0, b: 1, ..plain(35) }));
     row("16", "resample_regs(1, 0)", rust(|| registers::resample_regs(1, 0)), page(Case { a: 1, b: 0, ..plain(35) }));
-    row("16a", "set_sample_rate_xtal(1, 0)", rust(|| demod::set_sample_rate_xtal(usb.as_hw(), 1, 0)), page(Case { a: 1, b: 0, ..plain(28) }));
+    row(
+        "16a",
+        "set_sample_rate_xtal(1, 0)",
+        rust(|| demod::set_sample_rate_xtal(usb.as_hw(), 1, 0)),
+        page(Case { a: 1, b: 0, ..plain(28) }),
+    );
     for (number, register, length) in [("17", 0xf9, 7), ("17a", 0xfb, 14), ("17b", 0xf8, 7)] {
         let sent = rust(|| usb.i2c_write_tuner(0x74, register, &vec![0; length]).map(|()| registers_of(&run::entries())));
-        row(number, &format!("i2c_write_tuner from {register:#x}, {length} bytes"), sent, "not public: initialise and reload write 0x05..0x1f alone".into());
+        row(
+            number,
+            &format!("i2c_write_tuner from {register:#x}, {length} bytes"),
+            sent,
+            "not public: initialise and reload write 0x05..0x1f alone".into(),
+        );
     }
 }
 
@@ -155,10 +208,30 @@ fn makings() {
         let hw: Arc<dyn HardwareInterface> = run::usb();
         R82xx::new(hw, kind, 0x74, nominal)
     };
-    row("18", "new(E4000, nominal 28800000), then tune 100 MHz", rust(|| tuned(&new(TunerType::E4000, 28_800_000), 100 * MHZ)), page(Case { a: 2, ..plain(1) }));
-    row("18a", "new(R828D, nominal 0), then tune 100 MHz", rust(|| tuned(&new(TunerType::R828D, 0), 100 * MHZ)), page(Case { b: 0, ..plain(1) }));
-    row("18b", "new(R828D, nominal 2^32), then tune 100 MHz", rust(|| tuned(&new(TunerType::R828D, 1 << 32), 100 * MHZ)), page(Case { b: 1 << 32, ..plain(1) }));
-    row("18c", "new(R828D, nominal 2^32 + 1), then set_ppm(-2^31)", rust(|| new(TunerType::R828D, (1 << 32) + 1).set_ppm(i32::MIN)), page(Case { b: (1 << 32) + 1, ..plain(1) }));
+    row(
+        "18",
+        "new(E4000, nominal 28800000), then tune 100 MHz",
+        rust(|| tuned(&new(TunerType::E4000, 28_800_000), 100 * MHZ)),
+        page(Case { a: 2, ..plain(1) }),
+    );
+    row(
+        "18a",
+        "new(R828D, nominal 0), then tune 100 MHz",
+        rust(|| tuned(&new(TunerType::R828D, 0), 100 * MHZ)),
+        page(Case { b: 0, ..plain(1) }),
+    );
+    row(
+        "18b",
+        "new(R828D, nominal 2^32), then tune 100 MHz",
+        rust(|| tuned(&new(TunerType::R828D, 1 << 32), 100 * MHZ)),
+        page(Case { b: 1 << 32, ..plain(1) }),
+    );
+    row(
+        "18c",
+        "new(R828D, nominal 2^32 + 1), then set_ppm(-2^31)",
+        rust(|| new(TunerType::R828D, (1 << 32) + 1).set_ppm(i32::MIN)),
+        page(Case { b: (1 << 32) + 1, ..plain(1) }),
+    );
     let fir = |at: usize, value: i32| {
         let mut values = [0; 16];
         values[at] = value;
@@ -172,7 +245,12 @@ fn makings() {
     let low = Tuner { intermediate: 0, ..Tuner::fresh(1, 100_000_000, 0x74) };
     let ruling = answer(&Case { a: 885 * MHZ, tuner: low.bytes(), ..plain(3) });
     let byte = judge::entries(&ruling)[13][9];
-    row("20", "N below 13: reference 100000000, lo 885000000", rust(|| tuned(&run::chip(&low), 885 * MHZ)), format!("the same: 0x14 gets {byte:#04x}"));
+    row(
+        "20",
+        "N below 13: reference 100000000, lo 885000000",
+        rust(|| tuned(&run::chip(&low), 885 * MHZ)),
+        format!("the same: 0x14 gets {byte:#04x}"),
+    );
 }
 
 /// The packets of pages above 15 and registers above 0xff are those of others; the entries tell them apart.
@@ -183,7 +261,12 @@ fn aliases() {
         rec::begin(&[], &[]);
         let done = demod::write_reg_direct(usb.as_hw(), page, register, 7).is_ok();
         let packet = rec::with(|r| format!("value {:#06x}, index {:#06x}", r.transfers[0].value, r.transfers[0].index));
-        row(number, &format!("write_reg_direct({page}, {register:#x}, 7)"), format!("done {done}, packet {packet}"), format!("entry with page {page}, register {register:#x}"));
+        row(
+            number,
+            &format!("write_reg_direct({page}, {register:#x}, 7)"),
+            format!("done {done}, packet {packet}"),
+            format!("entry with page {page}, register {register:#x}"),
+        );
     }
     rec::with(|r| r.keep = false);
 }
@@ -210,7 +293,10 @@ fn left_out() {
     for (name, kind) in [("R828D", 1), ("R820T", 0)] {
         let given = Driver { board: 1, nominal: 28_800_000, ppm: 0, frequency: 100 * MHZ, rate: 2_048_000 };
         let fresh = || run::driver(Arc::new(run::chip(&Tuner::fresh(kind, 28_800_000, 0x74))), kind, &given);
-        println!("    {name} Driver::set_frequency(7 MHz): {}", rust(|| block_on(fresh().set_frequency(7 * MHZ, None)).map(|_| kinds(&run::entries()))));
+        println!(
+            "    {name} Driver::set_frequency(7 MHz): {}",
+            rust(|| block_on(fresh().set_frequency(7 * MHZ, None)).map(|_| kinds(&run::entries())))
+        );
         println!("    {name} Driver::set_ppm(1): {}", rust(|| block_on(fresh().set_ppm(1)).map(|()| kinds(&run::entries()))));
     }
 }

@@ -18,7 +18,18 @@ fn main() {
     for first in -2048..2048 {
         for second in -2048..2048 {
             // The same pair in all places: places do not share bytes, and the next loop takes them apart.
-            one(std::array::from_fn(|i| if i < 8 { 0 } else if i % 2 == 0 { first } else { second }), &mut tally);
+            one(
+                std::array::from_fn(|i| {
+                    if i < 8 {
+                        0
+                    } else if i % 2 == 0 {
+                        first
+                    } else {
+                        second
+                    }
+                }),
+                &mut tally,
+            );
         }
         for at in 8..16 {
             one(std::array::from_fn(|i| if i == at { first } else { 0 }), &mut tally);

@@ -1,4 +1,4 @@
-//! Random calls against document 01's rules: `mass N` runs N tunes, N gains, N references, N IFs and N rates and compares
+//! Random calls against document 01's rules: `mass N` runs N tunes, gains, corrections, IFs, ratios and rates and compares
 //! the whole answer: refusal, value, every entry, the record afterwards.
 use harness::answer::answer;
 use harness::case::{By, Case};
@@ -20,8 +20,19 @@ fn tunes(n: u64, dice: &mut Dice, tally: &mut Tally) -> [u64; 3] {
         let (refusal, line) = steps::tune(&tuner, hz, &replies);
         let found = answer(&Case { a: hz, tuner: tuner.bytes(), replies, ..plain(3) });
         let before = line.entries.is_empty();
-        seen[if refusal == 0 { 0 } else if before { 2 } else { 1 }] += 1;
-        let expected = (refusal, if refusal == 0 { hz } else { 0 }, (!before).then(|| page::section(&line.entries)), (!before).then(|| line.tuner.bytes()));
+        seen[if refusal == 0 {
+            0
+        } else if before {
+            2
+        } else {
+            1
+        }] += 1;
+        let expected = (
+            refusal,
+            if refusal == 0 { hz } else { 0 },
+            (!before).then(|| page::section(&line.entries)),
+            (!before).then(|| line.tuner.bytes()),
+        );
         tally.same((found.refusal, found.value, found.section, found.tuner), expected, || format!("tune {hz} on {tuner:?}"));
     }
     seen
@@ -59,7 +70,9 @@ fn references(n: u64, dice: &mut Dice, tally: &mut Tally) -> u64 {
         tally.same((found.refusal, found.tuner), (if wanted.is_some() { 0 } else { 4 }, next), || format!("{ppm} ppm of {nominal}"));
         let driver = Driver { board: 0, nominal, ppm, frequency: 0, rate: 0 };
         let found = answer(&Case { driver: driver.bytes(), ..plain(18) });
-        tally.same((found.refusal, found.value), (wanted.is_none() as u8, wanted.unwrap_or(0) as u64), || format!("driver's {ppm} ppm of {nominal}"));
+        tally.same((found.refusal, found.value), (wanted.is_none() as u8, wanted.unwrap_or(0) as u64), || {
+            format!("driver's {ppm} ppm of {nominal}")
+        });
     }
     refused
 }
@@ -84,6 +97,18 @@ fn ratios(n: u64, dice: &mut Dice, tally: &mut Tally) {
     }
 }
 
+fn intermediates(n: u64, dice: &mut Dice, tally: &mut Tally) {
+    for _ in 0..n {
+        let tuner = cases::random_tuner(dice);
+        let hz = if dice.yes() { dice.within(3_499_990, 3_500_010) } else { dice.spread() };
+        let mut line = steps::Line::new(&tuner);
+        steps::intermediate(&mut line, hz);
+        let found = answer(&Case { a: hz, tuner: tuner.bytes(), ..plain(7) });
+        let expected = (0, Some(page::section(&line.entries)), Some(line.tuner.bytes()));
+        tally.same((found.refusal, found.section, found.tuner), expected, || format!("IF {hz}"));
+    }
+}
+
 fn rates(n: u64, dice: &mut Dice, tally: &mut Tally) {
     for _ in 0..n {
         let (tuner, driver) = (cases::random_tuner(dice), cases::random_driver(dice));
@@ -102,7 +127,10 @@ fn main() {
     let over = gains(n, &mut dice, &mut tally);
     let refused = references(n, &mut dice, &mut tally);
     ratios(n, &mut dice, &mut tally);
+    intermediates(n, &mut dice, &mut tally);
     rates(n, &mut dice, &mut tally);
-    let detail = format!("; {n} each of tune ({taken} taken, {late} refused in the PLL, {early} before), gain ({over} past the Rust), ppm ({refused} refused), IF and resampler ratios, sample rate");
+    let detail = format!(
+        "; {n} each of tune ({taken} taken, {late} refused in the PLL, {early} before), gain ({over} past the Rust), ppm ({refused} refused), IF, ratios, sample rate"
+    );
     tally.end("mass", detail)
 }

@@ -39,15 +39,20 @@ thread_local! {
 }
 
 /// The thread's recorder. `work` must not make a step itself; no caller here does.
-#[inline]
+#[inline(always)]
 pub fn with<T>(work: impl FnOnce(&mut Recorder) -> T) -> T {
     HERE.with(|cell| {
         if cell.get().is_null() {
-            cell.set(Box::leak(Box::new(Recorder { entries: Vec::with_capacity(4096), ..Default::default() })));
+            cell.set(fresh());
         }
         // Safe: the pointer is this thread's own, never freed, and no two borrows of it overlap (see above).
         work(unsafe { &mut *cell.get() })
     })
+}
+
+#[cold]
+fn fresh() -> *mut Recorder {
+    Box::leak(Box::new(Recorder { entries: Vec::with_capacity(4096), ..Default::default() }))
 }
 
 /// Start a run with this script.
@@ -78,13 +83,9 @@ pub fn step(kind: u8, target: u16, n: usize, address: u16, data: &[u8]) -> Step 
     with(|r| {
         if r.depth == 0 {
             let scripted = r.outcomes.get(r.entries.len()).is_some_and(|&byte| byte != 0);
-            let mut entry = [0; 16];
-            entry[0] = kind;
-            entry[1] = (scripted && kind != 9) as u8; // a wait's outcome is ignored
-            entry[2] = target as u8;
-            entry[3] = n as u8;
-            entry[4..6].copy_from_slice(&address.to_le_bytes());
-            entry[8..8 + data.len()].copy_from_slice(data);
+            let outcome = scripted && kind != 9; // a wait's outcome is ignored
+            let head = [kind, outcome as u8, target as u8, n as u8, address as u8, (address >> 8) as u8, 0, 0];
+            let entry = (u64::from_le_bytes(head) as u128 | (packed(data) as u128) << 64).to_le_bytes();
             r.entries.push(entry);
         }
         r.depth += 1;
@@ -92,11 +93,21 @@ pub fn step(kind: u8, target: u16, n: usize, address: u16, data: &[u8]) -> Step 
     Step
 }
 
+/// An entry's data bytes as one number. Built so because a copy of one or two bytes through memcpy costs more than the
+/// rest of a step.
+#[inline]
+fn packed(data: &[u8]) -> u64 {
+    assert!(data.len() <= 8, "an entry has room for eight bytes");
+    data.iter().rev().fold(0, |word, &byte| word << 8 | byte as u64)
+}
+
 impl Recorder {
     /// The entry whose leaf is running, if one is.
+    #[inline]
     fn current(&mut self) -> Option<&mut Entry> {
         if self.depth == 0 { None } else { self.entries.last_mut() }
     }
+    #[inline]
     fn note(&mut self, kind: u8, request: u8, value: u16, index: u16, data: &[u8], done: bool) {
         if self.keep {
             self.transfers.push(Transfer { kind, request, value, index, data: data.to_vec(), done });
@@ -104,6 +115,7 @@ impl Recorder {
     }
 }
 
+#[inline]
 pub fn write(kind: u8, request: u8, value: u16, index: u16, data: &[u8]) -> Result<usize> {
     with(|r| {
         let done = r.current().is_none_or(|entry| entry[1] == 0);
@@ -112,6 +124,7 @@ pub fn write(kind: u8, request: u8, value: u16, index: u16, data: &[u8]) -> Resu
     })
 }
 
+#[inline]
 pub fn read(kind: u8, request: u8, value: u16, index: u16, data: &mut [u8]) -> Result<usize> {
     with(|r| {
         // Only the reads of document 01's table take replies; the demod's sync read behind each write gets zeros.
@@ -123,7 +136,7 @@ pub fn read(kind: u8, request: u8, value: u16, index: u16, data: &mut [u8]) -> R
                 r.taken += 1;
             }
             if let Some(entry) = r.current() {
-                entry[8..8 + data.len()].copy_from_slice(data);
+                entry[8..].copy_from_slice(&packed(data).to_le_bytes());
             }
         }
         r.note(kind, request, value, index, data, done);
