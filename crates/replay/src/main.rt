@@ -1,0 +1,83 @@
+// Judges the port by the stored list of answers, which stands on its standard input (docs/VECTORS.md). Ours: no file of the Rust has it.
+// A call is judged by one function of its group's file, named by one arm of `judge`; what has no arm is not there yet.
+// A case is the same only where everything that came back is: refusal, value, index, count, the bytes written and those past them, next records.
+mod layout;
+mod compare;
+mod leaves;
+mod report;
+use compare::Verdict;
+
+// The function that judges a call, by its number.
+fn judge(c: &[u8]) -> Verdict {
+    let call = layout::one(c, layout::CALL);
+    match call {
+        33 => leaves::plan_tuning(c),
+        34 => leaves::if_freq_regs(c),
+        35 => leaves::resample_regs(c),
+        38 => leaves::read_section(c),
+        _ => Verdict::Later,
+    }
+}
+
+// One case: read, judged, counted. False where the input is no list of cases any more. No loop, and fresh arrays: so it has no proof file.
+fn step(list: u64, i: u64, tally: &mut [u64; 192]) -> bool {
+    let mut head = [0u8; 4];
+    io::read_full(0, &mut head);
+    let n = layout::four(&head, 0) as usize;
+    if n < 72 || 2048 < n {
+        return false;
+    }
+    let mut b = [0u8; 2048];
+    io::read_full(0, &mut b[4..n]);
+    let c = &b[..n];
+    if !layout::whole(c) {
+        return false;
+    }
+    let call = layout::one(c, layout::CALL);
+    let v = judge(c);
+    report::count(list, i, call, v, tally);
+    true
+}
+
+fn starts() -> bool {
+    let mut mark = [0u8; 8];
+    io::read_full(0, &mut mark);
+    check::same(&mark, b"PASEVEC1")
+}
+
+fn cases() -> u64 {
+    let mut head = [0u8; 4];
+    io::read_full(0, &mut head);
+    layout::four(&head, 0)
+}
+
+// One of the three lists.
+fn walk(list: u64, tally: &mut [u64; 192]) -> bool {
+    if !starts() {
+        return false;
+    }
+    let n = cases();
+    let mut i = 0;
+    while i < n {
+        if !step(list, i, tally) {
+            return false;
+        }
+        i += 1;
+    }
+    true
+}
+
+fn ended() -> bool {
+    let mut more = [0u8; 1];
+    io::read_full(0, &mut more) == 0
+}
+
+fn main() {
+    let mut tally = [0u64; 192];
+    let whole = walk(1, &mut tally) && walk(2, &mut tally) && walk(3, &mut tally) && ended();
+    report::rows(&tally);
+    report::totals(&tally);
+    if !whole {
+        io::write_all(1, b"the input is not three whole lists\n");
+    }
+}
