@@ -17,11 +17,11 @@ fn leaf(c: &[u8], refusal: u64, value: u64, bytes: &[u8]) -> Verdict {
         count: 0,
     };
     if refusal == 0 {
-        return compare::verdict(
+        return compare::decided(
             compare::numbers(c, told) & check::same(layout::answered(c), bytes),
         );
     }
-    compare::verdict(compare::numbers(c, told) & (layout::answered(c).len() == 0))
+    compare::decided(compare::numbers(c, told) & (layout::answered(c).len() == 0))
 }
 
 pub fn plan_tuning(c: &[u8]) -> Verdict {
@@ -71,7 +71,7 @@ pub fn read_section(c: &[u8]) -> Verdict {
                 index: 0,
                 count,
             };
-            compare::verdict(compare::numbers(c, told))
+            compare::decided(compare::numbers(c, told))
         }
         transcript::Section::Refused => {
             let told = Answer {
@@ -80,7 +80,7 @@ pub fn read_section(c: &[u8]) -> Verdict {
                 index: 0,
                 count: 0,
             };
-            compare::verdict(compare::numbers(c, told))
+            compare::decided(compare::numbers(c, told))
         }
     }
 }

@@ -107,14 +107,20 @@ fn differs(list: u64, i: u64, call: u64) {
     text(b"\n");
 }
 
-// Counts a verdict, and names the first cases that differ. A call number past the table counts as 0, which is no call.
+// A call number past the table counts as 0, which is no call.
+fn row_of(call: u64) -> usize
+    ensures { λ r. ⌜ r < 64 ⌝ }
+{
+    if call < 64 {
+        return call as usize;
+    }
+    0
+}
+
+// Counts a verdict, and names the first cases that differ.
 pub fn count(list: u64, i: u64, call: u64, v: Verdict, tally: &mut [u64; 192]) {
     let k = place(v);
-    let mut row: usize = 0;
-    if call < 64 {
-        row = call as usize;
-    }
-    let at = 3 * row + k;
+    let at = 3 * row_of(call) + k;
     tally[at] = std::num::wrapping_add_u64(tally[at], 1);
     if k == 1 && column(tally, 1) <= 10 {
         differs(list, i, call);
