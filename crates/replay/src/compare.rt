@@ -69,8 +69,8 @@ pub fn written(lent: &[u8], bytes: &[u8]) -> bool
     if lent.len() < n {
         return false;
     }
-    if !check::same(&lent[0..n], bytes) {
-        return false;
+    if check::same(&lent[0..n], bytes) {
+        return untouched(&lent[n..]);
     }
-    untouched(&lent[n..])
+    false
 }

@@ -1,6 +1,6 @@
 // Calls that are numbers in and numbers or bytes out: `plan_tuning` (33), `if_freq_regs` (34), `resample_regs` (35), the section reader (38).
-use crate::layout;
 use crate::compare;
+use crate::layout;
 use compare::Answer;
 use compare::Verdict;
 

@@ -1,10 +1,11 @@
 // Judges the port by the stored list of answers, which stands on its standard input (docs/VECTORS.md). Ours: no file of the Rust has it.
 // A call is judged by one function of its group's file, named by one arm of `judge`; what has no arm is not there yet.
 // A case is the same only where everything that came back is: refusal, value, index, count, the bytes written and those past them, next records.
-mod layout;
 mod compare;
+mod layout;
 mod leaves;
 mod report;
+
 use compare::Verdict;
 
 // The function that judges a call, by its number.
