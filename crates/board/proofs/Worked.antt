@@ -1,14 +1,11 @@
 -- Document 01, "Worked numbers": "V4: 28,799,999 goes to 57,599,999 inverted; 28,800,000 stays. Notch holds 85,000,000 and
 -- 112,000,000, not 112,000,001." And the numbers on both sides of each other bound. Assumes nothing.
 use mathlib.Core.Path.{_≡_, refl}
-use mathlib.Core.Bool.{Bool, true, false}
-use mathlib.Core.List.{List, [], _∷_, map}
-use Prim.Native.Nat.{ℕ}
-use Rattle.board.specs.declared.Path.{Path}
+use mathlib.Core.Bool.{true, false}
+use mathlib.Core.List.{[], _∷_, map}
 use Rattle.board.specs.declared.Path.the-variants.{Hf, Vhf, Uhf}
-use Rattle.board.specs.declared.Board.the-variants.{Generic, V4}
-use Rattle.board.specs.declared.Route.the-variants.{By, Direct}
-use Rattle.board.specs.declared.Plan.{Plan}
+use Rattle.board.specs.declared.Board.the-variants.{V4}
+use Rattle.board.specs.declared.Route.the-variants.{By}
 use Rattle.board.specs.Plans.{inNotch, pathAt, planOf, tunerHz}
 
 pub last-below : planOf V4 28_799_999 ≡ record { hz = 57_599_999; inverted = true; path = By Hf; notch = false }

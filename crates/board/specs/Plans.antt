@@ -8,7 +8,6 @@ use Rattle.board.specs.declared.Board.{Board}
 use Rattle.board.specs.declared.Board.the-variants.{Generic, V4}
 use Rattle.board.specs.declared.Path.{Path}
 use Rattle.board.specs.declared.Path.the-variants.{Hf, Vhf, Uhf}
-use Rattle.board.specs.declared.Route.{Route}
 use Rattle.board.specs.declared.Route.the-variants.{By, Direct}
 use Rattle.board.specs.declared.Plan.{Plan}
 

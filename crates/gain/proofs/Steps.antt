@@ -1,5 +1,5 @@
 -- The step worked out is the nearest of document 01's sentence, and there is one such index. Assumes nothing.
-use mathlib.Core.Path.{_≡_, refl, sym, ap, _∙_, subst}
+use mathlib.Core.Path.{_≡_, refl, sym, subst}
 use mathlib.Core.Bool.{Bool, true, false}
 use Prim.Native.Nat.{ℕ, zero, suc, _+_, _-_, _≤_, _<_}
 use native.Mathlib.Nat.{le-of-lt, lt-of-lt-of-le, le-refl, lt-irrefl, lt-trans, lt-suc-self, not-suc-le-zero}
@@ -8,7 +8,7 @@ use native.Mathlib.Omega.{arith}
 use borrow.Author.Count.{below-more}
 use borrow.Author.Tests.{ltb-true, ltb-false, lt-ltb, le-ltb}
 use lib.Dec.{ltb, lit<}
-use lib.IntN.{ℤ, pos, negsuc}
+use lib.IntN.{ℤ, negsuc}
 use lib.Ieee.{Float}
 use Rattle.gain.specs.Product.{tenthsOf}
 use Rattle.gain.specs.Steps.{NearestIn, Nearest, apart, better, chosenOf, clamped, nearestIn, nearestOf, steps}

@@ -1,9 +1,9 @@
 -- Document 01, "Worked numbers": "3.2 dB: index 3, 2.7. NaN: index 0. Product -2,147,483,520: index 0 (a Rust release build wraps to 28)."
 -- Besides: the ends of the cut, a tie, and the bits of all 29 answers. Gains are written by their binary32 bits. Assumes nothing.
 use mathlib.Core.Path.{_≡_, refl}
-use mathlib.Core.List.{List, [], _∷_, map}
+use mathlib.Core.List.{[], _∷_, map}
 use Prim.Native.Nat.{ℕ}
-use lib.IntN.{ℤ, pos, negsuc}
+use lib.IntN.{pos, negsuc}
 use lib.Ieee.{Float, nan, binary32, mul, div, ofInt, ofBits, toBits, toSigned}
 use Rattle.gain.specs.Product.{gainOf, tenthsOf}
 use Rattle.gain.specs.Steps.{chosenOf, nearestIn, nearestOf, steps, stepAt}

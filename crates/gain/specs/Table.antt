@@ -1,4 +1,4 @@
--- What each step writes to the three amplifiers: the Rust's `GAIN_TABLE`, a column for each.
+-- What each step writes to the three amplifiers: the Rust's `GAIN_TABLE`, a record for each step.
 -- Assumes nothing.
 use mathlib.Core.List.{List, [], _∷_}
 use Prim.Native.Nat.{ℕ}

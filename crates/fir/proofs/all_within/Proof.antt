@@ -1,25 +1,21 @@
 -- `fir::all_within` meets its contract. The loop's invariant: the test of the part that is left is the test of the whole part.
 -- Assumes nothing.
 use mathlib.Core.Path.{_≡_, refl, sym, ap, _∙_}
-use mathlib.Core.Bool.{Bool, true, false, _&&_}
-use Prim.Native.Nat.{ℕ, _+_, _-_, _<_, _≤_}
+use mathlib.Core.Bool.{_&&_}
+use Prim.Native.Nat.{ℕ, _+_, _-_, _≤_}
 use native.Mathlib.Omega.{arith}
 use borrow.Author.Needs.{needs}
 use borrow.Author.Tests.{lt-ltb, le-ltb}
 use mir.Syntax.{w32}
-use mir.Val.{toZ, ofZ}
 use mir.ValLaws.{toZ-ofZ}
 use lib.Dec.{ltb}
-use lib.IntN.{ℤ, pos}
+use lib.IntN.{pos}
 use lib.ListN.{length, take, drop, getD}
 use lib.Signed.{mag}
 use Rattle.fir.specs.Packing.{every, within}
 use Rattle.fir.proofs.Lists.{every-next}
 use Rattle.fir.proofs.all_within.Statement.{statement}
 use Rattle.fir.proofs.all_within.Tie as tie
-use Rattle.fir.proofs.all_within.Reads as reads
-use Rattle.fir.proofs.all_within.Lts as lts
-use Rattle.fir.proofs.size.Reads as size-reads
 
 abbrev Inv-loop : tie.InvT-loop
 Inv-loop at end half v i₀ i =

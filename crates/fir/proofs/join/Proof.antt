@@ -6,7 +6,6 @@ use native.Mathlib.Omega.{arith}
 use borrow.Author.Needs.{needs}
 use lib.Dec.{lit<}
 use mir.Syntax.{w32}
-use mir.Val.{toZ, ofZ}
 use mir.ValLaws.{toZ-ofZ}
 use Rattle.fir.specs.Packing.{lowOf}
 use Rattle.fir.proofs.Widths.{low-lt}
@@ -35,7 +34,9 @@ add-t10 : tie.Need-add-t10
 add-t10 c = search needs
 
 cast-t11 : tie.Need-cast-t11
-cast-t11 c = omega (arith, second c, low-lt 2048 (c .before .before .args .b) (lit< tt))
+cast-t11 c =
+    omega
+    (arith, first c, low-lt 2048 (c .before .before .args .a) (lit< tt), second c, low-lt 2048 (c .before .before .args .b) (lit< tt))
 
 cast-t13 : tie.Need-cast-t13
 cast-t13 c = search needs

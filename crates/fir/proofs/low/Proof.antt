@@ -1,7 +1,6 @@
 -- `fir::low` meets its contract: on each side of zero by the law for that side.
 -- Assumes nothing.
-use mathlib.Core.Path.{_≡_, sym, ap, _∙_}
-use mathlib.Core.Bool.{true, false}
+use mathlib.Core.Path.{ap, _∙_}
 use Prim.Native.Nat.{ℕ, _-_, _*_, _%_, _<_}
 use native.Mathlib.Nat.{mod-lt}
 use native.Mathlib.Omega.{arith}
@@ -9,8 +8,6 @@ use borrow.Author.Needs.{needs}
 use mir.Syntax.{w32}
 use mir.Val.{toZ, ofZ}
 use mir.ValLaws.{toZ-ofZ}
-use lib.IntN.{ℤ, pos}
-use lib.Signed.{ltZ, mag}
 use Rattle.fir.specs.Packing.{lowOf}
 use Rattle.fir.proofs.Widths.{low-under, low-over}
 use Rattle.fir.proofs.low.Statement.{statement}

@@ -1,7 +1,6 @@
 -- `fir::size` meets its contract: on each side of zero the number is the one that `mag` gives.
 -- Assumes nothing.
 use mathlib.Core.Path.{_≡_, sym, ap, _∙_, subst}
-use mathlib.Core.Bool.{true, false}
 use Prim.Native.Nat.{_<_, _^_}
 use native.Mathlib.Omega.{arith}
 use mir.Syntax.{w32}
@@ -9,7 +8,7 @@ use mir.Val.{Fits, SFits, toZ, ofZ}
 use mir.ValLaws.{toZ-ofZ}
 use lib.Dec.{T}
 use lib.IntN.{ℤ, pos, negsuc, natAbs, _-ℤ_}
-use lib.Signed.{ltZ, mag, nonNeg}
+use lib.Signed.{mag, nonNeg}
 use Rattle.fir.proofs.Widths.{turned, plain}
 use Rattle.fir.proofs.size.Statement.{statement}
 use Rattle.fir.proofs.size.Tie as tie

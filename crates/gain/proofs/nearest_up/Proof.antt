@@ -2,12 +2,11 @@
 -- Assumes nothing.
 use mathlib.Core.Path.{_≡_, refl, sym, ap, _∙_, subst}
 use mathlib.Core.Logic.{⊎-elim}
-use Prim.Native.Nat.{ℕ, _-_, _+_, _≤_, _<_}
-use native.Mathlib.Nat.{le-antisymm}
+use Prim.Native.Nat.{ℕ, _-_, _≤_, _<_}
 use native.Mathlib.Omega.{arith}
 use borrow.Author.Needs.{needs}
 use lib.IntN.{pos}
-use Rattle.gain.specs.Steps.{steps, stepAt, distance, apart, nearestIn, nearestOf}
+use Rattle.gain.specs.Steps.{steps, distance, apart, nearestIn, nearestOf}
 use Rattle.gain.proofs.Steps.{nearer, no-nearer}
 use Rattle.gain.proofs.nearest_up.Statement.{statement}
 use Rattle.gain.proofs.nearest_up.Tie as tie
