@@ -1,7 +1,9 @@
 // Where everything stands in a case: docs/VECTORS.md, "Layout". A reader past the end answers 0 or nothing; `whole` says that none reads there.
 ghost use mathlib.Core.Path.{_≡_};
-ghost use Prim.Native.Nat.{_<_, _≤_, _^_};
-ghost use Rattle.replay.specs.Agreement.{numberAt};
+ghost use mathlib.Core.Bool.{true};
+ghost use Prim.Native.Nat.{_+_, _*_, _<_, _≤_, _^_};
+ghost use lib.ListN.{length};
+ghost use Rattle.replay.specs.Agreement.{numberAt, cutOf, flagged, sizeAt, startAt, partOf};
 
 pub const CALL: usize = 4;
 
@@ -27,18 +29,24 @@ pub const COUNT: usize = 50;
 
 pub const ROOM: usize = 52;
 
-// Where each part starts; the outcomes stand at 72.
-pub struct Starts {
-    pub replies: usize,
-    pub tuner: usize,
-    pub driver: usize,
-    pub input: usize,
-    pub section: usize,
-    pub next: usize,
-    pub after: usize,
-    pub answered: usize,
-    pub end: usize,
-}
+// The parts, in their order.
+pub const OUTCOMES: usize = 0;
+
+pub const REPLIES: usize = 1;
+
+pub const TUNER: usize = 2;
+
+pub const DRIVER: usize = 3;
+
+pub const INPUT: usize = 4;
+
+pub const SECTION: usize = 5;
+
+pub const NEXT_TUNER: usize = 6;
+
+pub const NEXT_DRIVER: usize = 7;
+
+pub const ANSWERED: usize = 8;
 
 fn number(c: &[u8], at: usize, k: usize) -> u64
     requires { ⌜ (at < 4096) × (k ≤ 8) ⌝ }
@@ -78,93 +86,74 @@ pub fn eight(c: &[u8], at: usize) -> u64
     number(c, at, 8)
 }
 
-fn kept(is: bool, n: usize) -> usize
-    ensures { λ r. ⌜ r ≤ n ⌝ }
+// How long a part is that stands there only where its bit of the flags is set: `bit` is 1, 2 or 4.
+fn flag(c: &[u8], bit: u64, n: usize) -> usize
+    requires { ⌜ 0 < bit ⌝ }
+    ensures { λ r. ⌜ (r ≡ flagged (now (c .entry)) bit n) × (r ≤ n) ⌝ }
 {
-    if is {
+    if one(c, FLAGS) / bit % 2 == 1 {
         return n;
     }
     0
 }
 
-pub fn lay(c: &[u8]) -> Starts {
-    let flags = one(c, FLAGS);
-    let replies = 72 + two(c, 54);
-    let tuner = replies + two(c, 56);
-    let driver = tuner + two(c, 58);
-    let input = driver + two(c, 60);
-    let section = input + two(c, 62);
-    let next = section + kept(flags % 2 == 1, 16 * two(c, COUNT) + 8);
-    let after = next + kept(flags / 2 % 2 == 1, 105);
-    let answered = after + kept(flags / 4 % 2 == 1, 21);
-    let end = answered + two(c, 64);
-    Starts {
-        replies,
-        tuner,
-        driver,
-        input,
-        section,
-        next,
-        after,
-        answered,
-        end,
+fn size(c: &[u8], k: usize) -> usize
+    requires { ⌜ k < 9 ⌝ }
+    ensures { λ r. ⌜ (r ≡ sizeAt (now (c .entry)) k) × (r < 2097152) ⌝ }
+{
+    if k == SECTION {
+        return flag(c, 1, 16 * two(c, COUNT) + 8);
     }
+    if k == NEXT_TUNER {
+        return flag(c, 2, 105);
+    }
+    if k == NEXT_DRIVER {
+        return flag(c, 4, 21);
+    }
+    if k == ANSWERED {
+        return two(c, 64);
+    }
+    two(c, 54 + 2 * k)
+}
+
+fn start(c: &[u8], k: usize) -> usize
+    requires { ⌜ k ≤ 9 ⌝ }
+    ensures { λ r. ⌜ r ≡ startAt (now (c .entry)) k ⌝ }
+{
+    let mut at = 72;
+    let mut i = 0;
+    while i < k {
+        at += size(c, i);
+        i += 1;
+    }
+    at
 }
 
 // Whether the parts fill the case exactly, and what is to be zero is.
-pub fn whole(c: &[u8]) -> bool {
-    let p = lay(c);
-    (p.end == c.len()) & (four(c, 66) == 0) & (two(c, 70) == 0)
-}
-
-pub fn cut(c: &[u8], from: usize, to: usize) -> &[u8] {
-    if from <= to && to <= c.len() {
-        return &c[from..to];
+pub fn whole(c: &[u8]) -> bool
+    ensures { λ r. ⌜ (r ≡ true → startAt (now (c .entry)) 9 ≡ length (now (c .entry))) ⌝ }
+{
+    if start(c, 9) == c.len() {
+        return (four(c, 66) == 0) & (two(c, 70) == 0);
     }
-    &c[0..0]
+    false
 }
 
-pub fn outcomes(c: &[u8]) -> &[u8] {
-    let p = lay(c);
-    cut(c, 72, p.replies)
+pub fn cut(c: &[u8], from: usize, to: usize) -> &[u8]
+    ensures { λ r. ⌜ now r ≡ cutOf (now (c .entry)) from to ⌝ }
+{
+    if to < from {
+        return &c[0..0];
+    }
+    if c.len() < to {
+        return &c[0..0];
+    }
+    &c[from..to]
 }
 
-pub fn replies(c: &[u8]) -> &[u8] {
-    let p = lay(c);
-    cut(c, p.replies, p.tuner)
-}
-
-pub fn tuner(c: &[u8]) -> &[u8] {
-    let p = lay(c);
-    cut(c, p.tuner, p.driver)
-}
-
-pub fn driver(c: &[u8]) -> &[u8] {
-    let p = lay(c);
-    cut(c, p.driver, p.input)
-}
-
-pub fn input(c: &[u8]) -> &[u8] {
-    let p = lay(c);
-    cut(c, p.input, p.section)
-}
-
-pub fn section(c: &[u8]) -> &[u8] {
-    let p = lay(c);
-    cut(c, p.section, p.next)
-}
-
-pub fn next_tuner(c: &[u8]) -> &[u8] {
-    let p = lay(c);
-    cut(c, p.next, p.after)
-}
-
-pub fn next_driver(c: &[u8]) -> &[u8] {
-    let p = lay(c);
-    cut(c, p.after, p.answered)
-}
-
-pub fn answered(c: &[u8]) -> &[u8] {
-    let p = lay(c);
-    cut(c, p.answered, p.end)
+pub fn part(c: &[u8], k: usize) -> &[u8]
+    requires { ⌜ k < 9 ⌝ }
+    ensures { λ r. ⌜ now r ≡ partOf (now (c .entry)) k ⌝ }
+{
+    cut(c, start(c, k), start(c, k + 1))
 }

@@ -18,10 +18,10 @@ fn leaf(c: &[u8], refusal: u64, value: u64, bytes: &[u8]) -> Verdict {
     };
     if refusal == 0 {
         return compare::decided(
-            compare::numbers(c, told) & check::same(layout::answered(c), bytes),
+            compare::numbers(c, told) & check::same(layout::part(c, layout::ANSWERED), bytes),
         );
     }
-    compare::decided(compare::numbers(c, told) & (layout::answered(c).len() == 0))
+    compare::decided(compare::numbers(c, told) & (layout::part(c, layout::ANSWERED).len() == 0))
 }
 
 pub fn plan_tuning(c: &[u8]) -> Verdict {
@@ -63,7 +63,7 @@ pub fn resample_regs(c: &[u8]) -> Verdict {
 }
 
 pub fn read_section(c: &[u8]) -> Verdict {
-    match transcript::read_section(layout::input(c)) {
+    match transcript::read_section(layout::part(c, layout::INPUT)) {
         transcript::Section::Read { start, count } => {
             let told = Answer {
                 refusal: 0,
