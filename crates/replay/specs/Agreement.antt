@@ -50,3 +50,20 @@ pub record Told (c : List ℕ) (a : Answer) : Type 0 where
 pub record Written (lent bytes : List ℕ) : Type 0 where
   pub start : take (length bytes) lent ≡ bytes
   pub rest : (k : ℕ) → length bytes ≤ k → k < length lent → getD lent k 0 ≡ 165
+
+-- the bytes of an answer by value: none where it is refused
+abbrev pub unlessRefused : ℕ → List ℕ → List ℕ
+unlessRefused refusal bytes = pick (eqb refusal 0) bytes []
+
+-- a call that answers by value agrees with a case: its numbers, and its answered bytes exactly
+pub record Valued (c : List ℕ) (refusal value : ℕ) (bytes : List ℕ) : Type 0 where
+  pub told : Told c (record { refusal = refusal; value = value; index = 0; count = 0 })
+  pub bytes-are : partOf c 8 ≡ unlessRefused refusal bytes
+
+-- a call over lent memory agrees with a case: its numbers, and all memory that it was lent: room, next records, answered bytes
+pub record Agrees (c : List ℕ) (a : Answer) (room tuner driver answered : List ℕ) : Type 0 where
+  pub numbers-are : Told c a
+  pub room-is : Written room (partOf c 5)
+  pub tuner-is : Written tuner (partOf c 6)
+  pub driver-is : Written driver (partOf c 7)
+  pub answered-is : Written answered (partOf c 8)

@@ -3,7 +3,7 @@ ghost use mathlib.Core.Path.{_≡_};
 ghost use mathlib.Core.Bool.{true};
 ghost use Prim.Native.Nat.{ℕ, _<_};
 ghost use lib.ListN.{length, getD};
-ghost use Rattle.replay.specs.Agreement.{Told, Written};
+ghost use Rattle.replay.specs.Agreement.{Told, Written, Valued, Agrees, unlessRefused};
 use crate::layout;
 
 pub enum Verdict {
@@ -73,4 +73,51 @@ pub fn written(lent: &[u8], bytes: &[u8]) -> bool
         return untouched(&lent[n..]);
     }
     false
+}
+
+fn unless_refused(refusal: u64, bytes: &[u8]) -> &[u8]
+    ensures { λ r. ⌜ now r ≡ unlessRefused refusal (now (bytes .entry)) ⌝ }
+{
+    if refusal == 0 {
+        return bytes;
+    }
+    &bytes[0..0]
+}
+
+// The verdict on a call that answers by value: a refusal, a value, bytes. Nothing is lent to it, so a case in which the slice lent for its bytes
+// is too short (refusal 8) is not there yet.
+pub fn valued(c: &[u8], refusal: u64, value: u64, bytes: &[u8]) -> Verdict
+    ensures { λ r. ⌜ (r ≡ Verdict.Same → Valued (now (c .entry)) refusal value (now (bytes .entry))) ⌝ }
+{
+    if layout::one(c, layout::REFUSAL) == 8 {
+        return Verdict::Later;
+    }
+    let told = Answer {
+        refusal,
+        value,
+        index: 0,
+        count: 0,
+    };
+    let wanted = layout::part(c, layout::ANSWERED);
+    decided(numbers(c, told) & check::same(wanted, unless_refused(refusal, bytes)))
+}
+
+// The verdict on a call over lent memory, all of it filled with 0xa5 before the call: the room, the slices for the next tuner and driver records,
+// the slice for answered bytes. What a call is not lent is empty here.
+pub fn agrees(
+    c: &[u8],
+    a: Answer,
+    room: &[u8],
+    tuner: &[u8],
+    driver: &[u8],
+    answered: &[u8],
+) -> Verdict
+    ensures { λ r. ⌜ (r ≡ Verdict.Same → Agrees (now (c .entry)) a (now (room .entry)) (now (tuner .entry)) (now (driver .entry)) (now (answered .entry))) ⌝ }
+{
+    let told = numbers(c, a);
+    let steps = written(room, layout::part(c, layout::SECTION));
+    let first = written(tuner, layout::part(c, layout::NEXT_TUNER));
+    let second = written(driver, layout::part(c, layout::NEXT_DRIVER));
+    let bytes = written(answered, layout::part(c, layout::ANSWERED));
+    decided(told & steps & first & second & bytes)
 }

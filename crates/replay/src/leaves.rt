@@ -4,26 +4,6 @@ use crate::layout;
 use compare::Answer;
 use compare::Verdict;
 
-// The verdict on a refusal, a value and answered bytes. The port hands these bytes back by value so far: a case in which the slice lent for them
-// is too short is not there yet.
-fn leaf(c: &[u8], refusal: u64, value: u64, bytes: &[u8]) -> Verdict {
-    if layout::one(c, layout::REFUSAL) == 8 {
-        return Verdict::Later;
-    }
-    let told = Answer {
-        refusal,
-        value,
-        index: 0,
-        count: 0,
-    };
-    if refusal == 0 {
-        return compare::decided(
-            compare::numbers(c, told) & check::same(layout::part(c, layout::ANSWERED), bytes),
-        );
-    }
-    compare::decided(compare::numbers(c, told) & (layout::part(c, layout::ANSWERED).len() == 0))
-}
-
 pub fn plan_tuning(c: &[u8]) -> Verdict {
     let number = layout::eight(c, layout::C);
     if 255 < number {
@@ -34,9 +14,9 @@ pub fn plan_tuning(c: &[u8]) -> Verdict {
             let p = board::plan_tuning(b, layout::eight(c, layout::A));
             let path = p.path;
             let bytes = [p.inverted as u8, board::route_number(path), p.notch as u8];
-            leaf(c, 0, p.hz, &bytes)
+            compare::valued(c, 0, p.hz, &bytes)
         }
-        board::BoardRead::Refused => leaf(c, 1, 0, &[]),
+        board::BoardRead::Refused => compare::valued(c, 1, 0, &[]),
     }
 }
 
@@ -48,7 +28,7 @@ pub fn if_freq_regs(c: &[u8]) -> Verdict {
     }
     let r = registers::if_freq_regs(hz as u32, xtal as u32);
     let bytes = r.bytes;
-    leaf(c, r.refusal as u64, 0, &bytes)
+    compare::valued(c, r.refusal as u64, 0, &bytes)
 }
 
 pub fn resample_regs(c: &[u8]) -> Verdict {
@@ -59,7 +39,7 @@ pub fn resample_regs(c: &[u8]) -> Verdict {
     }
     let r = registers::resample_regs(rate as u32, xtal as u32);
     let bytes = r.bytes;
-    leaf(c, r.refusal as u64, 0, &bytes)
+    compare::valued(c, r.refusal as u64, 0, &bytes)
 }
 
 pub fn read_section(c: &[u8]) -> Verdict {
@@ -71,7 +51,7 @@ pub fn read_section(c: &[u8]) -> Verdict {
                 index: 0,
                 count,
             };
-            compare::decided(compare::numbers(c, told))
+            compare::agrees(c, told, &[], &[], &[], &[])
         }
         transcript::Section::Refused => {
             let told = Answer {
@@ -80,7 +60,7 @@ pub fn read_section(c: &[u8]) -> Verdict {
                 index: 0,
                 count: 0,
             };
-            compare::decided(compare::numbers(c, told))
+            compare::agrees(c, told, &[], &[], &[], &[])
         }
     }
 }

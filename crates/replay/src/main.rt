@@ -2,6 +2,7 @@
 // A call is judged by one function of its group's file, named by one arm of `judge`; what has no arm is not there yet.
 // A case is the same only where everything that came back is: refusal, value, index, count, the bytes written and those past them, next records.
 mod compare;
+mod filter;
 mod layout;
 mod leaves;
 mod report;
@@ -15,6 +16,8 @@ fn judge(c: &[u8]) -> Verdict {
         33 => leaves::plan_tuning(c),
         34 => leaves::if_freq_regs(c),
         35 => leaves::resample_regs(c),
+        36 => filter::pack(c),
+        37 => filter::unpack(c),
         38 => leaves::read_section(c),
         _ => Verdict::Later,
     }
