@@ -55,10 +55,11 @@ pub record Written (lent bytes : List ℕ) : Type 0 where
 abbrev pub unlessRefused : ℕ → List ℕ → List ℕ
 unlessRefused refusal bytes = pick (eqb refusal 0) bytes []
 
--- a call that answers by value agrees with a case: its numbers, and its answered bytes exactly
+-- a call that answers by value agrees with a case: its numbers, and its answered bytes exactly; the case has no section and no next record
 pub record Valued (c : List ℕ) (refusal value : ℕ) (bytes : List ℕ) : Type 0 where
   pub told : Told c (record { refusal = refusal; value = value; index = 0; count = 0 })
   pub bytes-are : partOf c 8 ≡ unlessRefused refusal bytes
+  pub nothing-else : startAt c 5 ≡ startAt c 8
 
 -- a call over lent memory agrees with a case: its numbers, and all memory that it was lent: room, next records, answered bytes
 pub record Agrees (c : List ℕ) (a : Answer) (room tuner driver answered : List ℕ) : Type 0 where

@@ -99,7 +99,8 @@ pub fn valued(c: &[u8], refusal: u64, value: u64, bytes: &[u8]) -> Verdict
         count: 0,
     };
     let wanted = layout::part(c, layout::ANSWERED);
-    decided(numbers(c, told) & check::same(wanted, unless_refused(refusal, bytes)))
+    let bare = layout::start(c, layout::SECTION) == layout::start(c, layout::ANSWERED);
+    decided(numbers(c, told) & bare & check::same(wanted, unless_refused(refusal, bytes)))
 }
 
 // The verdict on a call over lent memory, all of it filled with 0xa5 before the call: the room, the slices for the next tuner and driver records,

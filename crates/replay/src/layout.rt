@@ -116,7 +116,7 @@ fn size(c: &[u8], k: usize) -> usize
     two(c, 54 + 2 * k)
 }
 
-fn start(c: &[u8], k: usize) -> usize
+pub fn start(c: &[u8], k: usize) -> usize
     requires { ⌜ k ≤ 9 ⌝ }
     ensures { λ r. ⌜ r ≡ startAt (now (c .entry)) k ⌝ }
 {
