@@ -1,8 +1,8 @@
 // Judges the port by the stored list of answers, which stands on its standard input (docs/VECTORS.md). Ours: no file of the Rust has it.
-// A call is judged by one function of its group's file, named by one arm of `judge`; what has no arm is not there yet.
-// A case is the same only where everything that came back is: refusal, value, index, count, the bytes written and those past them, next records.
-mod compare;
-mod filter;
+// Document 01: "differential runs use that, beside a Rust harness recording calls."
+// To add a call: one function in its group's file, which reads the arguments and the given parts off the case (layout), calls the port, and ends in
+// `compare::agrees` (memory is lent: arrays of 0xa5, of the case's lengths) or `compare::valued` (answers by value); and one arm of `judge`.
+// What has no arm is not there yet. Same is proved to mean that all that came back agrees with the case: specs/Agreement, Agrees and Valued.
 mod layout;
 mod leaves;
 mod report;
@@ -31,13 +31,17 @@ fn case_of(b: &[u8; 2048], n: usize) -> &[u8] {
 // One case: read, judged, counted. False where the input is no list of cases any more. No loop, and fresh arrays: so it has no proof file.
 fn step(list: u64, i: u64, tally: &mut [u64; 192]) -> bool {
     let mut head = [0u8; 4];
-    io::read_full(0, &mut head);
+    if io::read_full(0, &mut head) != 4 {
+        return false;
+    }
     let n = layout::four(&head, 0) as usize;
     if n < 72 || 2048 < n {
         return false;
     }
     let mut b = [0u8; 2048];
-    io::read_full(0, &mut b[4..n]);
+    if io::read_full(0, &mut b[4..n]) != n - 4 {
+        return false;
+    }
     let c = case_of(&b, n);
     if !layout::whole(c) {
         return false;
@@ -54,9 +58,12 @@ fn starts() -> bool {
     check::same(&mark, b"PASEVEC1")
 }
 
+// How many cases a list has. Where the input ends, one: which `step` then does not find.
 fn cases() -> u64 {
     let mut head = [0u8; 4];
-    io::read_full(0, &mut head);
+    if io::read_full(0, &mut head) != 4 {
+        return 1;
+    }
     layout::four(&head, 0)
 }
 

@@ -43,7 +43,7 @@ returns-2 c = λ e.
     record {
       told = c .before .before .before .numbers .ensures (g .0);
       bytes-are = sym (c .before .before .before .before .before .before .part .ensures) ∙ c .before .same .ensures .0 (h .1) ∙ c .before .before .unless-refused .ensures;
-      nothing-else = sym (c .before .before .before .before .before .start .ensures) ∙ eqb-true _ _ (g .1) ∙ c .before .before .before .before .start2 .ensures
+      nothing-else = sym (c .before .before .before .before .before .start .ensures) ∙ eqb-true _ _ (g .1) ∙ c .before .before .before .before .start2 .ensures;
     }
 
 pub valued-spec : {M : Type 1} → statement M
