@@ -3,6 +3,8 @@
 // To add a call: one function in its group's file, which reads the arguments and the given parts off the case (layout), calls the port, and ends in
 // `compare::agrees` (memory is lent: arrays of 0xa5, of the case's lengths) or `compare::valued` (answers by value); and one arm of `judge`.
 // What has no arm is not there yet. Same is proved to mean that all that came back agrees with the case: specs/Agreement, Agrees and Valued.
+mod compare;
+mod filter;
 mod layout;
 mod leaves;
 mod report;
