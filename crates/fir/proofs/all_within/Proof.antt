@@ -74,10 +74,11 @@ loop-less : tie.Need-loop-less Inv-loop μ-loop
 loop-less c = omega arith
 
 loop-again : tie.Need-loop-again Inv-loop μ-loop
-loop-again c =
-    (omega arith,
-    omega arith,
-    sym (parted (c .before) ∙ simp (lt-ltb (c .before .size .result) (c .before .before .before .before .before .args .half) (c .if1 .left))))
+loop-again c = (
+  omega arith,
+  omega arith,
+  sym (parted (c .before) ∙ simp (lt-ltb (c .before .size .result) (c .before .before .before .before .before .args .half) (c .if1 .left))),
+)
 
 returns-2 : tie.Need-returns-2 Inv-loop μ-loop
 returns-2 c =
