@@ -5,9 +5,10 @@ ghost use mathlib.Core.Path.{_≡_};
 ghost use mathlib.Core.Bool.{true};
 ghost use mathlib.Core.List.{_++_};
 ghost use Prim.Native.Nat.{_+_, _-_, _*_, _≤_, _<_};
+ghost use lib.Dec.{eqb};
 ghost use lib.ListN.{length, getD, take};
 ghost use Rattle.chip.specs.Steps.{allIn, closing, due, inRoom, onRoom, run, updates};
-ghost use Rattle.tuning.specs.Mux.{laterOf, muxUpdates, pllUpdates, rangeOf};
+ghost use Rattle.tuning.specs.Mux.{laterOf, pick, muxUpdates, pllUpdates, rangeOf};
 ghost use Rattle.tuning.specs.Tries.{afterTry, locked, fineOf, powerOf, repairUpdates, replyBytes, statusSteps, triesFrom, tryRead, lockedBy};
 ghost use Rattle.tuning.specs.Program.{innerSteps, numberOf, pllSteps, tuneSteps};
 use chip::Flow;
@@ -58,13 +59,40 @@ pub fn freq_range(hz: u64) -> FreqRange
     best
 }
 
+// The notch suppresses open_d.
+fn drained(notch: bool, drain: u8) -> u8
+    ensures { λ r. ⌜ r ≡ pick notch 0 drain ⌝ }
+{
+    if notch { 0x00 } else { drain }
+}
+
+// The Rust's `pw_sdm`: without a fraction the sum is off.
+fn whole_only(fraction: u64) -> u8
+    ensures { λ r. ⌜ r ≡ pick (eqb fraction 0) 0x08 0x00 ⌝ }
+{
+    if fraction == 0 { 0x08 } else { 0x00 }
+}
+
+fn lower(number: u8) -> u8
+    ensures { λ r. ⌜ r ≡ number - 1 ⌝ }
+{
+    if number == 0 { 0 } else { number - 1 }
+}
+
+// Only the first try, number 0, is followed by a write.
+fn once(i: usize) -> usize
+    ensures { λ r. ⌜ r ≡ 1 - i ⌝ }
+{
+    if i == 0 { 1 } else { 0 }
+}
+
 // `set_mux_raw`'s eleven writes, then the five of `set_pll_raw`; without a plan the eleven are meant.
 fn tune_updates(r: FreqRange, notch: bool, p: Plan) -> [Update; 16]
     requires { ⌜ p .number ≤ 5 ⌝ }
     ensures { λ out. ⌜ out ≡ muxUpdates notch r ++ pllUpdates p ⌝ }
 {
-    let drain = if notch { 0x00 } else { r.drain };
-    let whole = if p.fraction == 0 { 0x08 } else { 0x00 };
+    let drain = drained(notch, r.drain);
+    let whole = whole_only(p.fraction);
     let high = (p.sum / 256) as u8;
     let low = (p.sum % 256) as u8;
     [
@@ -240,10 +268,10 @@ fn repair(kind: Kind, number: u8, byte: u8) -> Updates
     let fine = vco_fine_tune(byte);
     let power = vco_power_ref(kind);
     if power < fine {
-        let lower = if number == 0 { 0 } else { number - 1 };
+        let less = lower(number);
         let u = Update {
             register: 0x10,
-            value: lower * 32,
+            value: less * 32,
             mask: 0xe0,
             past: false,
         };
@@ -336,7 +364,7 @@ fn after_try(f: Flow, i: usize, outcomes: &[u8], room: &mut [u8]) -> Flow
         ≡ closing inRoom (now (outcomes .entry)) (run inRoom (now (outcomes .entry)) (afterTry i) (onRoom f (now (room .entry)))) ⌝ }
     ensures bounds { λ r. ⌜ r .count + due (r .held) ≤ f .count + (1 - i) + 1 + due (f .held) ⌝ }
 {
-    let n: usize = if i == 0 { 1 } else { 0 };
+    let n = once(i);
     let u = Update {
         register: 0x12,
         value: 0x06,
