@@ -3,11 +3,11 @@
 -- Assumes nothing.
 use Prim.Native.Nat.{ℕ, _+_, _-_, _^_}
 use mathlib.Core.Bool.{Bool, true, false, not, _||_, _&&_}
-use mathlib.Core.List.{List, []}
+use mathlib.Core.List.{List, [], map}
 use lib.Dec.{eqb, leb}
 use lib.Ieee.{Float, binary32, toBits}
-use lib.IntN.{ℤ}
-use lib.ListN.{getD, length}
+use lib.IntN.{ℤ, pos}
+use lib.ListN.{getD, length, replicate}
 use Rattle.board.specs.declared.Path.{Path}
 use Rattle.board.specs.declared.PathRead.{PathRead}
 use Rattle.board.specs.declared.PathRead.the-variants as path-read
@@ -19,7 +19,7 @@ use Rattle.chip.specs.Calls.{Called, callOf, called, lentOf, lockedIn, pickCall
 use Rattle.chip.specs.declared.Update.{Update}
 use Rattle.chip.specs.Steps.{Trace, behind, updates}
 use Rattle.gain.specs.Product.{gainOf}
-use Rattle.gain.specs.Steps.{chosenOf, clamped, stepAt}
+use Rattle.gain.specs.Steps.{chosenOf, clamped, stepAt, steps}
 use Rattle.pll.specs.declared.Kind.{Kind}
 use Rattle.pll.specs.declared.Kind.the-variants.{R820T, R828D}
 use Rattle.pll.specs.declared.Pll.{Pll}
@@ -31,6 +31,7 @@ use Rattle.reference.specs.Correct.{correctedOf}
 use Rattle.tuning.specs.Program.{tuneSteps}
 use Rattle.writes.specs.Lists.{bandwidthUpdates, gainUpdates, ifUpdates, pathUpdates}
 use Rattle.writes.specs.Programs.{initSteps, sendAll}
+use Rattle.r82xx.specs.declared.Table.{Table}
 use Rattle.r82xx.specs.declared.Tuner.{Tuner}
 use Rattle.r82xx.specs.Record.{endedBy, lockBy, pick, reloaded, sound, soundBy, withChip, withCorrected, withGain, withIf, withLock, withNotch}
 
@@ -133,3 +134,9 @@ keptNotch nominal corrected old on = pick (soundBy nominal corrected) on old
 -- an answer that only says whether the record was sound
 unfoldable pub soundAnswer : ℕ → ℕ → ℕ → Answer
 soundAnswer nominal corrected value = pick (soundBy nominal corrected) (Done value) (Refused 1)
+
+-- the gain table, zeros beside a refusal
+unfoldable pub tableOf : ℕ → ℕ → Table
+tableOf nominal corrected =
+    pick (soundBy nominal corrected) (record { answer = soundAnswer nominal corrected 0; steps = map pos steps })
+    (record { answer = soundAnswer nominal corrected 0; steps = replicate 29 (pos 0) })

@@ -44,7 +44,7 @@ freshTuner kind address nominal =
       lock = false;
       gain = nought;
       ifreq = 2_300_000;
-      notch = false
+      notch = false;
     }
 
 abbrev pub made : Answer → Tuner → Made

@@ -16,8 +16,33 @@ use chip::Update;
 pub const IF_FREQ_NARROW: u64 = 2_300_000;
 
 pub const INIT_ARRAY: [u8; 27] = [
-    0x83, 0x30, 0x75, 0xc0, 0x40, 0xd6, 0x6c, 0xf5, 0x63, 0x75, 0x68, 0x6c, 0x83, 0x80, 0x00, 0x0f,
-    0x00, 0xc0, 0x30, 0x48, 0xcc, 0x60, 0x00, 0x54, 0xae, 0x4a, 0xc0,
+    0x83,
+    0x30,
+    0x75,
+    0xc0,
+    0x40,
+    0xd6,
+    0x6c,
+    0xf5,
+    0x63,
+    0x75,
+    0x68,
+    0x6c,
+    0x83,
+    0x80,
+    0x00,
+    0x0f,
+    0x00,
+    0xc0,
+    0x30,
+    0x48,
+    0xcc,
+    0x60,
+    0x00,
+    0x54,
+    0xae,
+    0x4a,
+    0xc0,
 ];
 
 fn narrow_or_wide(hz: u64, narrow: u8, wide: u8) -> u8
@@ -44,10 +69,30 @@ fn width(hz: u32) -> u8
 pub fn init_updates() -> [Update; 16]
     ensures { λ r. ⌜ (take 4 r ≡ initUpdates) × (allIn (take 4 r) ≡ true) ⌝ }
 {
-    let mut us = [Update { register: 0x1a, value: 0x00, mask: 0x0c, past: false }; 16];
-    us[1] = Update { register: 0x12, value: 0x06, mask: 0xff, past: false };
-    us[2] = Update { register: 0x0c, value: 0x00, mask: 0x0f, past: false };
-    us[3] = Update { register: 0x13, value: 0x01, mask: 0x3f, past: false };
+    let mut us = [Update {
+        register: 0x1a,
+        value: 0x00,
+        mask: 0x0c,
+        past: false,
+    }; 16];
+    us[1] = Update {
+        register: 0x12,
+        value: 0x06,
+        mask: 0xff,
+        past: false,
+    };
+    us[2] = Update {
+        register: 0x0c,
+        value: 0x00,
+        mask: 0x0f,
+        past: false,
+    };
+    us[3] = Update {
+        register: 0x13,
+        value: 0x01,
+        mask: 0x3f,
+        past: false,
+    };
     us
 }
 
@@ -56,8 +101,18 @@ pub fn if_updates(hz: u64) -> [Update; 16]
 {
     let low = narrow_or_wide(hz, 0x00, 0x10);
     let high = narrow_or_wide(hz, 0x80, 0x6b);
-    let mut us = [Update { register: 0x0a, value: low, mask: 0x70, past: false }; 16];
-    us[1] = Update { register: 0x0b, value: high, mask: 0xef, past: false };
+    let mut us = [Update {
+        register: 0x0a,
+        value: low,
+        mask: 0x70,
+        past: false,
+    }; 16];
+    us[1] = Update {
+        register: 0x0b,
+        value: high,
+        mask: 0xef,
+        past: false,
+    };
     us
 }
 
@@ -65,7 +120,12 @@ pub fn bandwidth_updates(hz: u32) -> [Update; 16]
     ensures { λ r. ⌜ (take 1 r ≡ bandwidthUpdates hz) × (allIn (take 1 r) ≡ true) ⌝ }
 {
     let value = width(hz);
-    let u = Update { register: 0x0a, value: value, mask: 0x0f, past: false };
+    let u = Update {
+        register: 0x0a,
+        value: value,
+        mask: 0x0f,
+        past: false,
+    };
     [u; 16]
 }
 
@@ -75,11 +135,36 @@ pub fn gain_updates(k: usize) -> [Update; 16]
     ensures { λ r. ⌜ (take 5 r ≡ gainUpdates k) × (allIn (take 5 r) ≡ true) ⌝ }
 {
     let cfg = gain::entry_at(k);
-    let mut us = [Update { register: 0x05, value: 0x10, mask: 0x10, past: false }; 16];
-    us[1] = Update { register: 0x07, value: 0x00, mask: 0x10, past: false };
-    us[2] = Update { register: 0x05, value: cfg.lna, mask: 0x0f, past: false };
-    us[3] = Update { register: 0x07, value: cfg.mix, mask: 0x0f, past: false };
-    us[4] = Update { register: 0x0c, value: cfg.vga, mask: 0x0f, past: false };
+    let mut us = [Update {
+        register: 0x05,
+        value: 0x10,
+        mask: 0x10,
+        past: false,
+    }; 16];
+    us[1] = Update {
+        register: 0x07,
+        value: 0x00,
+        mask: 0x10,
+        past: false,
+    };
+    us[2] = Update {
+        register: 0x05,
+        value: cfg.lna,
+        mask: 0x0f,
+        past: false,
+    };
+    us[3] = Update {
+        register: 0x07,
+        value: cfg.mix,
+        mask: 0x0f,
+        past: false,
+    };
+    us[4] = Update {
+        register: 0x0c,
+        value: cfg.vga,
+        mask: 0x0f,
+        past: false,
+    };
     us
 }
 
@@ -88,18 +173,48 @@ pub fn path_updates(path: Path) -> [Update; 16]
 {
     match path {
         Path::Hf => {
-            let mut us = [Update { register: 0x06, value: 0x08, mask: 0x08, past: false }; 16];
-            us[1] = Update { register: 0x05, value: 0x00, mask: 0x60, past: false };
+            let mut us = [Update {
+                register: 0x06,
+                value: 0x08,
+                mask: 0x08,
+                past: false,
+            }; 16];
+            us[1] = Update {
+                register: 0x05,
+                value: 0x00,
+                mask: 0x60,
+                past: false,
+            };
             us
         }
         Path::Vhf => {
-            let mut us = [Update { register: 0x05, value: 0x40, mask: 0x60, past: false }; 16];
-            us[1] = Update { register: 0x06, value: 0x00, mask: 0x08, past: false };
+            let mut us = [Update {
+                register: 0x05,
+                value: 0x40,
+                mask: 0x60,
+                past: false,
+            }; 16];
+            us[1] = Update {
+                register: 0x06,
+                value: 0x00,
+                mask: 0x08,
+                past: false,
+            };
             us
         }
         Path::Uhf => {
-            let mut us = [Update { register: 0x05, value: 0x20, mask: 0x60, past: false }; 16];
-            us[1] = Update { register: 0x06, value: 0x00, mask: 0x08, past: false };
+            let mut us = [Update {
+                register: 0x05,
+                value: 0x20,
+                mask: 0x60,
+                past: false,
+            }; 16];
+            us[1] = Update {
+                register: 0x06,
+                value: 0x00,
+                mask: 0x08,
+                past: false,
+            };
             us
         }
     }

@@ -46,10 +46,12 @@ returns : tie.Need-returns
 returns c = let a : c .before .before .before .before .before .before .before .before .before .before .before .before .send-all .result .count + due (c .before .before .before .before .before .before .before .before .before .before .before .before .send-all .result .held) ≤ c .before .before .before .before .before .before .before .before .before .before .before .before .before .before .before .before .args .f .count + 9 = c .before .before .before .before .before .before .before .before .before .before .before .before .send-all .ensures .1 in
     let b : c .before .before .before .before .before .before .before .with-repeater .result .count + due (c .before .before .before .before .before .before .before .with-repeater .result .held) ≤ c .before .before .before .before .before .before .before .before .before .before .before .before .send-all .result .count + 4 + 2 = c .before .before .before .before .before .before .before .with-repeater .ensures .1 in
     let d : c .before .before .with-repeater2 .result .count + due (c .before .before .with-repeater2 .result .held) ≤ c .before .before .before .before .before .before .before .with-repeater .result .count + 2 + 2 = c .before .before .with-repeater2 .ensures .1 in
-    let most : c .before .before .with-repeater2 .result .count + due (c .before .before .with-repeater2 .result .held) ≤ c .before .before .before .before .before .before .before .before .before .before .before .before .before .before .before .before .args .f .count + 19 = omega arith in
-    (then inRoom _ (sendAll initArray) (behind (updates initUpdates) ++ behind (updates (ifUpdates 2_300_000))) _ _ _ (c .before .before .before .before .before .before .before .before .before .before .before .before .send-all .ensures .0)
-    (then inRoom _ (behind (updates initUpdates)) (behind (updates (ifUpdates 2_300_000))) _ _ _ (from inRoom _ _ _ _ _ (ap (λ (us : List Update). behind (updates us)) (c .before .before .before .before .before .before .before .before .before .init-updates .ensures .0)) (c .before .before .before .before .before .before .before .with-repeater .ensures .0))
-    (from inRoom _ _ _ _ _ (ap (λ (us : List Update). behind (updates us)) (c .before .before .before .before .if-updates .ensures .0)) (c .before .before .with-repeater2 .ensures .0))), most)
+    let most : c .before .before .with-repeater2 .result .count + due (c .before .before .with-repeater2 .result .held) ≤ c .before .before .before .before .before .before .before .before .before .before .before .before .before .before .before .before .args .f .count + 19 = omega arith in (
+      then inRoom _ (sendAll initArray) (behind (updates initUpdates) ++ behind (updates (ifUpdates 2_300_000))) _ _ _ (c .before .before .before .before .before .before .before .before .before .before .before .before .send-all .ensures .0)
+          (then inRoom _ (behind (updates initUpdates)) (behind (updates (ifUpdates 2_300_000))) _ _ _ (from inRoom _ _ _ _ _ (ap (λ (us : List Update). behind (updates us)) (c .before .before .before .before .before .before .before .before .before .init-updates .ensures .0)) (c .before .before .before .before .before .before .before .with-repeater .ensures .0))
+          (from inRoom _ _ _ _ _ (ap (λ (us : List Update). behind (updates us)) (c .before .before .before .before .if-updates .ensures .0)) (c .before .before .with-repeater2 .ensures .0))),
+      most,
+    )
 
 pub initialize-spec : {M : Type 1} → statement M
 initialize-spec =
