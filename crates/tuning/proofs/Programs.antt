@@ -37,7 +37,7 @@ pick-every : (p : Step → Bool) (b : Bool) (xs ys : List Step) → every p xs �
 pick-every p true xs ys h k = h
 pick-every p false xs ys h k = k
 
-eight-update : (u : Update) → eight (updateStep u) ≡ true
+pub eight-update : (u : Update) → eight (updateStep u) ≡ true
 eight-update u = go (u .past) refl
   where
     go : (b : Bool) → u .past ≡ b → eight (updateStep u) ≡ true
