@@ -94,7 +94,7 @@ no-opening os (Send m bytes) t u f n r h = absurd (false≢true h)
 no-opening os (Mask g v m) t u f n r h = absurd (false≢true h)
 no-opening os (Plain e) t u f n r h = absurd (false≢true (sym (aside-of e f .kind) ∙ h))
 
-inner-went : (s : Step) (ok : Bool) (k : ℕ) (went : Went) → inner s ≡ true → wentFor s ok k went ≡ toldOf ok k
+pub inner-went : (s : Step) (ok : Bool) (k : ℕ) (went : Went) → inner s ≡ true → wentFor s ok k went ≡ toldOf ok k
 inner-went Open ok k went n = refl
 inner-went Close ok k went n = absurd (false≢true n)
 inner-went (Send m bytes) ok k went n = refl

@@ -1,3 +1,5 @@
 pub mod Runs
 pub mod Tracked
 pub mod Cuts
+pub mod Told
+pub mod Fitted
