@@ -21,7 +21,7 @@ use Rattle.chip.specs.Chips.{attemptedBy, maskedByte, pair}
 use Rattle.chip.specs.Entries.{flagOf, pickBytes, repeater, settled, written, zeros8}
 use Rattle.chip.specs.Steps.{Step, Trace, acts, after, emit, every, inList, line, okFor, run, taken, trace}
 use Rattle.chip.specs.Steps.Step.{Open, Close, Send, Mask, Plain}
-use Rattle.history.specs.Programs.{fine, finePlain}
+use Rattle.history.specs.Programs.{beside, fine, finePlain}
 use Rattle.history.proofs.Runs.{run-address, run-counted, run-keeps, run-most}
 use Rattle.history.proofs.Tracked.{Sent, aside-of, sent-of}
 
@@ -134,7 +134,7 @@ emit-fits os k (Plain e) c f a = settled-fits e (okFor os k (Plain e)) f (wait-d
 
 -- ---- a program
 
-fit-append : (xs ys : List Entry) → AllFit xs → AllFit ys → AllFit (xs ++ ys)
+pub fit-append : (xs ys : List Entry) → AllFit xs → AllFit ys → AllFit (xs ++ ys)
 fit-append [] ys h k = k
 fit-append (x ∷ xs) ys h k = (h .0, fit-append xs ys (h .1) k)
 
@@ -177,3 +177,18 @@ module _ (os : List ℕ) (ss : List Step) (c : Chip) where
   pub read-trace : every fine ss ≡ true → c .address ≤ 255 → length ss ≤ 4096 → (p : List ℕ)
       → Parted (p ++ sectionBytes (trace os ss c .log)) p (trace os ss c .log)
   read-trace f a m p = written-then-read p (trace os ss c .log) (fit-trace f a) (omega (arith, most-trace))
+
+-- the same of a program that attempts no register, over any chip
+fit-aside : (os : List ℕ) (s : Step) (t : Trace) → beside s ≡ true → AllFit (t .log) → AllFit (t .log ++ (emit s (t .chip) (okFor os (t .count) s) ∷ []))
+fit-aside os s t b h = fit-append (t .log) (emit s (t .chip) (okFor os (t .count) s) ∷ []) h (go s b, tt)
+  where
+    go : (s : Step) → beside s ≡ true → entryFits (emit s (t .chip) (okFor os (t .count) s)) ≡ true
+    go Open f = repeater-fits 1 (okFor os (t .count) Open) (omega arith)
+    go Close f = repeater-fits 0 (okFor os (t .count) Close) (omega arith)
+    go (Send n bytes) f = absurd (false≢true f)
+    go (Mask r v m) f = absurd (false≢true f)
+    go (Plain e) f = settled-fits e (okFor os (t .count) (Plain e)) f (wait-done (eqb (getD os (t .count) 0) 0) (e .kind))
+
+pub fit-beside : (os : List ℕ) (ss : List Step) (k : Chip) → every beside ss ≡ true → AllFit (trace os ss k .log)
+unfolding trace
+fit-beside os ss k b = run-keeps os (λ (t : Trace). AllFit (t .log)) beside (λ s t f a h. fit-aside os s t f h) ss (line k [] 0 Going false) b tt

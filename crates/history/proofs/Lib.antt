@@ -5,3 +5,5 @@ pub mod Told
 pub mod Fitted
 pub mod Fine
 pub mod Reload
+pub mod Demand
+pub mod Calls

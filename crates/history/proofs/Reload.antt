@@ -68,17 +68,21 @@ module _ (address : ℕ) (bs : List ℕ) (long : length bs ≡ 27) (k : Chunk) (
   part-long : length part ≡ k .size
   part-long = length-take-le (k .size) (drop (k .at) bs) (omega (arith, length-drop (k .at) bs, inside k w))
 
+  place : 5 + i - firstOf e + 1 ≡ i - k .at + 1
+  place = omega (arith, first)
+
+  back : k .at ≤ i → k .at + (i - k .at + 1 - 1) ≡ i
+  back l = omega arith
+
   -- the byte that goes to register 5 + i is the list's byte i
   chunk-byte : k .at ≤ i → i < k .at + k .size → sentTo e (5 + i) ≡ getD bs i 0
   unfolding chunkBytes
   chunk-byte l h =
-      let place : 5 + i - firstOf e + 1 ≡ i - k .at + 1 = omega (arith, first) in
-      let back : k .at + (i - k .at + 1 - 1) ≡ i = omega arith in
       ap (λ (j : ℕ). getD (chunkBytes bs (k .at) (k .size)) j 0) place
       ∙ sets-at 0 ((5 + k .at) ∷ 0 ∷ 0 ∷ 0 ∷ 0 ∷ 0 ∷ 0 ∷ 0 ∷ []) 1 part (i - k .at + 1) (omega arith) (omega (arith, part-long)) (omega (arith, part-long, seven k w))
       ∙ getD-take (k .size) (drop (k .at) bs) (i - k .at + 1 - 1) 0 (omega arith)
       ∙ getD-drop (k .at) bs (i - k .at + 1 - 1) 0
-      ∙ ap (λ (j : ℕ). getD bs j 0) back
+      ∙ ap (λ (j : ℕ). getD bs j 0) (back l)
 
   chunk-last : (l : Last) → lastBy address e (5 + i) l ≡ pickLast (inChunk k i) (Tried (getD bs i 0) true) l
   chunk-last l = go (leb (k .at) i) (ltb i (k .at + k .size)) refl refl

@@ -134,21 +134,28 @@ module _ (init : List ℕ) (c : Chip) (es : List Entry) (n : ℕ) (bytes : List 
       (getD (sets (c .doubtful) (first - 5) marks) i true ≡ doubtIn (lastIn (c .address) (es ++ (e ∷ [])) (5 + i)))
       × (getD (sets (c .attempted) (first - 5) sent) i 0 ≡ byteIn (getD init i 0) (lastIn (c .address) (es ++ (e ∷ [])) (5 + i)))
 
-  inside : (i : ℕ) → i < 27 → first ≤ 5 + i → 5 + i < first + (n - 1) → At i
-  inside i h l k =
-      let last : lastIn (c .address) (es ++ (e ∷ [])) (5 + i) ≡ Tried (sentTo e (5 + i)) (done e) =
-      last-snoc (c .address) es e (5 + i) ∙ ap (λ (b : Bool). pickLast b (Tried (sentTo e (5 + i)) (done e)) (lastIn (c .address) es (5 + i))) (named (c .address) e (5 + i) refl refl l k) in
-      let mark : getD (sets (c .doubtful) (first - 5) marks) i true ≡ not (done e) =
-      sets-at true (c .doubtful) (first - 5) marks i (omega arith) (omega (arith, marks-long)) (omega (arith, marks-long, follows .marks))
-      ∙ getD-replicate (n - 1) (i - (first - 5)) (not ok) true (omega arith)
-      ∙ ap not (sym (done-flag ok)) in
-      let place : 1 + (i - (first - 5)) ≡ 5 + i - first + 1 = omega arith in
-      let byte : getD (sets (c .attempted) (first - 5) sent) i 0 ≡ sentTo e (5 + i) =
-      sets-at 0 (c .attempted) (first - 5) sent i (omega arith) (omega (arith, sent-long)) (omega (arith, sent-long, follows .bytes))
-      ∙ getD-take (n - 1) (drop 1 bytes) (i - (first - 5)) 0 (omega arith)
-      ∙ getD-drop 1 bytes (i - (first - 5)) 0
-      ∙ ap (λ (j : ℕ). getD bytes j 0) place in
-      (mark ∙ sym (ap doubtIn last), byte ∙ sym (ap (byteIn (getD init i 0)) last))
+  module _ (i : ℕ) (l : first ≤ 5 + i) (k : 5 + i < first + (n - 1)) where
+    last : lastIn (c .address) (es ++ (e ∷ [])) (5 + i) ≡ Tried (sentTo e (5 + i)) (done e)
+    last = last-snoc (c .address) es e (5 + i) ∙ rw (named (c .address) e (5 + i) refl refl l k)
+
+    mark : getD (sets (c .doubtful) (first - 5) marks) i true ≡ not (done e)
+    mark =
+        sets-at true (c .doubtful) (first - 5) marks i (omega arith) (omega (arith, marks-long)) (omega (arith, marks-long, follows .marks))
+        ∙ getD-replicate (n - 1) (i - (first - 5)) (not ok) true (omega arith)
+        ∙ ap not (sym (done-flag ok))
+
+    place : 1 + (i - (first - 5)) ≡ 5 + i - first + 1
+    place = omega arith
+
+    byte : getD (sets (c .attempted) (first - 5) sent) i 0 ≡ sentTo e (5 + i)
+    byte =
+        sets-at 0 (c .attempted) (first - 5) sent i (omega arith) (omega (arith, sent-long)) (omega (arith, sent-long, follows .bytes))
+        ∙ getD-take (n - 1) (drop 1 bytes) (i - (first - 5)) 0 (omega arith)
+        ∙ getD-drop 1 bytes (i - (first - 5)) 0
+        ∙ ap (λ (j : ℕ). getD bytes j 0) place
+
+    inside : At i
+    inside = (mark ∙ sym (ap doubtIn last), byte ∙ sym (ap (byteIn (getD init i 0)) last))
 
   outside : (i : ℕ) → i < 27 → names (c .address) e (5 + i) ≡ false
       → getD (sets (c .doubtful) (first - 5) marks) i true ≡ getD (c .doubtful) i true
@@ -162,7 +169,7 @@ module _ (init : List ℕ) (c : Chip) (es : List Entry) (n : ℕ) (bytes : List 
   at i h = go (leb first (5 + i)) (ltb (5 + i) (first + (n - 1))) refl refl
     where
       go : (a b : Bool) → leb first (5 + i) ≡ a → ltb (5 + i) (first + (n - 1)) ≡ b → At i
-      go true true l k = inside i h (leb-true first (5 + i) l) (ltb-true (5 + i) (first + (n - 1)) k)
+      go true true l k = inside i (leb-true first (5 + i) l) (ltb-true (5 + i) (first + (n - 1)) k)
       go true false l k =
           let past : first + (n - 1) ≤ 5 + i = ltb-false (5 + i) (first + (n - 1)) k in
           outside i h (past-last (c .address) e (5 + i) past)

@@ -12,7 +12,9 @@ use lib.Dec.{eqb}
 use lib.ListN.{length, getD, replicate}
 use Rattle.transcript.specs.declared.Entry.{Entry}
 use Rattle.transcript.specs.Table.{isRead}
-use Rattle.attempts.specs.Attempts.{byteIn, done, doubtIn, firstOf, lastIn}
+use Rattle.attempts.specs.Attempts.{Regs, byteIn, done, doubtIn, firstOf, lastIn}
+use Rattle.chip.specs.declared.Answer.{Answer}
+use Rattle.chip.specs.declared.Answer.the-variants.{Done, Refused, Stopped}
 use Rattle.chip.specs.declared.Chip.{Chip}
 use Rattle.chip.specs.declared.Went.{Went}
 use Rattle.chip.specs.declared.Went.the-variants.{Going, Failed}
@@ -51,7 +53,7 @@ pub data History (init : List ℕ) : Chip → List Entry → Type 0 where
   called : (c : Chip) (es : List Entry) → History init c es → (os : List ℕ) (ss : List Step) → every fine ss ≡ true
       → (d : Chip) → Alike (trace os ss c .chip) d → History init d (es ++ trace os ss c .log)
   still : (c : Chip) (es : List Entry) → History init c es → (d : Chip) → Alike c d → History init d es
-  aside : (c : Chip) (es : List Entry) → History init c es → (k : Chip) → k .address ≤ 255 → (os : List ℕ) (ss : List Step) → every beside ss ≡ true
+  aside : (c : Chip) (es : List Entry) → History init c es → (k : Chip) (os : List ℕ) (ss : List Step) → every beside ss ≡ true
       → History init c (es ++ trace os ss k .log)
 
 -- an entry without its outcome, and without a read's data: the step that was tried
@@ -88,6 +90,13 @@ pub record Cut (i : ℕ) (cut whole : List Entry) : Type 0 where
   pub closes : Closing closing
   pub shut : eqb (last .kind) 1 ≡ true → closing ≡ []
 
+-- what a reload that was done leaves at register 5 + i: "all 27 registers and the shadow at the last attempted bytes", and no doubt
+pub record Restored (byte i : ℕ) (c : Chip) (chip : Regs) : Type 0 where
+  pub holds : chip (5 + i) ≡ byte
+  pub shadow : getD (c .shadow) i 0 ≡ byte
+  pub attempted : getD (c .attempted) i 0 ≡ byte
+  pub doubtful : getD (c .doubtful) i true ≡ false
+
 abbrev pub isClosing : Entry → Bool
 isClosing e = eqb (e .kind) 1 && eqb (firstOf e) 0
 
@@ -102,3 +111,17 @@ wentFrom k (e ∷ es) = pickWent (done e || isClosing e) (wentFrom (k + 1) es) (
 
 abbrev pub wentIn : List Entry → Went
 wentIn es = wentFrom 0 es
+
+abbrev pub pickEntries : Bool → List Entry → List Entry → List Entry
+pickEntries true a b = a
+pickEntries false a b = b
+
+-- the entries of a call as crate `chip` has it: those of its program's trace, and none where a number refuses it before any step
+abbrev pub callEntries : ℕ → List ℕ → List Step → Chip → List Entry
+callEntries number os ss c = pickEntries (eqb number 0) (trace os ss c .log) []
+
+-- an answer of a call whose steps are all done: a value or a refusal of its own, never a step's failing
+abbrev pub stops : Answer → Bool
+stops (Done value) = false
+stops (Refused number) = false
+stops (Stopped index) = true
