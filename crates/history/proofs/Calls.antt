@@ -22,8 +22,8 @@ use Rattle.chip.specs.Calls.{Called, answerOf, callOf, called, performed, pickC
 use Rattle.chip.specs.Steps.{Step, Trace, every, trace}
 use Rattle.history.specs.Programs.{fine}
 use Rattle.history.specs.Histories.{Alike, Cut, History, callEntries, pickEntries, stops}
-use Rattle.history.specs.Histories.History as history
-use Rattle.history.proofs.Cuts.{cut-trace, indexIn}
+use Rattle.history.specs.Histories.History.{called as more}
+use Rattle.history.proofs.Cuts.{cut-trace}
 use Rattle.history.proofs.Fitted.{fit-trace, most-trace, read-trace}
 
 module _ {R : Type 0} (number : ℕ) (whole : Answer) (os : List ℕ) (ss : List Step) (c : Chip) (keep : Trace → R) (old : R) (room : List ℕ) where
@@ -95,7 +95,7 @@ call-history {R} chipOf init es number whole os ss keep old room f l h = go (eqb
         → History init (chipOf (callOf number whole os ss (chipOf old) keep old room .next)) (es ++ callEntries number os ss (chipOf old))
     go true e =
         rw (ap (λ (d : Called R). d .next) (call-performed number whole os ss (chipOf old) keep old room e), e)
-        (history.called (chipOf old) es h os ss f (chipOf (keep (trace os ss (chipOf old)))) l)
+        (more (chipOf old) es h os ss f (chipOf (keep (trace os ss (chipOf old)))) l)
     go false e =
         rw (ap (λ (d : Called R). d .next) (call-refused number whole os ss (chipOf old) keep old room e), e, append-nil es)
         h
