@@ -5,10 +5,10 @@ use mathlib.Core.Path.{_≡_, refl, sym, ap, _∙_}
 use mathlib.Core.Bool.{Bool, true, false, _&&_, and-false}
 use mathlib.Core.List.{List, [], _∷_, _++_}
 use native.Mathlib.Omega.{arith}
-use borrow.Author.Tests.{eqb-true, leb-true, leb-false, ltb-true, ltb-false, eq-eqb, ne-eqb, le-leb, lt-leb, lt-ltb, le-ltb}
-use lib.Dec.{eqb, leb, ltb}
+use borrow.Author.Tests.{leb-true, leb-false, eq-eqb, le-leb, lt-leb, lt-ltb, le-ltb}
+use lib.Dec.{eqb, leb}
 use Rattle.transcript.specs.declared.Entry.{Entry}
-use Rattle.attempts.specs.Attempts.{Last, done, firstOf, lastBy, lastFrom, lastIn, names, pickLast, sentTo}
+use Rattle.attempts.specs.Attempts.{Last, done, firstOf, lastBy, lastFrom, lastIn, names, sentTo}
 use Rattle.attempts.specs.Attempts.Last.{Never, Tried}
 
 module _ (address : ℕ) (e : Entry) (r : ℕ) where

@@ -3,10 +3,11 @@
 -- A call of the tuner is an instance: R is its record, `chipOf` the chip in it. Assumes nothing.
 use Prim.Native.Nat.{ℕ, _+_, _*_, _≤_}
 use mathlib.Core.Path.{_≡_, refl, sym, ap, subst, _∙_}
-use mathlib.Core.Bool.{Bool, true, false, true≢false, false≢true}
-use mathlib.Core.List.{List, [], _∷_, _++_, append-nil, append-assoc}
+use mathlib.Core.Bool.{Bool, true, false, false≢true}
+use mathlib.Core.List.{List, [], _++_, append-nil}
 use native.Mathlib.Omega.{arith}
-use lib.Dec.{eqb}
+use borrow.Author.Tests.{ltb-false}
+use lib.Dec.{eqb, ltb}
 use lib.ListN.{length, take, drop, set}
 use lib.Seq.{sets, sets-eq, take-at}
 use Rattle.transcript.specs.declared.Entry.{Entry}
@@ -18,13 +19,24 @@ use Rattle.chip.specs.declared.Answer.the-variants.{Done, Refused, Stopped}
 use Rattle.chip.specs.declared.Chip.{Chip}
 use Rattle.chip.specs.declared.Went.{Went}
 use Rattle.chip.specs.declared.Went.the-variants.{Going, Failed}
-use Rattle.chip.specs.Calls.{Called, answerOf, callOf, called, performed, pickCalled}
+use Rattle.chip.specs.Calls.{Called, answerOf, callOf, called, lentOf, performed}
 use Rattle.chip.specs.Steps.{Step, Trace, every, trace}
 use Rattle.history.specs.Programs.{fine}
-use Rattle.history.specs.Histories.{Alike, Cut, History, callEntries, pickEntries, stops}
+use Rattle.history.specs.Histories.{Alike, Cut, History, callEntries, stops}
 use Rattle.history.specs.Histories.History.{called as more}
 use Rattle.history.proofs.Cuts.{cut-trace}
 use Rattle.history.proofs.Fitted.{fit-trace, most-trace, read-trace}
+
+-- the room of a call that is not refused for what was lent suffices for its most entries
+pub lent-room : (n m room outcomes replies : ℕ) → lentOf n m room outcomes replies ≡ 0 → 16 * n + 8 ≤ room
+unfolding lentOf
+lent-room n m room outcomes replies h = go (ltb room (16 * n + 8)) refl
+  where
+    go : (b : Bool) → ltb room (16 * n + 8) ≡ b → 16 * n + 8 ≤ room
+    go true t =
+        let eight : _≡_ {A = ℕ} 8 0 = rw t at h in
+        absurd (omega arith)
+    go false t = ltb-false room (16 * n + 8) t
 
 module _ {R : Type 0} (number : ℕ) (whole : Answer) (os : List ℕ) (ss : List Step) (c : Chip) (keep : Trace → R) (old : R) (room : List ℕ) where
   abbrev call : Called R

@@ -1,13 +1,13 @@
 -- A cut call against the uncut one, for every program: the entries are the same up to the failing step, and after it there is at most a closing.
 -- Assumes nothing.
-use Prim.Native.Nat.{ℕ, suc, _+_, _≤_, _<_}
+use Prim.Native.Nat.{ℕ, _≤_, _<_}
 use mathlib.Core.Path.{_≡_, refl, sym, ap, subst, _∙_}
-use mathlib.Core.Bool.{Bool, true, false, not, _&&_, _||_, true≢false, false≢true, and-true, and-false}
-use mathlib.Core.List.{List, [], _∷_, _++_}
+use mathlib.Core.Bool.{Bool, true, false, _&&_, _||_, true≢false, false≢true}
+use mathlib.Core.List.{List, [], _∷_}
 use native.Mathlib.Omega.{arith}
 use borrow.Author.Tests.{ltb-true, ltb-false}
 use lib.Dec.{eqb, ltb}
-use lib.ListN.{length, getD, set, length-append, List·getD-eq-default}
+use lib.ListN.{length, getD, set, List·getD-eq-default}
 use lib.Seq.{append-snoc, getD-set-same, getD-set-other, set-out}
 use Rattle.transcript.specs.declared.Entry.{Entry}
 use Rattle.transcript.specs.Table.{isRead}
@@ -15,13 +15,13 @@ use Rattle.attempts.specs.Attempts.{done}
 use Rattle.chip.specs.declared.Chip.{Chip}
 use Rattle.chip.specs.declared.Went.{Went}
 use Rattle.chip.specs.declared.Went.the-variants.{Going, Failed}
-use Rattle.chip.specs.Entries.{pickBytes, settled, zeros8}
+use Rattle.chip.specs.Entries.{pickBytes, zeros8}
 use Rattle.chip.specs.Steps.{Step, Trace, acts, emit, every, goes, inList, inner, line, okFor, run, step, taken, toldOf, trace, wentFor}
 use Rattle.chip.specs.Steps.Step.{Open, Close, Send, Mask, Plain}
 use Rattle.chip.proofs.Laws.{active, and-left, and-right, idle}
 use Rattle.history.specs.Programs.{fine}
-use Rattle.history.specs.Histories.{Closing, Cut, bare}
-use Rattle.history.proofs.Runs.{Rest, run-counted, run-log, stopped-run}
+use Rattle.history.specs.Histories.{Cut, bare}
+use Rattle.history.proofs.Runs.{Rest, counted-taken, run-log, stopped-run}
 use Rattle.history.proofs.Tracked.{aside-of, done-flag}
 
 -- ---- outcomes
@@ -136,15 +136,12 @@ module _ (os : List ℕ) (i : ℕ) where
       let ok : Bool = okFor os (t .count) s in
       let u : Trace = taken inList os ok s t in
       let here : u ≡ step inList os s t = active inList os s t a in
-      let more : u .count ≡ length (u .log) = run-one k in
+      let more : u .count ≡ length (u .log) = counted-taken os s t ok k in
       let r : Ahead ss u = rest u g more (ap (λ (v : Trace). run inList os ss v .went) here ∙ f) in
       let late : t .count < i = omega (arith, r .0) in
       let same : ok ≡ okFor uncut (t .count) s = ok-same os uncut (t .count) s (sym (getD-set-other os i (t .count) 0 0 (λ e. omega arith))) in
       let there : u ≡ step inList uncut s t = ap (λ (b : Bool). taken inList uncut b s t) same ∙ active inList uncut s t a in
       (omega arith, cut-moved i _ _ _ _ (ap (λ (v : Trace). run inList os ss v .log) here) (ap (λ (v : Trace). run inList uncut ss v .log) there) (r .1))
-    where
-      run-one : t .count ≡ length (t .log) → t .count + 1 ≡ length (t .log ++ (emit s (t .chip) (okFor os (t .count) s) ∷ []))
-      run-one q = ap (λ (m : ℕ). m + 1) q ∙ sym (length-append (t .log) (emit s (t .chip) (okFor os (t .count) s) ∷ []))
 
   -- the failing step
   stopped : (s : Step) (ss : List Step) (t : Trace) → fine s ≡ true → inner s ≡ true → acts s (t .went) (t .held) ≡ true
@@ -160,23 +157,24 @@ module _ (os : List ℕ) (i : ℕ) where
       let met : okFor uncut (t .count) s ≡ true = ok-done uncut (t .count) s (ap (λ (j : ℕ). getD uncut j 0) (sym index) ∙ set-done os i) in
       let v : Trace = taken inList uncut true s t in
       let there : v ≡ step inList uncut s t = ap (λ (b : Bool). taken inList uncut b s t) (sym met) ∙ active inList uncut s t a in
-      let more = run-log uncut ss v in
-      (omega arith,
-      record {
-        earlier = t .log;
-        last = emit s (t .chip) false;
-        there = emit s (t .chip) true;
-        closing = r .closing;
-        later = more .0;
-        index = index ∙ k;
-        cuts = sym (ap (λ (x : Trace). run inList os ss x .log) here) ∙ r .log ∙ append-snoc (t .log) (emit s (t .chip) false) (r .closing);
-        wholes = sym (ap (λ (x : Trace). run inList uncut ss x .log) there) ∙ more .1 ∙ append-snoc (t .log) (emit s (t .chip) true) (more .0);
-        same = emit-bare s (t .chip);
-        failed = emit-done s (t .chip) false;
-        met = emit-done s (t .chip) true;
-        closes = r .closes;
-        shut = no-opening os s t (run inList os ss u) f n r;
-      })
+      let more = run-log uncut ss v in (
+        omega arith,
+        record {
+          earlier = t .log;
+          last = emit s (t .chip) false;
+          there = emit s (t .chip) true;
+          closing = r .closing;
+          later = more .0;
+          index = index ∙ k;
+          cuts = sym (ap (λ (x : Trace). run inList os ss x .log) here) ∙ r .log ∙ append-snoc (t .log) (emit s (t .chip) false) (r .closing);
+          wholes = sym (ap (λ (x : Trace). run inList uncut ss x .log) there) ∙ more .1 ∙ append-snoc (t .log) (emit s (t .chip) true) (more .0);
+          same = emit-bare s (t .chip);
+          failed = emit-done s (t .chip) false;
+          met = emit-done s (t .chip) true;
+          closes = r .closes;
+          shut = no-opening os s t (run inList os ss u) f n r;
+        },
+      )
 
   inner-acts : (s : Step) (went : Went) (held : Bool) → inner s ≡ true → went ≡ Going → acts s went held ≡ true
   inner-acts Open went held n g = ap goes g

@@ -7,23 +7,22 @@
 -- Assumes nothing.
 use Prim.Native.Nat.{ℕ, _+_, _≤_, _<_}
 use mathlib.Core.Path.{_≡_, refl, sym, ap, subst, _∙_}
-use mathlib.Core.Bool.{Bool, true, false, not, true≢false}
+use mathlib.Core.Bool.{Bool, true, false}
 use mathlib.Core.List.{List, [], _∷_, _++_, append-nil, append-assoc}
+use mathlib.Core.Logic.{_↔_}
 use native.Mathlib.Omega.{arith}
-use borrow.Author.Tests.{not-false}
-use lib.ListN.{length, getD, set, replicate, length-replicate, getD-replicate}
+use lib.ListN.{length, getD, set, length-replicate, getD-replicate}
 use Rattle.transcript.specs.declared.Entry.{Entry}
 use Rattle.transcript.specs.Sections.{AllFit, Parted, sectionBytes}
 use Rattle.attempts.specs.Attempts.{Last, Played, Regs, byteIn, done, doubtIn, lastFrom, lastIn, names}
 use Rattle.attempts.specs.Attempts.Last.{Never, Tried}
+use Rattle.attempts.proofs.Doubt.{InVain, doubt-any, doubt-exactly, sure-byte}
 use Rattle.attempts.proofs.Named.{known, last-append, last-known, other-kind}
 use Rattle.attempts.proofs.Played.{last-done, last-never, some-played}
 use Rattle.chip.specs.declared.Chip.{Chip}
 use Rattle.chip.specs.declared.Went.{Went}
 use Rattle.chip.specs.declared.Went.the-variants.{Going, Failed}
-use Rattle.chip.specs.Chips.{withLists}
-use Rattle.chip.specs.Entries.{settled}
-use Rattle.chip.specs.Steps.{Step, Trace, acts, emit, every, inList, line, okFor, run, taken, trace}
+use Rattle.chip.specs.Steps.{Step, Trace, emit, every, line, okFor, trace}
 use Rattle.chip.specs.Steps.Step.{Open, Close, Send, Mask, Plain}
 use Rattle.history.specs.Programs.{beside, fine, reloadSteps, reloaded, shadowBy}
 use Rattle.history.specs.Histories.{Alike, Cut, Fresh, History, Restored, Tracks, wentIn}
@@ -88,6 +87,10 @@ module _ (init : List ℕ) (c : Chip) (es : List Entry) (history : History init 
   pub doubtful-exactly : (i : ℕ) → i < 27 → getD (c .doubtful) i true ≡ doubtIn (lastIn (c .address) es (5 + i))
   doubtful-exactly i h = follows init c es history .doubtful i h
 
+  -- the same in the demand's words
+  pub doubtful-words : (i : ℕ) → i < 27 → (getD (c .doubtful) i true ≡ true) ↔ InVain (lastIn (c .address) es (5 + i))
+  doubtful-words i h = rw (doubtful-exactly i h) (doubt-exactly (lastIn (c .address) es (5 + i)))
+
   -- (b) the record's attempted byte is the last attempted in the entries, or `INIT_ARRAY`'s where none was
   pub attempted-last : (i : ℕ) → i < 27 → getD (c .attempted) i 0 ≡ byteIn (getD init i 0) (lastIn (c .address) es (5 + i))
   attempted-last i h = follows init c es history .attempted i h
@@ -103,16 +106,18 @@ module _ (init : List ℕ) (c : Chip) (es : List Entry) (history : History init 
 
     -- so a register without a doubtful mark holds the record's attempted byte
     pub sure-holds : (i : ℕ) → i < 27 → getD (c .doubtful) i true ≡ false → after (5 + i) ≡ getD (c .attempted) i 0
-    sure-holds i h d = go (lastIn (c .address) es (5 + i)) refl
-      where
-        go : (l : Last) → lastIn (c .address) es (5 + i) ≡ l → after (5 + i) ≡ getD (c .attempted) i 0
-        go Never e = absurd (true≢false (ap doubtIn (sym e) ∙ sym (doubtful-exactly i h) ∙ d))
-        go (Tried byte true) e = done-holds (5 + i) byte e ∙ sym (attempted-last i h ∙ ap (byteIn (getD init i 0)) e)
-        go (Tried byte false) e = absurd (true≢false (ap doubtIn (sym e) ∙ sym (doubtful-exactly i h) ∙ d))
+    sure-holds i h d =
+        sure-byte (c .address) es before after (5 + i) (getD init i 0) played (sym (doubtful-exactly i h) ∙ d) ∙ sym (attempted-last i h)
 
-  -- (f) there is such a chip, whatever the entries and the chip to start from. crate attempts: `failed-part` for a failed write, `vain-any` for a doubtful register
+  -- (f) there is such a chip, whatever the chip to start from; a failed write admits both the old and the new byte in each register that it
+  -- named (`failed-part` of crate attempts)
   pub some-chip : (before : Regs) → (after : Regs) × Played (c .address) es before after
   some-chip before = some-played (c .address) es before
+
+  -- and of a register with a doubtful mark the entries settle nothing: it may hold any byte
+  pub doubtful-any : (i x : ℕ) → i < 27 → getD (c .doubtful) i true ≡ true
+      → (before : Regs) × (after : Regs) × Played (c .address) es before after × (after (5 + i) ≡ x)
+  doubtful-any i x h d = doubt-any (c .address) es (5 + i) x (sym (doubtful-exactly i h) ∙ d)
 
 -- every entry of a history fits the table
 pub history-fits : (init : List ℕ) (c : Chip) (es : List Entry) → History init c es → AllFit es

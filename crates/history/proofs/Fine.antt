@@ -1,12 +1,12 @@
 -- Programs whose steps pass the test: one after the other, behind a repeater, updates of registers, chunks of bytes. A call's program is put
 -- together from these. Assumes nothing.
-use Prim.Native.Nat.{ℕ, zero, suc, _+_, _≤_, _<_}
-use mathlib.Core.Path.{_≡_, refl, sym, ap, _∙_}
-use mathlib.Core.Bool.{Bool, true, false, _&&_}
+use Prim.Native.Nat.{ℕ, zero, suc, _+_, _≤_}
+use mathlib.Core.Path.{_≡_, refl, ap, _∙_}
+use mathlib.Core.Bool.{Bool, true, false}
 use mathlib.Core.List.{List, [], _∷_, _++_, map}
 use native.Mathlib.Omega.{arith}
-use borrow.Author.Tests.{eq-eqb, eqb-true, le-leb}
-use lib.Dec.{eqb, leb}
+use borrow.Author.Tests.{eq-eqb, le-leb}
+use lib.Dec.{eqb}
 use lib.ListN.{length, getD, take, drop, set, length-take}
 use lib.Seq.{sets, drop-set-lt}
 use Rattle.transcript.specs.Entries.{zeros}
@@ -14,7 +14,7 @@ use Rattle.chip.specs.declared.Chunk.{Chunk}
 use Rattle.chip.specs.declared.Update.{Update}
 use Rattle.chip.specs.Chips.{pair}
 use Rattle.chip.specs.Steps.{Step, allIn, behind, chunkBytes, chunkStep, chunkTable, every, inRange, tunerWrite, updateStep, updates, within}
-use Rattle.chip.specs.Steps.Step.{Open, Close, Send, Mask, Plain}
+use Rattle.chip.specs.Steps.Step.{Close}
 use Rattle.chip.proofs.Laws.{and-left, and-right}
 use Rattle.chip.proofs.Lists.{low, high}
 use Rattle.chip.proofs.Chunks.{some, seven, inside, first-register, chunk-eight, table-within}

@@ -1,29 +1,29 @@
 -- Each entry of a fine program fits the table, so that its section is read back to exactly its entries, and there is at most one for each step.
 -- Assumes nothing.
-use Prim.Native.Nat.{ℕ, suc, _+_, _-_, _≤_, _<_}
+use Prim.Native.Nat.{ℕ, suc, _-_, _≤_, _<_}
 use mathlib.Core.Path.{_≡_, refl, sym, ap, _∙_}
-use mathlib.Core.Bool.{Bool, true, false, not, _&&_, _||_, or-true, false≢true}
+use mathlib.Core.Bool.{Bool, true, false, _&&_, _||_, or-true, false≢true}
 use mathlib.Core.List.{List, [], _∷_, _++_}
 use native.Mathlib.Omega.{arith}
-use borrow.Author.Tests.{eqb-true, eqb-false, leb-true, eq-eqb, le-leb, ne-eqb}
+use borrow.Author.Tests.{eqb-false, leb-true, eq-eqb, le-leb}
 use lib.Dec.{T, eqb, leb, leb·zero}
 use lib.ListN.{length, getD, drop}
-use Rattle.below.proofs.Test.{below, passes}
+use Rattle.below.proofs.Test.{below}
 use Rattle.transcript.specs.declared.Entry.{Entry}
 use Rattle.transcript.specs.Table.{addressMost, firstMost, isRead, nHigh, nLow, outcomeMost, rowFits, targetMost}
-use Rattle.transcript.specs.Entries.{entryFits, keptBy, pickN, zeros}
+use Rattle.transcript.specs.Entries.{entryFits, keptBy, zeros}
 use Rattle.transcript.specs.Sections.{AllFit, Parted, sectionBytes}
 use Rattle.transcript.proofs.Reading.{both}
 use Rattle.transcript.proofs.Exact.{written-then-read}
 use Rattle.chip.specs.declared.Chip.{Chip}
 use Rattle.chip.specs.declared.Went.the-variants.{Going}
-use Rattle.chip.specs.Chips.{attemptedBy, maskedByte, pair}
+use Rattle.chip.specs.Chips.{maskedByte, pair}
 use Rattle.chip.specs.Entries.{flagOf, pickBytes, repeater, settled, written, zeros8}
-use Rattle.chip.specs.Steps.{Step, Trace, acts, after, emit, every, inList, line, okFor, run, taken, trace}
+use Rattle.chip.specs.Steps.{Step, Trace, acts, emit, every, inList, line, okFor, taken, trace}
 use Rattle.chip.specs.Steps.Step.{Open, Close, Send, Mask, Plain}
 use Rattle.history.specs.Programs.{beside, fine, finePlain}
-use Rattle.history.proofs.Runs.{run-address, run-counted, run-keeps, run-most}
-use Rattle.history.proofs.Tracked.{Sent, aside-of, sent-of}
+use Rattle.history.proofs.Runs.{after-address, run-counted, run-keeps, run-most}
+use Rattle.history.proofs.Tracked.{aside-of, sent-of}
 
 -- ---- an entry
 
@@ -42,17 +42,17 @@ unfolding entryFits rowFits nLow nHigh outcomeMost targetMost addressMost firstM
 written-fits address n bytes ok a l h b e z =
     rw (flag-one ok, le-leb address 255 a, le-leb 1 n l, le-leb n 8 h, le-leb (getD bytes 0 0) 255 b, eq-eqb (length bytes) 8 e, z)
 
+pub test-true : (b : Bool) → T b → b ≡ true
+test-true true t = refl
+test-true false t = absurd t
+
 -- each kind but a wait may fail: one computed test of the column
 may-fail : (k : ℕ) → 1 ≤ k → k < 9 → leb 1 (getD outcomeMost k 0) ≡ true
 unfolding outcomeMost
 may-fail k l h =
     let here : suc (k - 1) ≡ k = omega arith in
     ap (λ (j : ℕ). leb 1 (getD outcomeMost j 0)) (sym here)
-    ∙ told (leb 1 (getD outcomeMost (suc (k - 1)) 0)) (below (λ (j : ℕ). leb 1 (getD outcomeMost (suc j) 0)) 8 tt (k - 1) (omega arith))
-  where
-    told : (b : Bool) → T b → b ≡ true
-    told true t = refl
-    told false t = absurd t
+    ∙ test-true (leb 1 (getD outcomeMost (suc (k - 1)) 0)) (below (λ (j : ℕ). leb 1 (getD outcomeMost (suc j) 0)) 8 tt (k - 1) (omega arith))
 
 -- a row with another outcome and another first byte
 row-failed : (k t n a b d : ℕ) → eqb k 9 ≡ false → leb d (getD firstMost k 0) ≡ true → rowFits k 0 t n a b ≡ true → rowFits k 1 t n a d ≡ true
@@ -120,16 +120,24 @@ settled-fits e false f w = go (eqb (e .kind) 9) refl
 wait-done : (o : Bool) (k : ℕ) → eqb k 9 ≡ true → (o || eqb k 9) ≡ true
 wait-done o k h = ap (λ (b : Bool). o || b) h ∙ or-true o
 
-emit-fits : (os : List ℕ) (k : ℕ) (s : Step) (c : Chip) → fine s ≡ true → c .address ≤ 255 → entryFits (emit s c (okFor os k s)) ≡ true
+beside-fine : (s : Step) → beside s ≡ true → fine s ≡ true
+beside-fine Open b = refl
+beside-fine Close b = refl
+beside-fine (Send n bytes) b = absurd (false≢true b)
+beside-fine (Mask r v m) b = absurd (false≢true b)
+beside-fine (Plain e) b = b
+
+emit-fits : (os : List ℕ) (k : ℕ) (s : Step) (c : Chip) → fine s ≡ true → (beside s ≡ false → c .address ≤ 255)
+    → entryFits (emit s c (okFor os k s)) ≡ true
 unfolding zeros
 emit-fits os k Open c f a = repeater-fits 1 (okFor os k Open) (omega arith)
 emit-fits os k Close c f a = repeater-fits 0 (okFor os k Close) (omega arith)
 emit-fits os k (Send n bytes) c f a =
     let s = sent-of n bytes f in
-    written-fits (c .address) n bytes (okFor os k (Send n bytes)) a (omega (arith, s .two)) (s .most) (omega (arith, s .high)) (s .eight) (s .padded)
+    written-fits (c .address) n bytes (okFor os k (Send n bytes)) (a refl) (omega (arith, s .two)) (s .most) (omega (arith, s .high)) (s .eight) (s .padded)
 emit-fits os k (Mask r v m) c f a =
     let high : r ≤ 31 = leb-true r 31 (both (leb 5 r) (leb r 31) f .1) in
-    written-fits (c .address) 2 (pair r (maskedByte c r v m)) (okFor os k (Mask r v m)) a (omega arith) (omega arith) (omega arith) refl refl
+    written-fits (c .address) 2 (pair r (maskedByte c r v m)) (okFor os k (Mask r v m)) (a refl) (omega arith) (omega arith) (omega arith) refl refl
 emit-fits os k (Plain e) c f a = settled-fits e (okFor os k (Plain e)) f (wait-done (eqb (getD os k 0) 0) (e .kind))
 
 -- ---- a program
@@ -142,19 +150,11 @@ record Fitting (t : Trace) : Type 0 where
   chip : t .chip .address ≤ 255
   fit : AllFit (t .log)
 
-same-address : (s : Step) (c : Chip) (ok : Bool) → after s c ok .address ≡ c .address
-unfolding attemptedBy
-same-address Open c ok = refl
-same-address Close c ok = refl
-same-address (Send n bytes) c ok = refl
-same-address (Mask r v m) c ok = refl
-same-address (Plain e) c ok = refl
-
 fitting-step : (os : List ℕ) (s : Step) (t : Trace) → fine s ≡ true → acts s (t .went) (t .held) ≡ true → Fitting t → Fitting (taken inList os (okFor os (t .count) s) s t)
 fitting-step os s t f a h =
     record {
-      chip = omega (arith, h .chip, same-address s (t .chip) (okFor os (t .count) s));
-      fit = fit-append (t .log) (emit s (t .chip) (okFor os (t .count) s) ∷ []) (h .fit) (emit-fits os (t .count) s (t .chip) f (h .chip), tt);
+      chip = omega (arith, h .chip, after-address s (t .chip) (okFor os (t .count) s));
+      fit = fit-append (t .log) (emit s (t .chip) (okFor os (t .count) s) ∷ []) (h .fit) (emit-fits os (t .count) s (t .chip) f (λ b. h .chip), tt);
     }
 
 module _ (os : List ℕ) (ss : List Step) (c : Chip) where
@@ -179,16 +179,10 @@ module _ (os : List ℕ) (ss : List Step) (c : Chip) where
   read-trace f a m p = written-then-read p (trace os ss c .log) (fit-trace f a) (omega (arith, most-trace))
 
 -- the same of a program that attempts no register, over any chip
-fit-aside : (os : List ℕ) (s : Step) (t : Trace) → beside s ≡ true → AllFit (t .log) → AllFit (t .log ++ (emit s (t .chip) (okFor os (t .count) s) ∷ []))
-fit-aside os s t b h = fit-append (t .log) (emit s (t .chip) (okFor os (t .count) s) ∷ []) h (go s b, tt)
-  where
-    go : (s : Step) → beside s ≡ true → entryFits (emit s (t .chip) (okFor os (t .count) s)) ≡ true
-    go Open f = repeater-fits 1 (okFor os (t .count) Open) (omega arith)
-    go Close f = repeater-fits 0 (okFor os (t .count) Close) (omega arith)
-    go (Send n bytes) f = absurd (false≢true f)
-    go (Mask r v m) f = absurd (false≢true f)
-    go (Plain e) f = settled-fits e (okFor os (t .count) (Plain e)) f (wait-done (eqb (getD os (t .count) 0) 0) (e .kind))
-
 pub fit-beside : (os : List ℕ) (ss : List Step) (k : Chip) → every beside ss ≡ true → AllFit (trace os ss k .log)
 unfolding trace
-fit-beside os ss k b = run-keeps os (λ (t : Trace). AllFit (t .log)) beside (λ s t f a h. fit-aside os s t f h) ss (line k [] 0 Going false) b tt
+fit-beside os ss k b =
+    run-keeps os (λ (t : Trace). AllFit (t .log)) beside
+    (λ s t f a h.
+    fit-append (t .log) (emit s (t .chip) (okFor os (t .count) s) ∷ []) h
+    (emit-fits os (t .count) s (t .chip) (beside-fine s f) (λ n. absurd (false≢true (sym n ∙ f))), tt)) ss (line k [] 0 Going false) b tt

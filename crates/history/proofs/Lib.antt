@@ -7,3 +7,4 @@ pub mod Fine
 pub mod Reload
 pub mod Demand
 pub mod Calls
+pub mod Worked

@@ -1,16 +1,16 @@
 -- Reload's program, done: the last attempt of each of the 27 registers is the byte sent, and it was done. Assumes nothing.
-use Prim.Native.Nat.{ℕ, suc, _+_, _-_, _≤_, _<_}
+use Prim.Native.Nat.{ℕ, _+_, _-_, _≤_, _<_}
 use mathlib.Core.Path.{_≡_, refl, sym, ap, _∙_}
 use mathlib.Core.Bool.{Bool, true, false, _&&_, _||_, true≢false, false≢true}
-use mathlib.Core.List.{List, [], _∷_, _++_, map}
+use mathlib.Core.List.{List, [], _∷_, map}
 use native.Mathlib.Omega.{arith}
 use borrow.Author.Tests.{leb-true, leb-false, ltb-true, ltb-false}
-use lib.Dec.{T, leb, ltb}
+use lib.Dec.{leb, ltb}
 use lib.ListN.{length, getD, take, drop, length-drop}
 use lib.Seq.{length-take-le, getD-take, getD-drop}
 use Rattle.below.proofs.Test.{below}
 use Rattle.transcript.specs.declared.Entry.{Entry}
-use Rattle.attempts.specs.Attempts.{Last, done, firstOf, lastBy, lastFrom, lastIn, names, pickLast, sentTo}
+use Rattle.attempts.specs.Attempts.{Last, firstOf, lastBy, lastFrom, lastIn, names, pickLast, sentTo}
 use Rattle.attempts.specs.Attempts.Last.{Never, Tried}
 use Rattle.attempts.proofs.Named.{named, other-kind, below-first, past-last, last-snoc, last-same}
 use Rattle.chip.specs.declared.Chip.{Chip}
@@ -22,10 +22,11 @@ use Rattle.chip.specs.Entries.{written}
 use Rattle.chip.specs.Steps.{Step, Trace, acts, behind, chunkBytes, chunkStep, chunkTable, emit, every, goes, inList, line, okFor, run, step, taken, toldOf, trace, tunerWrite, within}
 use Rattle.chip.specs.Steps.Step.{Open, Close, Send}
 use Rattle.chip.proofs.Laws.{active, and-left, and-right, close-went, idle, run-app}
-use Rattle.chip.proofs.Chunks.{some, seven, inside, first-register}
+use Rattle.chip.proofs.Chunks.{seven, inside, first-register}
 use Rattle.history.specs.Programs.{reloadSteps}
 use Rattle.history.proofs.Runs.{Rest, run-address, stopped-run}
 use Rattle.history.proofs.Tracked.{sets-at}
+use Rattle.history.proofs.Fitted.{test-true}
 use Rattle.history.proofs.Fine.{table-part}
 
 -- ---- which registers chunks name
@@ -46,12 +47,8 @@ pick-pick false b x l = refl
 all-covered : (i : ℕ) → i < 27 → (covers (drop 0 (take 3 chunkTable)) i || covers (drop 3 (take 5 chunkTable)) i) ≡ true
 unfolding covers
 all-covered i h =
-    told (covers (drop 0 (take 3 chunkTable)) i || covers (drop 3 (take 5 chunkTable)) i)
+    test-true (covers (drop 0 (take 3 chunkTable)) i || covers (drop 3 (take 5 chunkTable)) i)
     (below (λ (j : ℕ). covers (drop 0 (take 3 chunkTable)) j || covers (drop 3 (take 5 chunkTable)) j) 27 tt i h)
-  where
-    told : (b : Bool) → T b → b ≡ true
-    told true t = refl
-    told false t = absurd t
 
 -- ---- one chunk
 

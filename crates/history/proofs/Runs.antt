@@ -1,23 +1,30 @@
 -- Runs of any program with the list as log: what each step that is taken keeps, a run keeps; its entries are counted and only grow; and once a
 -- step has failed, at most a closing is made. Assumes nothing.
-use Prim.Native.Nat.{ℕ, suc, _+_, _≤_}
+use Prim.Native.Nat.{ℕ, _+_, _≤_}
 use mathlib.Core.Path.{_≡_, refl, sym, ap, subst, _∙_}
-use mathlib.Core.Bool.{Bool, true, false, _&&_, true≢false, false≢true}
+use mathlib.Core.Bool.{Bool, true, false, true≢false}
 use mathlib.Core.List.{List, [], _∷_, _++_, append-nil, append-assoc}
 use native.Mathlib.Omega.{arith}
 use lib.ListN.{length, length-append}
-use lib.Seq.{append-snoc}
 use Rattle.transcript.specs.declared.Entry.{Entry}
 use Rattle.chip.specs.declared.Chip.{Chip}
 use Rattle.chip.specs.declared.Went.{Went}
-use Rattle.chip.specs.declared.Went.the-variants.{Going, Failed}
 use Rattle.chip.specs.Chips.{attemptedBy}
 use Rattle.chip.specs.Entries.{repeater}
-use Rattle.chip.specs.Steps.{Step, Trace, acts, emit, every, goes, inList, line, okFor, run, step, taken, trace}
+use Rattle.chip.specs.Steps.{Step, Trace, acts, after, emit, every, goes, inList, okFor, run, step, taken}
 use Rattle.chip.specs.Steps.Step.{Open, Close, Send, Mask, Plain}
 use Rattle.chip.proofs.Laws.{active, and-left, and-right, idle}
 use Rattle.history.specs.Histories.{Closing}
 use Rattle.history.specs.Histories.Closing.{nothing, closed}
+
+-- no step changes the chip's address
+pub after-address : (s : Step) (c : Chip) (ok : Bool) → after s c ok .address ≡ c .address
+unfolding attemptedBy
+after-address Open c ok = refl
+after-address Close c ok = refl
+after-address (Send n bytes) c ok = refl
+after-address (Mask r v m) c ok = refl
+after-address (Plain e) c ok = refl
 
 module _ (os : List ℕ) where
   -- one induction for all that a step keeps
@@ -49,7 +56,7 @@ module _ (os : List ℕ) where
 
   -- ---- counts
 
-  counted-taken : (s : Step) (t : Trace) (ok : Bool) → t .count ≡ length (t .log) → t .count + 1 ≡ length (t .log ++ (emit s (t .chip) ok ∷ []))
+  pub counted-taken : (s : Step) (t : Trace) (ok : Bool) → t .count ≡ length (t .log) → t .count + 1 ≡ length (t .log ++ (emit s (t .chip) ok ∷ []))
   counted-taken s t ok k = ap (λ (n : ℕ). n + 1) k ∙ sym (length-append (t .log) (emit s (t .chip) ok ∷ []))
 
   pub run-counted : (ss : List Step) (t : Trace) → t .count ≡ length (t .log) → run inList os ss t .count ≡ length (run inList os ss t .log)
@@ -72,15 +79,7 @@ module _ (os : List ℕ) where
   -- ---- the chip's address, and the entries before
 
   pub run-address : (ss : List Step) (t : Trace) (a : ℕ) → t .chip .address ≡ a → run inList os ss t .chip .address ≡ a
-  unfolding attemptedBy
-  run-address ss t a h = run-always (λ (u : Trace). u .chip .address ≡ a) (λ s u x q. same s u q) ss t h
-    where
-      same : (s : Step) (u : Trace) → u .chip .address ≡ a → taken inList os (okFor os (u .count) s) s u .chip .address ≡ a
-      same Open u q = q
-      same Close u q = q
-      same (Send n bytes) u q = q
-      same (Mask r v m) u q = q
-      same (Plain e) u q = q
+  run-address ss t a h = run-always (λ (u : Trace). u .chip .address ≡ a) (λ s u x q. after-address s (u .chip) (okFor os (u .count) s) ∙ q) ss t h
 
   pub run-log : (ss : List Step) (t : Trace) → (later : List Entry) × (run inList os ss t .log ≡ t .log ++ later)
   run-log ss t = run-always (λ (u : Trace). (later : List Entry) × (u .log ≡ t .log ++ later)) grow ss t ([], sym (append-nil (t .log)))

@@ -1,21 +1,20 @@
 -- How a program went is read off its entries: the first one that failed and is no closing, by its place among them. Assumes nothing.
 use Prim.Native.Nat.{ℕ, suc, _+_}
 use mathlib.Core.Path.{_≡_, refl, sym, ap, _∙_}
-use mathlib.Core.Bool.{Bool, true, false, _&&_, _||_, or-true, or-false, false≢true}
+use mathlib.Core.Bool.{Bool, true, false, _||_, or-true, or-false, false≢true}
 use mathlib.Core.List.{List, [], _∷_, _++_}
 use native.Mathlib.Omega.{arith}
-use lib.Dec.{eqb}
-use lib.ListN.{length, length-append}
+use lib.ListN.{length}
 use Rattle.transcript.specs.declared.Entry.{Entry}
-use Rattle.attempts.specs.Attempts.{done, firstOf}
+use Rattle.attempts.specs.Attempts.{done}
 use Rattle.chip.specs.declared.Chip.{Chip}
 use Rattle.chip.specs.declared.Went.{Went}
 use Rattle.chip.specs.declared.Went.the-variants.{Going, Failed}
-use Rattle.chip.specs.Steps.{Step, Trace, acts, emit, every, goes, inList, inner, line, okFor, run, taken, toldOf, trace, wentFor}
+use Rattle.chip.specs.Steps.{Step, Trace, acts, emit, every, goes, inList, inner, line, okFor, taken, toldOf, trace}
 use Rattle.chip.specs.Steps.Step.{Open, Close, Send, Mask, Plain}
 use Rattle.history.specs.Programs.{fine}
 use Rattle.history.specs.Histories.{isClosing, pickWent, wentFrom, wentIn}
-use Rattle.history.proofs.Runs.{run-keeps}
+use Rattle.history.proofs.Runs.{counted-taken, run-keeps}
 use Rattle.history.proofs.Tracked.{aside-of}
 use Rattle.history.proofs.Cuts.{emit-done, inner-went}
 
@@ -65,9 +64,6 @@ record Read (t : Trace) : Type 0 where
   told : t .went ≡ wentIn (t .log)
 
 module _ (os : List ℕ) where
-  longer : (s : Step) (t : Trace) (ok : Bool) → t .count ≡ length (t .log) → t .count + 1 ≡ length (t .log ++ (emit s (t .chip) ok ∷ []))
-  longer s t ok k = ap (λ (m : ℕ). m + 1) k ∙ sym (length-append (t .log) (emit s (t .chip) ok ∷ []))
-
   read-inner : (s : Step) (t : Trace) (ok : Bool) → fine s ≡ true → inner s ≡ true → goes (t .went) ≡ true → Read t → Read (taken inList os ok s t)
   read-inner s t ok f n g r =
       let e : Entry = emit s (t .chip) ok in
@@ -75,16 +71,16 @@ module _ (os : List ℕ) where
       let before : wentIn (t .log) ≡ Going = sym (r .told) ∙ goes-going (t .went) g in
       let place : 0 + length (t .log) ≡ t .count = omega (arith, r .counted) in
       record {
-        counted = longer s t ok (r .counted);
+        counted = counted-taken os s t ok (r .counted);
         told =
-        inner-went s ok (t .count) (t .went) n ∙ sym (next-told ok (t .count)) ∙ sym (went-snoc 0 (t .log) e ∙ (λ i. next (before i) (test i) (place i)));
+            inner-went s ok (t .count) (t .went) n ∙ sym (next-told ok (t .count)) ∙ sym (went-snoc 0 (t .log) e ∙ (λ i. next (before i) (test i) (place i)));
       }
 
   read-close : (t : Trace) (ok : Bool) → Read t → Read (taken inList os ok Close t)
   read-close t ok r =
       let e : Entry = emit Close (t .chip) ok in
       record {
-        counted = longer Close t ok (r .counted);
+        counted = counted-taken os Close t ok (r .counted);
         told = r .told ∙ sym (next-closing (wentIn (t .log)) (0 + length (t .log))) ∙ sym (went-snoc 0 (t .log) e ∙ ap (λ (b : Bool). next (wentIn (t .log)) b (0 + length (t .log))) (or-true (done e)));
       }
 

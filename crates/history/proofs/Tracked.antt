@@ -13,14 +13,14 @@ use lib.Seq.{sets, length-sets, length-take-le, getD-take, getD-drop, getD-set-s
 use Rattle.transcript.specs.declared.Entry.{Entry}
 use Rattle.transcript.specs.Entries.{entryFits, zeros}
 use Rattle.transcript.proofs.Reading.{both}
-use Rattle.attempts.specs.Attempts.{Last, byteIn, done, doubtIn, firstOf, lastBy, lastFrom, lastIn, names, pickLast, sentTo}
-use Rattle.attempts.specs.Attempts.Last.{Never, Tried}
+use Rattle.attempts.specs.Attempts.{byteIn, done, doubtIn, lastIn, names, sentTo}
+use Rattle.attempts.specs.Attempts.Last.{Tried}
 use Rattle.attempts.proofs.Named.{named, other-kind, below-first, past-last, one-byte, last-snoc, last-same}
 use Rattle.chip.specs.declared.Chip.{Chip}
 use Rattle.chip.specs.declared.Went.the-variants.{Going}
 use Rattle.chip.specs.Chips.{attemptedBy, maskedByte, pair, shadowed}
 use Rattle.chip.specs.Entries.{flagOf, settled, written}
-use Rattle.chip.specs.Steps.{Step, Trace, acts, after, emit, every, inList, line, okFor, run, taken, trace}
+use Rattle.chip.specs.Steps.{Step, Trace, after, emit, every, line, okFor, trace}
 use Rattle.chip.specs.Steps.Step.{Open, Close, Send, Mask, Plain}
 use Rattle.history.specs.Programs.{fine, finePlain, fineSend}
 use Rattle.history.specs.Histories.{Tracks}

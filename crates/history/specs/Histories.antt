@@ -4,9 +4,9 @@
 -- The premises, in plain words, are those of crate `attempts`: nothing else writes the chip, a write reported done landed whole, a failed one
 -- may have left anything in the registers that it named. Nothing is said of real USB, of two hosts on one chip, or of the chip's own doings.
 -- Assumes nothing.
-use Prim.Native.Nat.{ℕ, suc, _+_, _≤_, _<_}
+use Prim.Native.Nat.{ℕ, _+_, _≤_, _<_}
 use mathlib.Core.Path.{_≡_}
-use mathlib.Core.Bool.{Bool, true, false, not, _&&_, _||_}
+use mathlib.Core.Bool.{Bool, true, false, _&&_, _||_}
 use mathlib.Core.List.{List, [], _∷_, _++_}
 use lib.Dec.{eqb}
 use lib.ListN.{length, getD, replicate}
@@ -19,7 +19,7 @@ use Rattle.chip.specs.declared.Chip.{Chip}
 use Rattle.chip.specs.declared.Went.{Went}
 use Rattle.chip.specs.declared.Went.the-variants.{Going, Failed}
 use Rattle.chip.specs.Entries.{pickBytes, repeater, zeros8}
-use Rattle.chip.specs.Steps.{Step, Trace, every, trace}
+use Rattle.chip.specs.Steps.{Step, every, trace}
 use Rattle.history.specs.Programs.{beside, fine}
 
 -- a record follows entries: "doubtful are exactly those never attempted or last attempted in vain", and the attempted byte is the last
