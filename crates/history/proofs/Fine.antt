@@ -9,16 +9,20 @@ use borrow.Author.Tests.{eq-eqb, le-leb}
 use lib.Dec.{eqb}
 use lib.ListN.{length, getD, take, drop, set, length-take}
 use lib.Seq.{sets, drop-set-lt}
-use Rattle.transcript.specs.Entries.{zeros}
+use Rattle.transcript.specs.declared.Entry.{Entry}
+use Rattle.transcript.specs.Table.{addressMost, firstMost, nHigh, nLow, outcomeMost, rowFits, targetMost}
+use Rattle.transcript.specs.Entries.{entryFits, zeros}
 use Rattle.chip.specs.declared.Chunk.{Chunk}
 use Rattle.chip.specs.declared.Update.{Update}
 use Rattle.chip.specs.Chips.{pair}
+use Rattle.chip.specs.Entries.{pointer, readEntry, settled, wait, zeros8}
 use Rattle.chip.specs.Steps.{Step, allIn, behind, chunkBytes, chunkStep, chunkTable, every, inRange, tunerWrite, updateStep, updates, within}
-use Rattle.chip.specs.Steps.Step.{Close}
+use Rattle.chip.specs.Steps.Step.{Close, Plain}
 use Rattle.chip.proofs.Laws.{and-left, and-right}
 use Rattle.chip.proofs.Lists.{low, high}
 use Rattle.chip.proofs.Chunks.{some, seven, inside, first-register, chunk-eight, table-within}
-use Rattle.history.specs.Programs.{fine, fineSend, reloadSteps}
+use Rattle.history.specs.Programs.{fine, finePlain, fineSend, reloadSteps}
+use Rattle.history.proofs.Fitted.{written-fits}
 
 -- ---- all of a list
 
@@ -66,6 +70,28 @@ fine-update u h = go (u .past) refl
 
 pub fine-updates : (us : List Update) → allIn us ≡ true → every fine (updates us) ≡ true
 fine-updates us h = every-map inRange fine updateStep fine-update us h
+
+-- ---- plain entries
+
+-- an entry of another kind than the repeater's and the I2C write's needs to fit the table, and no more
+pub fine-plain : (e : Entry) → eqb (e .kind) 1 ≡ false → eqb (e .kind) 2 ≡ false → entryFits (settled e true) ≡ true → fine (Plain e) ≡ true
+unfolding finePlain
+fine-plain e one two h = rw (one, two, h)
+
+pub fine-pointer : (chip : ℕ) → chip ≤ 255 → fine (Plain (pointer chip)) ≡ true
+unfolding finePlain zeros
+fine-pointer chip h = rw (written-fits chip 1 zeros8 true h (omega arith) (omega arith) (omega arith) refl refl)
+
+pub fine-read : (chip n : ℕ) (bytes : List ℕ) → chip ≤ 255 → 1 ≤ n → n ≤ 5 → getD bytes 0 0 ≤ 255 → length bytes ≡ 8 → zeros (drop n bytes) ≡ true
+    → fine (Plain (readEntry chip n bytes)) ≡ true
+unfolding entryFits rowFits nLow nHigh outcomeMost targetMost addressMost firstMost
+fine-read chip n bytes c l h b e z =
+    fine-plain (readEntry chip n bytes) refl refl
+    (rw (le-leb chip 255 c, le-leb 1 n l, le-leb n 5 h, le-leb (getD bytes 0 0) 255 b, eq-eqb (length bytes) 8 e, z))
+
+pub fine-wait : (ms : ℕ) → ms ≤ 65535 → fine (Plain (wait ms)) ≡ true
+unfolding entryFits rowFits zeros nLow nHigh outcomeMost targetMost addressMost firstMost
+fine-wait ms h = fine-plain (wait ms) refl refl (rw (le-leb ms 65535 h))
 
 -- ---- chunks
 

@@ -36,7 +36,7 @@ flag-one : (ok : Bool) → leb (flagOf ok) 1 ≡ true
 flag-one true = refl
 flag-one false = refl
 
-written-fits : (address n : ℕ) (bytes : List ℕ) (ok : Bool) → address ≤ 255 → 1 ≤ n → n ≤ 8 → getD bytes 0 0 ≤ 255 → length bytes ≡ 8 → zeros (drop n bytes) ≡ true
+pub written-fits : (address n : ℕ) (bytes : List ℕ) (ok : Bool) → address ≤ 255 → 1 ≤ n → n ≤ 8 → getD bytes 0 0 ≤ 255 → length bytes ≡ 8 → zeros (drop n bytes) ≡ true
     → entryFits (written address n bytes ok) ≡ true
 unfolding entryFits rowFits nLow nHigh outcomeMost targetMost addressMost firstMost
 written-fits address n bytes ok a l h b e z =

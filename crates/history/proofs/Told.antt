@@ -13,7 +13,7 @@ use Rattle.chip.specs.declared.Went.the-variants.{Going, Failed}
 use Rattle.chip.specs.Steps.{Step, Trace, acts, emit, every, goes, inList, inner, line, okFor, taken, toldOf, trace}
 use Rattle.chip.specs.Steps.Step.{Open, Close, Send, Mask, Plain}
 use Rattle.history.specs.Programs.{fine}
-use Rattle.history.specs.Histories.{isClosing, pickWent, wentFrom, wentIn}
+use Rattle.history.specs.Histories.{isClosing, passable, pickWent, wentFrom, wentIn}
 use Rattle.history.proofs.Runs.{counted-taken, run-keeps}
 use Rattle.history.proofs.Tracked.{aside-of}
 use Rattle.history.proofs.Cuts.{emit-done, inner-went}
@@ -23,19 +23,19 @@ abbrev next : Went → Bool → ℕ → Went
 next Going b k = pickWent b Going (Failed k)
 next (Failed j) b k = Failed j
 
-went-snoc : (k : ℕ) (es : List Entry) (e : Entry) → wentFrom k (es ++ (e ∷ [])) ≡ next (wentFrom k es) (done e || isClosing e) (k + length es)
+went-snoc : (k : ℕ) (es : List Entry) (e : Entry) → wentFrom k (es ++ (e ∷ [])) ≡ next (wentFrom k es) (passable e) (k + length es)
 unfolding wentFrom
 went-snoc k [] e =
     let here : k ≡ k + 0 = omega arith in
-    ap (λ (j : ℕ). pickWent (done e || isClosing e) Going (Failed j)) here
-went-snoc k (x ∷ es) e = go (done x || isClosing x) refl (went-snoc (k + 1) es e)
+    ap (λ (j : ℕ). pickWent (passable e) Going (Failed j)) here
+went-snoc k (x ∷ es) e = go (passable x) refl (went-snoc (k + 1) es e)
   where
-    go : (b : Bool) → (done x || isClosing x) ≡ b → wentFrom (k + 1) (es ++ (e ∷ [])) ≡ next (wentFrom (k + 1) es) (done e || isClosing e) (k + 1 + length es)
-        → pickWent (done x || isClosing x) (wentFrom (k + 1) (es ++ (e ∷ []))) (Failed k)
-        ≡ next (pickWent (done x || isClosing x) (wentFrom (k + 1) es) (Failed k)) (done e || isClosing e) (k + suc (length es))
+    go : (b : Bool) → passable x ≡ b → wentFrom (k + 1) (es ++ (e ∷ [])) ≡ next (wentFrom (k + 1) es) (passable e) (k + 1 + length es)
+        → pickWent (passable x) (wentFrom (k + 1) (es ++ (e ∷ []))) (Failed k)
+        ≡ next (pickWent (passable x) (wentFrom (k + 1) es) (Failed k)) (passable e) (k + suc (length es))
     go true h r =
         let place : k + 1 + length es ≡ k + suc (length es) = omega arith in
-        rw h (r ∙ ap (next (wentFrom (k + 1) es) (done e || isClosing e)) place)
+        rw h (r ∙ ap (next (wentFrom (k + 1) es) (passable e)) place)
     go false h r = rw h
 
 -- a closing says nothing; any other entry that failed does
@@ -67,7 +67,7 @@ module _ (os : List ℕ) where
   read-inner : (s : Step) (t : Trace) (ok : Bool) → fine s ≡ true → inner s ≡ true → goes (t .went) ≡ true → Read t → Read (taken inList os ok s t)
   read-inner s t ok f n g r =
       let e : Entry = emit s (t .chip) ok in
-      let test : (done e || isClosing e) ≡ ok = ap (λ (b : Bool). done e || b) (no-closing s (t .chip) ok f n) ∙ or-false (done e) ∙ emit-done s (t .chip) ok in
+      let test : passable e ≡ ok = ap (λ (b : Bool). done e || b) (no-closing s (t .chip) ok f n) ∙ or-false (done e) ∙ emit-done s (t .chip) ok in
       let before : wentIn (t .log) ≡ Going = sym (r .told) ∙ goes-going (t .went) g in
       let place : 0 + length (t .log) ≡ t .count = omega (arith, r .counted) in
       record {

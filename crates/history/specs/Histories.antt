@@ -104,10 +104,14 @@ abbrev pub pickWent : Bool → Went → Went → Went
 pickWent true a b = a
 pickWent false a b = b
 
+-- an entry after which a call goes on: it was done, or "A failed closing is recorded and otherwise ignored"
+abbrev pub passable : Entry → Bool
+passable e = done e || isClosing e
+
 -- how a call went, told by its entries: "a step other than a closing failed", the first one, by its index
 unfoldable pub wentFrom : ℕ → List Entry → Went
 wentFrom k [] = Going
-wentFrom k (e ∷ es) = pickWent (done e || isClosing e) (wentFrom (k + 1) es) (Failed k)
+wentFrom k (e ∷ es) = pickWent (passable e) (wentFrom (k + 1) es) (Failed k)
 
 abbrev pub wentIn : List Entry → Went
 wentIn es = wentFrom 0 es
