@@ -22,9 +22,10 @@ use Rattle.chip.specs.declared.Went.the-variants.{Going, Failed}
 use Rattle.chip.specs.Calls.{Called, answerOf, callOf, called, lentOf, performed}
 use Rattle.chip.specs.Steps.{Step, Trace, every, trace}
 use Rattle.history.specs.Programs.{fine}
-use Rattle.history.specs.Histories.{Alike, Cut, History, callEntries, stops}
+use Rattle.history.specs.Histories.{Alike, Cut, History, callEntries, stops, wentIn}
 use Rattle.history.specs.Histories.History.{called as more}
 use Rattle.history.proofs.Cuts.{cut-trace}
+use Rattle.history.proofs.Told.{told-trace}
 use Rattle.history.proofs.Fitted.{fit-trace, most-trace, read-trace}
 
 -- the room of a call that is not refused for what was lent suffices for its most entries
@@ -95,6 +96,19 @@ module _ {R : Type 0} (number : ℕ) (whole : Answer) (os : List ℕ) (ss : List
   call-cut i s f h =
       let p = call-failed i s h in
       rw (p .0) (cut-trace os ss c i f (p .1))
+
+  -- (e) for a call: its count and the index that it answers are read off its entries
+  pub call-count : call .count ≡ length (callEntries number os ss c)
+  call-count = go (eqb number 0) refl
+    where
+      go : (b : Bool) → eqb number 0 ≡ b → call .count ≡ length (callEntries number os ss c)
+      go true e = ap (λ (d : Called R). d .count) (call-performed e) ∙ rw e
+      go false e = ap (λ (d : Called R). d .count) (call-refused e) ∙ rw e
+
+  pub call-index : (i : ℕ) → stops whole ≡ false → every fine ss ≡ true → call .answer ≡ Stopped i → wentIn (callEntries number os ss c) ≡ Failed i
+  call-index i s f h =
+      let p = call-failed i s h in
+      rw (p .0) (sym (told-trace os ss c f) ∙ p .1)
 
 -- a call of a record with the chip in it is one more call of the sequence
 pub call-history : {R : Type 0} (chipOf : R → Chip) (init : List ℕ) (es : List Entry) (number : ℕ) (whole : Answer) (os : List ℕ) (ss : List Step) (keep : Trace → R) (old : R) (room : List ℕ)
