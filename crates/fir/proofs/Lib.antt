@@ -1,2 +1,4 @@
+pub mod Inverse
 pub mod Lists
 pub mod Widths
+pub mod Worked

@@ -19,3 +19,19 @@ every-next p v i e h l =
     ap (λ (k : ℕ). every p (take k (drop i v))) n
     ∙ ap (λ (u : List ℤ). every p (take (suc (e - (i + 1))) u)) d
     ∙ ap (λ (k : ℕ). p (getD v i (pos 0)) && every p (take (e - (i + 1)) (drop k v))) (sym (add-one i))
+
+-- ---- a list of a known length, element by element
+
+abbrev pub tab : {A : Type 0} → (ℕ → A) → ℕ → List A
+tab f zero = []
+tab f (suc n) = f 0 ∷ tab (λ (k : ℕ). f (suc k)) n
+
+listed : {A : Type 0} (d : A) (l : List A) → tab (λ (k : ℕ). getD l k d) (length l) ≡ l
+listed d [] = refl
+listed d (x ∷ l) = ap (λ (u : List _). x ∷ u) (listed d l)
+
+pub listed-at : {A : Type 0} (d : A) (l : List A) (n : ℕ) → length l ≡ n → tab (λ (k : ℕ). getD l k d) n ≡ l
+listed-at d l n e = subst (λ (m : ℕ). tab (λ (k : ℕ). getD l k d) m ≡ l) e (listed d l)
+
+pub cons : {A : Type 0} {x y : A} {xs ys : List A} → x ≡ y → xs ≡ ys → x ∷ xs ≡ y ∷ ys
+cons p q = λ i. p i ∷ q i

@@ -2,10 +2,13 @@
 -- Assumes nothing.
 use mathlib.Core.Path.{_≡_, refl, sym, ap, _∙_, subst}
 use mathlib.Core.Bool.{Bool, true, false}
-use Prim.Native.Nat.{ℕ, zero, suc, _+_, _-_, _*_, _%_, _<_, _≤_}
-use native.Mathlib.Nat.{mod-lt, mod-eq-of-lt}
+use Prim.Native.Nat.{ℕ, zero, suc, _-_, _*_, _%_, _^_, _<_, _≤_}
+use native.Mathlib.Nat.{lt-of-lt-of-le, mod-lt, mod-eq-of-lt, zero-add}
 use native.Mathlib.Omega.{arith}
 use borrow.Author.Tests.{ltb-true, ltb-false, lt-ltb, le-ltb}
+use mir.Syntax.{w32}
+use mir.Val.{toZ, ofZ}
+use mir.ValLaws.{toZ-ofZ}
 use lib.Dec.{T, ltb}
 use lib.IntN.{ℤ, pos, negsuc, _-ℤ_}
 use lib.Signed.{ltZ, mag}
@@ -61,9 +64,26 @@ low-signed half n h = go (ltb n half) refl
         let b : 2 * half - 1 - (2 * half - 1 - n) ≡ n = omega arith in
         ap (λ (m : ℕ). 2 * half - 1 - m) (mod-eq-of-lt l) ∙ b
 
-pub signed-within : (half n : ℕ) → n < 2 * half → within half (signedOf half n) ≡ true
+-- every number stands for one within the width
+pub signed-within : (half n : ℕ) → 0 < half → within half (signedOf half n) ≡ true
 signed-within half n h = go (ltb n half) refl
   where
     go : (b : Bool) → ltb n half ≡ b → within half (pick b (pos n) (negsuc (2 * half - 1 - n))) ≡ true
     go true e = e
     go false e = let l : half ≤ n = ltb-false n half e in lt-ltb (2 * half - 1 - n) half (omega arith)
+
+pub minus : (m : ℕ) → negsuc 0 -ℤ pos m ≡ negsuc m
+minus zero = refl
+minus (suc m) = ap (λ (k : ℕ). negsuc (suc k)) (zero-add m)
+
+-- ---- as the machine holds it
+
+-- a number of an i32, put into its 32 bits and read back
+pub kept : (z : ℤ) → mag z < 2 ^ 31 → toZ w32 (ofZ w32 z) ≡ z
+kept z h = toZ-ofZ w32 z (record { sfits = h })
+
+pub told : (half n : ℕ) (z : ℤ) → 0 < half → half ≤ 2048 → z ≡ signedOf half n → toZ w32 (ofZ w32 z) ≡ signedOf half n
+told half n z p l e =
+    let h : mag (signedOf half n) < half = ltb-true (mag (signedOf half n)) half (signed-within half n p) in
+    let m : half ≤ 2 ^ 31 = omega arith in
+    ap (λ (y : ℤ). toZ w32 (ofZ w32 y)) e ∙ kept (signedOf half n) (lt-of-lt-of-le h m)

@@ -84,3 +84,136 @@ fn join(a: i32, b: i32) -> Three
         c: (y % 256) as u8,
     }
 }
+
+// The twenty bytes of any sixteen, each cut to its width.
+fn bytes_of(v: [i32; 16]) -> [u8; 20]
+    ensures { λ r. ⌜ r ≡ packOf v ⌝ }
+{
+    let p = join(v[8], v[9]);
+    let q = join(v[10], v[11]);
+    let s = join(v[12], v[13]);
+    let t = join(v[14], v[15]);
+    [
+        byte(v[0]),
+        byte(v[1]),
+        byte(v[2]),
+        byte(v[3]),
+        byte(v[4]),
+        byte(v[5]),
+        byte(v[6]),
+        byte(v[7]),
+        p.a,
+        p.b,
+        p.c,
+        q.a,
+        q.b,
+        q.c,
+        s.a,
+        s.b,
+        s.c,
+        t.a,
+        t.b,
+        t.c,
+    ]
+}
+
+pub fn pack_fir(v: [i32; 16]) -> Packed
+    ensures { λ r. ⌜ r ≡ packed v ⌝ }
+{
+    if in_range(v) {
+        return Packed {
+            refusal: 0,
+            bytes: bytes_of(v),
+        };
+    }
+    Packed {
+        refusal: 7,
+        bytes: [0; 20],
+    }
+}
+
+// The signed number whose bits are n.
+fn signed(n: u32, half: u32) -> i32
+    requires { ⌜ (n < 2 * half) × (half ≤ 2048) ⌝ }
+    ensures { λ r. ⌜ r ≡ signedOf half n ⌝ }
+{
+    if n < half {
+        return n as i32;
+    }
+    -1 - ((2 * half - 1 - n) as i32)
+}
+
+fn short(x: u8) -> i32
+    ensures { λ r. ⌜ r ≡ signedOf 128 x ⌝ }
+{
+    signed(x as u32, 128)
+}
+
+// The two coefficients of twelve bits in three bytes.
+fn split(x: u8, y: u8, z: u8) -> Two
+    ensures { λ r. ⌜ (r .a ≡ signedOf 2048 (x * 16 + y / 16)) × (r .b ≡ signedOf 2048 (y % 16 * 256 + z)) ⌝ }
+{
+    let m = y as u32;
+    Two {
+        a: signed((x as u32) * 16 + m / 16, 2048),
+        b: signed(m % 16 * 256 + (z as u32), 2048),
+    }
+}
+
+pub fn unpack_fir(b: [u8; 20]) -> [i32; 16]
+    ensures { λ r. ⌜ r ≡ unpackOf b ⌝ }
+{
+    let p = split(b[8], b[9], b[10]);
+    let q = split(b[11], b[12], b[13]);
+    let s = split(b[14], b[15], b[16]);
+    let t = split(b[17], b[18], b[19]);
+    [
+        short(b[0]),
+        short(b[1]),
+        short(b[2]),
+        short(b[3]),
+        short(b[4]),
+        short(b[5]),
+        short(b[6]),
+        short(b[7]),
+        p.a,
+        p.b,
+        q.a,
+        q.b,
+        s.a,
+        s.b,
+        t.a,
+        t.b,
+    ]
+}
+
+// The Rust's FIR_DEFAULT.
+pub fn fir_default() -> [i32; 16]
+    ensures { λ r. ⌜ r ≡ firDefault ⌝ }
+{
+    [
+        -54,
+        -36,
+        -41,
+        -40,
+        -32,
+        -14,
+        14,
+        53,
+        101,
+        156,
+        215,
+        273,
+        327,
+        372,
+        404,
+        421,
+    ]
+}
+
+// The Rust's `pack_fir()`: the bytes that `set_fir` writes.
+pub fn default_bytes() -> [u8; 20]
+    ensures { λ r. ⌜ r ≡ packOf firDefault ⌝ }
+{
+    bytes_of(fir_default())
+}

@@ -17,9 +17,6 @@ use Rattle.fir.specs.Packing.{every, within}
 use Rattle.fir.proofs.Lists.{every-next}
 use Rattle.fir.proofs.all_within.Statement.{statement}
 use Rattle.fir.proofs.all_within.Tie as tie
-use Rattle.fir.proofs.all_within.Reads as reads
-use Rattle.fir.proofs.all_within.Lts as lts
-use Rattle.fir.proofs.size.Reads as size-reads
 
 abbrev Inv-loop : tie.InvT-loop
 Inv-loop at end half v i₀ i =
@@ -74,10 +71,11 @@ loop-less : tie.Need-loop-less Inv-loop μ-loop
 loop-less c = omega arith
 
 loop-again : tie.Need-loop-again Inv-loop μ-loop
-loop-again c =
-    (omega arith,
-    omega arith,
-    sym (parted (c .before) ∙ simp (lt-ltb (c .before .size .result) (c .before .before .before .before .before .args .half) (c .if1 .left))))
+loop-again c = (
+  omega arith,
+  omega arith,
+  sym (parted (c .before) ∙ simp (lt-ltb (c .before .size .result) (c .before .before .before .before .before .args .half) (c .if1 .left))),
+)
 
 returns-2 : tie.Need-returns-2 Inv-loop μ-loop
 returns-2 c =

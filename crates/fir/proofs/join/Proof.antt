@@ -41,11 +41,12 @@ cast-t13 : tie.Need-cast-t13
 cast-t13 c = search needs
 
 returns : tie.Need-returns
-returns c =
-    (ap (λ (x : ℕ). x / 16) (first c),
-    ap (λ (x : ℕ). x % 16 * 16 + c .low2 .result / 256) (first c)
-    ∙ ap (λ (y : ℕ). lowOf 2048 (c .before .before .args .a) % 16 * 16 + y / 256) (second c),
-    ap (λ (y : ℕ). y % 256) (second c))
+returns c = (
+  ap (λ (x : ℕ). x / 16) (first c),
+  ap (λ (x : ℕ). x % 16 * 16 + c .low2 .result / 256) (first c)
+      ∙ ap (λ (y : ℕ). lowOf 2048 (c .before .before .args .a) % 16 * 16 + y / 256) (second c),
+  ap (λ (y : ℕ). y % 256) (second c),
+)
 
 pub join-spec : {M : Type 1} → statement M
 join-spec =
