@@ -1,0 +1,62 @@
+-- The interface's accesses beside I2C, as entries. Document 01, "Transcript and script", the table of kinds.
+-- Assumes nothing.
+use Prim.Native.Nat.{ℕ, _/_, _%_, _^_}
+use mathlib.Core.Bool.{Bool, _||_}
+use mathlib.Core.List.{List, [], _∷_}
+use lib.Dec.{eqb}
+use Rattle.transcript.specs.declared.Entry.{Entry}
+use Rattle.chip.specs.Calls.{pickN}
+use Rattle.chip.specs.Entries.{pickBytes}
+use Rattle.chip.specs.Steps.{Step}
+use Rattle.chip.specs.Steps.Step.{Plain}
+use Rattle.device.specs.declared.Access.{Access}
+
+-- the data of 8 bits
+abbrev pub one : ℕ → List ℕ
+one value = value % 2 ^ 8 ∷ 0 ∷ 0 ∷ 0 ∷ 0 ∷ 0 ∷ 0 ∷ 0 ∷ []
+
+-- the data of 16 bits: "high byte first"
+abbrev pub two : ℕ → List ℕ
+two value = value / 2 ^ 8 ∷ value % 2 ^ 8 ∷ 0 ∷ 0 ∷ 0 ∷ 0 ∷ 0 ∷ 0 ∷ []
+
+-- "4 / 5 demod write, 8 / 16 bit | page | 1 / 2 | register; high byte first"
+abbrev pub demodWrite : ℕ → ℕ → ℕ → Entry
+demodWrite page register value =
+    record { kind = 4; outcome = 0; target = page; n = 1; address = register; bytes = one value }
+
+abbrev pub demodWrite16 : ℕ → ℕ → ℕ → Entry
+demodWrite16 page register value =
+    record { kind = 5; outcome = 0; target = page; n = 2; address = register; bytes = two value }
+
+-- "6 / 7 block write, 8 / 16 bit | block | 1 / 2 | register; high byte first"
+abbrev pub blockWrite : ℕ → ℕ → ℕ → Entry
+blockWrite block register value =
+    record { kind = 6; outcome = 0; target = block; n = 1; address = register; bytes = one value }
+
+abbrev pub blockWrite16 : ℕ → ℕ → ℕ → Entry
+blockWrite16 block register value =
+    record { kind = 7; outcome = 0; target = block; n = 2; address = register; bytes = two value }
+
+-- "8 block read | block | 1 | register; byte, zero if failed": a failed one's byte is `settled`'s matter
+abbrev pub blockRead : ℕ → ℕ → ℕ → Entry
+blockRead block register reply =
+    record { kind = 8; outcome = 0; target = block; n = 1; address = register; bytes = one reply }
+
+-- the kinds of 16 bits
+abbrev pub isTwo : ℕ → Bool
+isTwo kind = eqb kind 5 || eqb kind 7
+
+-- an access, by its row of the table
+abbrev pub accessEntry : Access → Entry
+accessEntry a =
+    record {
+      kind = a .kind;
+      outcome = 0;
+      target = a .target;
+      n = pickN (isTwo (a .kind)) 2 (pickN (eqb (a .kind) 9) 0 1);
+      address = a .register;
+      bytes = pickBytes (isTwo (a .kind)) (two (a .value)) (one (a .value));
+    }
+
+unfoldable pub accessStep : Access → Step
+accessStep a = Plain (accessEntry a)
