@@ -70,3 +70,13 @@ lent-outcomes n m room outcomes replies h =
 pub suffices : (n m room outcomes replies given : ℕ) → given ≡ lentOf n m room outcomes replies → given ≡ 0 → (n ≤ outcomes) × (16 * n + 8 ≤ room)
 suffices n m room outcomes replies given e z =
     (lent-outcomes n m room outcomes replies (sym e ∙ z), lent-room n m room outcomes replies (sym e ∙ z))
+
+-- "Order: arguments (1 to 7, and 2 for hz), then 8, 9, 10, then steps": an argument that is refused, and one that is not. The
+-- program may have been worked out apart
+pub argument-bad : (bad : Bool) (number rest : ℕ) (os : List ℕ) (ss : List Step) (room : List ℕ) → bad ≡ true → (number ≡ 0 → ⊥)
+    → called tt room 0 (Refused number) ≡ freeCall (pickN bad number rest) os ss room
+argument-bad bad number rest os ss room h z = rw h (refuses number os ss room number refl z)
+
+pub argument-good : (bad : Bool) (number rest : ℕ) (os : List ℕ) (xs ys : List Step) (room : List ℕ) (v : Called (Unit {0})) → bad ≡ false → xs ≡ ys
+    → v ≡ freeCall rest os xs room → v ≡ freeCall (pickN bad number rest) os ys room
+argument-good bad number rest os xs ys room v h same e = rw h (e ∙ ap (λ (ss : List Step). freeCall rest os ss room) same)

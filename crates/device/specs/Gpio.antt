@@ -20,7 +20,7 @@ abbrev pub withoutBit : ℕ → ℕ → ℕ
 withoutBit byte pin = bitAnd byte (255 - 2 ^ pin)
 
 -- GPOE (0x3003) gets the bit, GPD (0x3004) loses it; a and b are the two replies
-abbrev pub outputSteps : ℕ → ℕ → ℕ → List Step
+unfoldable pub outputSteps : ℕ → ℕ → ℕ → List Step
 outputSteps pin a b =
     Plain (blockRead 2 0x3003 a)
     ∷ Plain (blockWrite 2 0x3003 (withBit a pin))
@@ -28,11 +28,15 @@ outputSteps pin a b =
     ∷ Plain (blockWrite 2 0x3004 (withoutBit b pin))
     ∷ []
 
--- GPO (0x3001) gets the bit, or loses it where the value is 0
-abbrev pub bitSteps : ℕ → ℕ → ℕ → List Step
+-- set, or cleared where the value is 0
+abbrev pub changedOf : ℕ → ℕ → ℕ → ℕ
+changedOf pin value a = pickN (eqb value 0) (withoutBit a pin) (withBit a pin)
+
+-- GPO (0x3001) gets the bit, or loses it
+unfoldable pub bitSteps : ℕ → ℕ → ℕ → List Step
 bitSteps pin value a =
     Plain (blockRead 2 0x3001 a)
-    ∷ Plain (blockWrite 2 0x3001 (pickN (eqb value 0) (withoutBit a pin) (withBit a pin)))
+    ∷ Plain (blockWrite 2 0x3001 (changedOf pin value a))
     ∷ []
 
 -- "Order: arguments (1 to 7, and 2 for hz), then 8, 9, 10, then steps"

@@ -4,13 +4,12 @@
 ghost use mathlib.Core.List.{map};
 ghost use mathlib.Core.Path.{_≡_};
 ghost use Prim.Native.Nat.{_+_, _*_, _^_, _≤_, _<_};
-ghost use lib.Dec.{eqb};
 ghost use lib.ListN.{length, getD, take};
 ghost use Rattle.chip.specs.Steps.{due, step, run, inRoom, onRoom};
-ghost use Rattle.chip.specs.Calls.{lentOf, pickN};
+ghost use Rattle.chip.specs.Calls.{lentOf};
 ghost use Rattle.device.specs.Accesses.{accessEntry, accessStep};
 ghost use Rattle.device.specs.Calls.{back, freeCall};
-ghost use Rattle.device.specs.Gpio.{bitCall, bitSteps, outputCall, outputSteps, withBit, withoutBit};
+ghost use Rattle.device.specs.Gpio.{bitCall, bitSteps, changedOf, outputCall, outputSteps, withBit, withoutBit};
 use chip::Answer;
 use chip::Chip;
 use chip::Flow;
@@ -171,12 +170,29 @@ fn bit_of(gpio: u8) -> u8
     1u8 << gpio
 }
 
+fn with_bit(byte: u8, gpio: u8) -> u8
+    requires { ⌜ gpio < 8 ⌝ }
+    ensures { λ r. ⌜ r ≡ withBit byte gpio ⌝ }
+{
+    let bit = bit_of(gpio);
+    byte | bit
+}
+
+fn without_bit(byte: u8, gpio: u8) -> u8
+    requires { ⌜ gpio < 8 ⌝ }
+    ensures { λ r. ⌜ r ≡ withoutBit byte gpio ⌝ }
+{
+    let bit = bit_of(gpio);
+    byte & !bit
+}
+
 // `set_gpio_output`'s accesses; a and b are the bytes read.
 fn output_rows(gpio: u8, a: u8, b: u8) -> [Access; 10]
     requires { ⌜ gpio < 8 ⌝ }
     ensures { λ r. ⌜ map accessStep (take 4 r) ≡ outputSteps gpio a b ⌝ }
 {
-    let bit = bit_of(gpio);
+    let out = with_bit(a, gpio);
+    let driven = without_bit(b, gpio);
     [
         Access {
             kind: READ,
@@ -188,7 +204,7 @@ fn output_rows(gpio: u8, a: u8, b: u8) -> [Access; 10]
             kind: BLOCK,
             target: block::SYS,
             register: sys::GPOE,
-            value: (a | bit) as u16,
+            value: out as u16,
         },
         Access {
             kind: READ,
@@ -200,7 +216,7 @@ fn output_rows(gpio: u8, a: u8, b: u8) -> [Access; 10]
             kind: BLOCK,
             target: block::SYS,
             register: sys::GPD,
-            value: (b & !bit) as u16,
+            value: driven as u16,
         },
         NONE,
         NONE,
@@ -214,13 +230,12 @@ fn output_rows(gpio: u8, a: u8, b: u8) -> [Access; 10]
 // The byte that `set_gpio_bit` writes back.
 fn changed(gpio: u8, value: u8, a: u8) -> u8
     requires { ⌜ gpio < 8 ⌝ }
-    ensures { λ r. ⌜ r ≡ pickN (eqb value 0) (withoutBit a gpio) (withBit a gpio) ⌝ }
+    ensures { λ r. ⌜ r ≡ changedOf gpio value a ⌝ }
 {
-    let bit = bit_of(gpio);
     if value == 0 {
-        return a & !bit;
+        return without_bit(a, gpio);
     }
-    a | bit
+    with_bit(a, gpio)
 }
 
 // `set_gpio_bit`'s accesses; a is the byte read.
