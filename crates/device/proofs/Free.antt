@@ -23,9 +23,9 @@ use Rattle.device.specs.Calls.{freeCall, noChip}
 -- an access has its eight data bytes
 pub access-eight : (a : Access) → eight (accessStep a) ≡ true
 unfolding accessStep
-access-eight a = go (isTwo (a .kind)) refl
+access-eight a = go (isTwo (a .0)) refl
   where
-    go : (b : Bool) → isTwo (a .kind) ≡ b → eight (accessStep a) ≡ true
+    go : (b : Bool) → isTwo (a .0) ≡ b → eight (accessStep a) ≡ true
     go true e = rw e
     go false e = rw e
 

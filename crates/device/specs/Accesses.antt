@@ -46,16 +46,16 @@ blockRead block register reply =
 abbrev pub isTwo : ℕ → Bool
 isTwo kind = eqb kind 5 || eqb kind 7
 
--- an access, by its row of the table
+-- an access (kind, target, register, value), by its row of the table
 abbrev pub accessEntry : Access → Entry
 accessEntry a =
     record {
-      kind = a .kind;
+      kind = a .0;
       outcome = 0;
-      target = a .target;
-      n = pickN (isTwo (a .kind)) 2 (pickN (eqb (a .kind) 9) 0 1);
-      address = a .register;
-      bytes = pickBytes (isTwo (a .kind)) (two (a .value)) (one (a .value));
+      target = a .1;
+      n = pickN (isTwo (a .0)) 2 (pickN (eqb (a .0) 9) 0 1);
+      address = a .2;
+      bytes = pickBytes (isTwo (a .0)) (two (a .3)) (one (a .3));
     }
 
 unfoldable pub accessStep : Access → Step

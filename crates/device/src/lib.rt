@@ -32,21 +32,12 @@ pub const READ: u8 = 8;
 
 pub const WAIT: u8 = 9;
 
-// One access of the interface: a write of 8 or 16 bits, a read with the reply as its value, or a wait of `register` milliseconds.
-pub struct Access {
-    pub kind: u8,
-    pub target: u8,
-    pub register: u16,
-    pub value: u16,
-}
+// One access of the interface: its kind, target (page or block), register, and value. A write of 8 or 16 bits, a read with the
+// reply as its value, or a wait of `register` milliseconds.
+pub struct Access(pub u8, pub u8, pub u16, pub u16);
 
 // What fills an array behind the accesses of a call; it is never taken.
-pub const NONE: Access = Access {
-    kind: 9,
-    target: 0,
-    register: 0,
-    value: 0,
-};
+pub const NONE: Access = Access(9, 0, 0, 0);
 
 // What a call that touches no record hands back.
 pub struct Handed {
@@ -58,16 +49,16 @@ pub struct Handed {
 pub fn entry(a: Access) -> Entry
     ensures { λ r. ⌜ r ≡ accessEntry a ⌝ }
 {
-    let kind = a.kind;
-    let high = (a.value / 256) as u8;
-    let low = (a.value % 256) as u8;
+    let kind = a.0;
+    let high = (a.3 / 256) as u8;
+    let low = (a.3 % 256) as u8;
     if (kind == 5) | (kind == 7) {
         return Entry {
             kind: kind,
             outcome: 0,
-            target: a.target,
+            target: a.1,
             n: 2,
-            address: a.register,
+            address: a.2,
             bytes: [high, low, 0, 0, 0, 0, 0, 0],
         };
     }
@@ -75,9 +66,9 @@ pub fn entry(a: Access) -> Entry
     Entry {
         kind: kind,
         outcome: 0,
-        target: a.target,
+        target: a.1,
         n: n,
-        address: a.register,
+        address: a.2,
         bytes: [low, 0, 0, 0, 0, 0, 0, 0],
     }
 }
@@ -194,30 +185,10 @@ fn output_rows(gpio: u8, a: u8, b: u8) -> [Access; 10]
     let out = with_bit(a, gpio);
     let driven = without_bit(b, gpio);
     [
-        Access {
-            kind: READ,
-            target: block::SYS,
-            register: sys::GPOE,
-            value: a as u16,
-        },
-        Access {
-            kind: BLOCK,
-            target: block::SYS,
-            register: sys::GPOE,
-            value: out as u16,
-        },
-        Access {
-            kind: READ,
-            target: block::SYS,
-            register: sys::GPD,
-            value: b as u16,
-        },
-        Access {
-            kind: BLOCK,
-            target: block::SYS,
-            register: sys::GPD,
-            value: driven as u16,
-        },
+        Access(READ, block::SYS, sys::GPOE, a as u16),
+        Access(BLOCK, block::SYS, sys::GPOE, out as u16),
+        Access(READ, block::SYS, sys::GPD, b as u16),
+        Access(BLOCK, block::SYS, sys::GPD, driven as u16),
         NONE,
         NONE,
         NONE,
@@ -245,18 +216,8 @@ fn bit_rows(gpio: u8, value: u8, a: u8) -> [Access; 10]
 {
     let new = changed(gpio, value, a);
     [
-        Access {
-            kind: READ,
-            target: block::SYS,
-            register: sys::GPO,
-            value: a as u16,
-        },
-        Access {
-            kind: BLOCK,
-            target: block::SYS,
-            register: sys::GPO,
-            value: new as u16,
-        },
+        Access(READ, block::SYS, sys::GPO, a as u16),
+        Access(BLOCK, block::SYS, sys::GPO, new as u16),
         NONE,
         NONE,
         NONE,
