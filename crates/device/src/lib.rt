@@ -73,7 +73,7 @@ pub fn entry(a: Access) -> Entry
     }
 }
 
-fn one_access(f: Flow, a: Access, outcomes: &[u8], room: &mut [u8]) -> Flow
+pub fn one_access(f: Flow, a: Access, outcomes: &[u8], room: &mut [u8]) -> Flow
     requires { ⌜ (f .count < length (now outcomes)) × (16 * f .count + 16 ≤ length (now room)) ⌝ }
     ensures { λ r. ⌜ onRoom r (now (room .exit)) ≡ step inRoom (now (outcomes .entry)) (accessStep a) (onRoom f (now (room .entry))) ⌝ }
     ensures bounds { λ r. ⌜ r .count + due (r .held) ≤ f .count + 1 + due (f .held) ⌝ }
