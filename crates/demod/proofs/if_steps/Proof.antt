@@ -1,3 +1,6 @@
+-- `demod::if_steps` meets its contract. Assumes nothing.
+use Rattle.chip.specs.Steps.{inRoom}
+use Rattle.device.proofs.Programs.{by-program}
 use borrow.Author.Needs.{needs}
 use Rattle.demod.proofs.if_steps.Statement.{statement}
 use Rattle.demod.proofs.if_steps.Tie as tie
@@ -6,21 +9,17 @@ use Rattle.demod.proofs.if_steps.Lts as lts
 use Rattle.demod.proofs.if_rows.Reads as if-rows-reads
 use Rattle.device.proofs.access_all.Reads as access-all-reads
 
--- src/lib.rt:291:9
 if-rows-requires : tie.Need-if-rows-requires
 if-rows-requires c κs = search needs
 
--- src/lib.rt:292:5
 access-all-requires : tie.Need-access-all-requires
 access-all-requires c κs = search needs
 
--- src/lib.rt:286:1
 same-length : tie.Need-same-length
 same-length c = search needs
 
--- src/lib.rt:286:1
 returns : tie.Need-returns
-returns c = ?
+returns c = (by-program inRoom _ _ _ _ _ (c .before .before .before .before .if-rows .ensures) (c .before .before .access-all .ensures .0), search needs)
 
 pub if-steps-spec : {M : Type 1} → statement M
 if-steps-spec = tie.close (tie.spec if-rows-requires access-all-requires same-length returns)

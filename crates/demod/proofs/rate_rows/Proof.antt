@@ -1,3 +1,11 @@
+-- `demod::rate_rows` meets its contract. Assumes nothing.
+use Prim.Native.Nat.{ℕ, _/_, _%_, _^_}
+use mathlib.Core.Path.{ap, _∙_}
+use mathlib.Core.List.{[], _∷_}
+use Rattle.chip.specs.Steps.Step.{Plain}
+use Rattle.registers.specs.Rates.{sentOf}
+use Rattle.device.specs.Accesses.{accessStep, demodWrite, demodWrite16}
+use Rattle.demod.specs.Programs.{rateSteps}
 use borrow.Author.Needs.{needs}
 use Rattle.demod.proofs.rate_rows.Statement.{statement}
 use Rattle.demod.proofs.rate_rows.Tie as tie
@@ -6,25 +14,23 @@ use Rattle.demod.proofs.rate_rows.Lts as lts
 use Rattle.registers.proofs.ratio.Reads as ratio-reads
 use Rattle.registers.proofs.sent.Reads as sent-reads
 
--- src/lib.rt:313:9
 ratio-requires : tie.Need-ratio-requires
 ratio-requires c κs = search needs
 
--- src/lib.rt:314:9
 sent-requires : tie.Need-sent-requires
 sent-requires c κs = search needs
 
--- src/lib.rt:316:47
 cast-t6 : tie.Need-cast-t6
 cast-t6 c = search needs
 
--- src/lib.rt:317:47
 cast-t9 : tie.Need-cast-t9
 cast-t9 c = search needs
 
--- src/lib.rt:309:1
 returns : tie.Need-returns
-returns c = ?
+unfolding accessStep rateSteps
+returns c = 
+    ap (λ (x : ℕ). Plain (demodWrite16 1 0x9f (x / 2 ^ 16)) ∷ Plain (demodWrite16 1 0xa1 (x % 2 ^ 16)) ∷ Plain (demodWrite 1 0x3f 0) ∷ Plain (demodWrite 1 0x3e 0) ∷ [])
+    (c .sent .ensures ∙ ap sentOf (c .before .ratio .ensures))
 
 pub rate-rows-spec : {M : Type 1} → statement M
 rate-rows-spec = tie.close (tie.spec ratio-requires sent-requires cast-t6 cast-t9 returns)

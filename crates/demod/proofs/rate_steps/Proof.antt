@@ -1,3 +1,6 @@
+-- `demod::rate_steps` meets its contract. Assumes nothing.
+use Rattle.chip.specs.Steps.{inRoom}
+use Rattle.device.proofs.Programs.{by-program}
 use borrow.Author.Needs.{needs}
 use Rattle.demod.proofs.rate_steps.Statement.{statement}
 use Rattle.demod.proofs.rate_steps.Tie as tie
@@ -6,21 +9,17 @@ use Rattle.demod.proofs.rate_steps.Lts as lts
 use Rattle.demod.proofs.rate_rows.Reads as rate-rows-reads
 use Rattle.device.proofs.access_all.Reads as access-all-reads
 
--- src/lib.rt:334:9
 rate-rows-requires : tie.Need-rate-rows-requires
 rate-rows-requires c κs = search needs
 
--- src/lib.rt:335:5
 access-all-requires : tie.Need-access-all-requires
 access-all-requires c κs = search needs
 
--- src/lib.rt:329:1
 same-length : tie.Need-same-length
 same-length c = search needs
 
--- src/lib.rt:329:1
 returns : tie.Need-returns
-returns c = ?
+returns c = (by-program inRoom _ _ _ _ _ (c .before .before .before .before .rate-rows .ensures) (c .before .before .access-all .ensures .0), search needs)
 
 pub rate-steps-spec : {M : Type 1} → statement M
 rate-steps-spec = tie.close (tie.spec rate-rows-requires access-all-requires same-length returns)

@@ -1,3 +1,9 @@
+-- `demod::set_sample_rate_xtal` meets its contract: refused for rate 0, then for reference 0, or the call. Assumes nothing.
+use mathlib.Core.Path.{refl}
+use native.Mathlib.Omega.{arith}
+use borrow.Author.Tests.{eq-eqb, ne-eqb}
+use Rattle.device.proofs.Free.{argument-bad, argument-good}
+use Rattle.demod.specs.Calls.{rateCall}
 use borrow.Author.Needs.{needs}
 use Rattle.demod.proofs.set_sample_rate_xtal.Statement.{statement}
 use Rattle.demod.proofs.set_sample_rate_xtal.Tie as tie
@@ -6,29 +12,30 @@ use Rattle.demod.proofs.set_sample_rate_xtal.Lts as lts
 use Rattle.demod.proofs.rate_rows.Reads as rate-rows-reads
 use Rattle.device.proofs.perform.Reads as perform-reads
 
--- src/lib.rt:342:9
 returns : tie.Need-returns
-returns c = ?
+unfolding rateCall
+returns c = argument-bad _ _ _ _ _ _ (eq-eqb _ _ (c .if1 .taken)) (λ e. omega arith)
 
--- src/lib.rt:348:9
 returns-2 : tie.Need-returns-2
-returns-2 c = ?
+unfolding rateCall
+returns-2 c = 
+    argument-good _ _ _ _ _ _ _ _ (ne-eqb _ _ (c .before .if1 .left)) refl
+    (argument-bad _ _ _ _ _ _ (eq-eqb _ _ (c .if2 .taken)) (λ e. omega arith))
 
--- src/lib.rt:353:9
 rate-rows-requires : tie.Need-rate-rows-requires
 rate-rows-requires c κs = search needs
 
--- src/lib.rt:354:5
 perform-requires : tie.Need-perform-requires
 perform-requires c κs = search needs
 
--- src/lib.rt:338:1
 same-length : tie.Need-same-length
 same-length c = search needs
 
--- src/lib.rt:338:1
 returns-3 : tie.Need-returns-3
-returns-3 c = ?
+unfolding rateCall
+returns-3 c = 
+    argument-good _ _ _ _ _ _ _ _ (ne-eqb _ _ (c .before .before .before .before .before .before .if1 .left)) refl
+    (argument-good _ _ _ _ _ _ _ _ (ne-eqb _ _ (c .before .before .before .before .before .if2 .left)) (c .before .before .before .before .rate-rows .ensures) (c .before .before .perform .ensures))
 
 pub set-sample-rate-xtal-spec : {M : Type 1} → statement M
 set-sample-rate-xtal-spec =
