@@ -26,7 +26,7 @@ cast-t12 c = search needs
 
 returns : tie.Need-returns
 unfolding accessStep ifSteps
-returns c = 
+returns c =
     ap (λ (x : ℕ). Plain (demodWrite 1 0x19 (x / 2 ^ 16)) ∷ Plain (demodWrite 1 0x1a (x / 2 ^ 8 % 2 ^ 8)) ∷ Plain (demodWrite 1 0x1b (x % 2 ^ 8)) ∷ [])
     (c .if-value .ensures)
 

@@ -28,7 +28,7 @@ cast-t9 c = search needs
 
 returns : tie.Need-returns
 unfolding accessStep rateSteps
-returns c = 
+returns c =
     ap (λ (x : ℕ). Plain (demodWrite16 1 0x9f (x / 2 ^ 16)) ∷ Plain (demodWrite16 1 0xa1 (x % 2 ^ 16)) ∷ Plain (demodWrite 1 0x3f 0) ∷ Plain (demodWrite 1 0x3e 0) ∷ [])
     (c .sent .ensures ∙ ap sentOf (c .before .ratio .ensures))
 

@@ -18,7 +18,7 @@ returns c = argument-bad _ _ _ _ _ _ (eq-eqb _ _ (c .if1 .taken)) (λ e. omega a
 
 returns-2 : tie.Need-returns-2
 unfolding rateCall
-returns-2 c = 
+returns-2 c =
     argument-good _ _ _ _ _ _ _ _ (ne-eqb _ _ (c .before .if1 .left)) refl
     (argument-bad _ _ _ _ _ _ (eq-eqb _ _ (c .if2 .taken)) (λ e. omega arith))
 
@@ -33,7 +33,7 @@ same-length c = search needs
 
 returns-3 : tie.Need-returns-3
 unfolding rateCall
-returns-3 c = 
+returns-3 c =
     argument-good _ _ _ _ _ _ _ _ (ne-eqb _ _ (c .before .before .before .before .before .before .if1 .left)) refl
     (argument-good _ _ _ _ _ _ _ _ (ne-eqb _ _ (c .before .before .before .before .before .if2 .left)) (c .before .before .before .before .rate-rows .ensures) (c .before .before .perform .ensures))
 

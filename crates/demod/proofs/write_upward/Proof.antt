@@ -21,7 +21,7 @@ abbrev μ-loop : tie.MeasureT-loop
 μ-loop register n outcomes room₀ bytes f₀ i₀ room f i = n - i
 
 loop-holds : tie.Need-loop-holds Inv-loop μ-loop
-loop-holds c = (search needs, (refl, (search needs, (search needs, begin inRoom _ _ _ _ _))))
+loop-holds c = (search needs, (refl, (search needs, (search needs, begin inRoom _ (c .before .before .args .register) (c .before .before .args .t3) (c .before .before .args .n) _))))
 
 cast-at : tie.Need-cast-at Inv-loop μ-loop
 cast-at c = search needs
@@ -46,14 +46,14 @@ loop-less c = search needs
 
 loop-again : tie.Need-loop-again Inv-loop μ-loop
 unfolding accessStep
-loop-again c = 
-    (search needs, (search needs, (search needs, (search needs, ap (run inRoom _ (upward (c .before .before .before .before .before .before .before .before .args .register + (c .before .before .before .before .before .loop .i + 1)) (drop (c .before .before .before .before .before .loop .i + 1) (take (c .before .before .before .before .before .before .before .before .args .n) (c .before .before .before .before .before .before .before .before .args .bytes))))) (c .before .before .one-access .ensures .0) ∙ turn inRoom _ (c .before .before .before .before .before .before .before .before .args .register) (c .before .before .before .before .before .before .before .before .args .bytes) (c .before .before .before .before .before .before .before .before .args .n) (c .before .before .before .before .before .loop .i) _ (search needs) (search needs) ∙ c .before .before .before .before .before .loop .inv .1 .1 .1 .1))))
+loop-again c =
+    (search needs, (search needs, (search needs, (search needs, ap (run inRoom _ (upward (c .before .before .before .before .before .before .before .before .args .register + (c .before .before .before .before .before .loop .i + 1)) (drop (c .before .before .before .before .before .loop .i + 1) (take (c .before .before .before .before .before .before .before .before .args .n) (c .before .before .before .before .before .before .before .before .args .t3))))) (c .before .before .one-access .ensures .0) ∙ turn inRoom _ (c .before .before .before .before .before .before .before .before .args .register) (c .before .before .before .before .before .before .before .before .args .t3) (c .before .before .before .before .before .before .before .before .args .n) (c .before .before .before .before .before .loop .i) _ (search needs) (search needs) ∙ c .before .before .before .before .before .loop .inv .1 .1 .1 .1))))
 
 same-length : tie.Need-same-length Inv-loop μ-loop
 same-length c = search needs
 
 returns : tie.Need-returns Inv-loop μ-loop
-returns c = (end inRoom _ (c .before .before .before .before .args .register) (c .before .before .before .before .args .bytes) (c .before .before .before .before .args .n) (c .before .loop .i) _ (search needs) ∙ c .before .loop .inv .1 .1 .1 .1, search needs)
+returns c = (end inRoom _ (c .before .before .before .before .args .register) (c .before .before .before .before .args .t3) (c .before .before .before .before .args .n) (c .before .loop .i) _ (search needs) ∙ c .before .loop .inv .1 .1 .1 .1, search needs)
 
 pub write-upward-spec : {M : Type 1} → statement M
 write-upward-spec =
