@@ -1,2 +1,4 @@
 pub mod Upward
 pub mod Baseband
+pub mod Lengths
+pub mod Worked

@@ -1,2 +1,3 @@
 pub mod Programs
 pub mod Free
+pub mod Lengths
