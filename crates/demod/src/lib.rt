@@ -24,24 +24,24 @@ use device::Handed;
 use device::NONE;
 use device::WAIT;
 use registers::block;
-use registers::demod;
+use registers::demod::P0_PAGE;
+use registers::demod::P1_DDC_SYNC;
+use registers::demod::P1_DDC_SYNC_INVERT;
+use registers::demod::P1_DDC_SYNC_NORMAL;
+use registers::demod::P1_IF_FREQ_H;
+use registers::demod::P1_IF_FREQ_L;
+use registers::demod::P1_IF_FREQ_M;
+use registers::demod::P1_PAGE;
+use registers::demod::P1_SOFT_RESET;
+use registers::demod::P1_SOFT_RESET_OFF;
+use registers::demod::P1_SOFT_RESET_ON;
 use registers::sys;
 use registers::usb;
 
 // `reset_demod`'s accesses.
 const RESET: [Access; 10] = [
-    Access(
-        DEMOD,
-        demod::P1_PAGE,
-        demod::P1_SOFT_RESET,
-        demod::P1_SOFT_RESET_ON as u16,
-    ),
-    Access(
-        DEMOD,
-        demod::P1_PAGE,
-        demod::P1_SOFT_RESET,
-        demod::P1_SOFT_RESET_OFF as u16,
-    ),
+    Access(DEMOD, P1_PAGE, P1_SOFT_RESET, P1_SOFT_RESET_ON as u16),
+    Access(DEMOD, P1_PAGE, P1_SOFT_RESET, P1_SOFT_RESET_OFF as u16),
     NONE,
     NONE,
     NONE,
@@ -54,8 +54,8 @@ const RESET: [Access; 10] = [
 
 // Low-IF mode, and the in-phase ADC input on.
 const LOW_IF: [Access; 10] = [
-    Access(DEMOD, demod::P1_PAGE, 0xb1, 0x1a),
-    Access(DEMOD, demod::P0_PAGE, 0x08, 0x4d),
+    Access(DEMOD, P1_PAGE, 0xb1, 0x1a),
+    Access(DEMOD, P0_PAGE, 0x08, 0x4d),
     NONE,
     NONE,
     NONE,
@@ -68,8 +68,8 @@ const LOW_IF: [Access; 10] = [
 
 // Zero-IF mode, and the in-phase ADC input off.
 const ZERO_IF: [Access; 10] = [
-    Access(DEMOD, demod::P1_PAGE, 0xb1, 0x1b),
-    Access(DEMOD, demod::P0_PAGE, 0x08, 0x4c),
+    Access(DEMOD, P1_PAGE, 0xb1, 0x1b),
+    Access(DEMOD, P0_PAGE, 0x08, 0x4c),
     NONE,
     NONE,
     NONE,
@@ -124,33 +124,23 @@ const POWER: [Access; 10] = [
         sys::DEMOD_CTL_POWER_ON as u16,
     ),
     Access(WAIT, 0, 100, 0),
-    Access(
-        DEMOD,
-        demod::P1_PAGE,
-        demod::P1_SOFT_RESET,
-        demod::P1_SOFT_RESET_ON as u16,
-    ),
-    Access(
-        DEMOD,
-        demod::P1_PAGE,
-        demod::P1_SOFT_RESET,
-        demod::P1_SOFT_RESET_OFF as u16,
-    ),
-    Access(DEMOD, demod::P1_PAGE, demod::P1_DDC_SYNC, 0x00),
-    Access(DEMOD16, demod::P1_PAGE, 0x16, 0x0000),
+    Access(DEMOD, P1_PAGE, P1_SOFT_RESET, P1_SOFT_RESET_ON as u16),
+    Access(DEMOD, P1_PAGE, P1_SOFT_RESET, P1_SOFT_RESET_OFF as u16),
+    Access(DEMOD, P1_PAGE, P1_DDC_SYNC, 0x00),
+    Access(DEMOD16, P1_PAGE, 0x16, 0x0000),
 ];
 
 // `init_baseband` behind the FIR.
 const MODE: [Access; 10] = [
-    Access(DEMOD, demod::P0_PAGE, 0x19, 0x05),
-    Access(DEMOD, demod::P1_PAGE, 0x93, 0xf0),
-    Access(DEMOD, demod::P1_PAGE, 0x94, 0x0f),
-    Access(DEMOD, demod::P1_PAGE, 0x11, 0x00),
-    Access(DEMOD, demod::P1_PAGE, 0x04, 0x00),
-    Access(DEMOD, demod::P0_PAGE, 0x61, 0x60),
-    Access(DEMOD, demod::P0_PAGE, 0x06, 0x80),
-    Access(DEMOD, demod::P1_PAGE, 0xb1, 0x1b),
-    Access(DEMOD, demod::P0_PAGE, 0x0d, 0x83),
+    Access(DEMOD, P0_PAGE, 0x19, 0x05),
+    Access(DEMOD, P1_PAGE, 0x93, 0xf0),
+    Access(DEMOD, P1_PAGE, 0x94, 0x0f),
+    Access(DEMOD, P1_PAGE, 0x11, 0x00),
+    Access(DEMOD, P1_PAGE, 0x04, 0x00),
+    Access(DEMOD, P0_PAGE, 0x61, 0x60),
+    Access(DEMOD, P0_PAGE, 0x06, 0x80),
+    Access(DEMOD, P1_PAGE, 0xb1, 0x1b),
+    Access(DEMOD, P0_PAGE, 0x0d, 0x83),
     NONE,
 ];
 
@@ -220,9 +210,9 @@ fn ddc_byte(inverted: bool) -> u8
     ensures { λ r. ⌜ r ≡ ddcByte inverted ⌝ }
 {
     if inverted {
-        demod::P1_DDC_SYNC_INVERT
+        P1_DDC_SYNC_INVERT
     } else {
-        demod::P1_DDC_SYNC_NORMAL
+        P1_DDC_SYNC_NORMAL
     }
 }
 
@@ -234,7 +224,7 @@ pub fn ddc(f: Flow, inverted: bool, outcomes: &[u8], room: &mut [u8]) -> Flow
 {
     let byte = ddc_byte(inverted);
     let rows = [
-        Access(DEMOD, demod::P1_PAGE, demod::P1_DDC_SYNC, byte as u16),
+        Access(DEMOD, P1_PAGE, P1_DDC_SYNC, byte as u16),
         NONE,
         NONE,
         NONE,
@@ -255,24 +245,9 @@ fn if_rows(hz: u32, xtal: u32) -> [Access; 10]
 {
     let value = registers::if_value(hz, xtal);
     [
-        Access(
-            DEMOD,
-            demod::P1_PAGE,
-            demod::P1_IF_FREQ_H,
-            (value >> 16) as u16,
-        ),
-        Access(
-            DEMOD,
-            demod::P1_PAGE,
-            demod::P1_IF_FREQ_M,
-            ((value >> 8) % 256) as u16,
-        ),
-        Access(
-            DEMOD,
-            demod::P1_PAGE,
-            demod::P1_IF_FREQ_L,
-            (value % 256) as u16,
-        ),
+        Access(DEMOD, P1_PAGE, P1_IF_FREQ_H, (value >> 16) as u16),
+        Access(DEMOD, P1_PAGE, P1_IF_FREQ_M, ((value >> 8) % 256) as u16),
+        Access(DEMOD, P1_PAGE, P1_IF_FREQ_L, (value % 256) as u16),
         NONE,
         NONE,
         NONE,
@@ -313,10 +288,10 @@ fn rate_rows(rate: u32, xtal: u32) -> [Access; 10]
     let ratio = registers::ratio(rate, xtal);
     let sent = registers::sent(ratio);
     [
-        Access(DEMOD16, demod::P1_PAGE, 0x9f, (sent >> 16) as u16),
-        Access(DEMOD16, demod::P1_PAGE, 0xa1, (sent % 65536) as u16),
-        Access(DEMOD, demod::P1_PAGE, 0x3f, 0x00),
-        Access(DEMOD, demod::P1_PAGE, 0x3e, 0x00),
+        Access(DEMOD16, P1_PAGE, 0x9f, (sent >> 16) as u16),
+        Access(DEMOD16, P1_PAGE, 0xa1, (sent % 65536) as u16),
+        Access(DEMOD, P1_PAGE, 0x3f, 0x00),
+        Access(DEMOD, P1_PAGE, 0x3e, 0x00),
         NONE,
         NONE,
         NONE,
@@ -372,12 +347,7 @@ fn write_upward(
     while i < n {
         let at = register + i as u16;
         let byte = bytes[i];
-        f = device::one_access(
-            f,
-            Access(DEMOD, demod::P1_PAGE, at, byte as u16),
-            outcomes,
-            room,
-        );
+        f = device::one_access(f, Access(DEMOD, P1_PAGE, at, byte as u16), outcomes, room);
         i += 1;
     }
     f
