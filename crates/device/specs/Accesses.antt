@@ -1,14 +1,15 @@
 -- The interface's accesses beside I2C, as entries. Document 01, "Transcript and script", the table of kinds.
 -- Assumes nothing.
 use Prim.Native.Nat.{ℕ, _/_, _%_, _^_}
-use mathlib.Core.Bool.{Bool, _||_}
+use mathlib.Core.Bool.{Bool, true, false, _||_}
 use mathlib.Core.List.{List, [], _∷_}
 use lib.Dec.{eqb}
 use Rattle.transcript.specs.declared.Entry.{Entry}
+use Rattle.transcript.specs.Entries.{entryFits}
 use Rattle.chip.specs.Calls.{pickN}
-use Rattle.chip.specs.Entries.{pickBytes}
+use Rattle.chip.specs.Entries.{pickBytes, settled}
 use Rattle.chip.specs.Steps.{Step}
-use Rattle.chip.specs.Steps.Step.{Plain}
+use Rattle.chip.specs.Steps.Step.{Open, Close, Send, Mask, Plain}
 use Rattle.device.specs.declared.Access.{Access}
 
 -- the data of 8 bits
@@ -60,3 +61,11 @@ accessEntry a =
 
 unfoldable pub accessStep : Access → Step
 accessStep a = Plain (accessEntry a)
+
+-- a plain step whose entry fits the table when it is done
+abbrev pub fitting : Step → Bool
+fitting Open = false
+fitting Close = false
+fitting (Send n bytes) = false
+fitting (Mask register value mask) = false
+fitting (Plain e) = entryFits (settled e true)
