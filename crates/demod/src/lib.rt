@@ -191,18 +191,8 @@ pub fn write_reg_direct(
 ) -> Handed
     ensures { λ r. ⌜ back r (now (room .exit)) ≡ directCall page register value (now (outcomes .entry)) (now (room .entry)) ⌝ }
 {
-    let rows = [
-        Access(DEMOD, page, register, value as u16),
-        NONE,
-        NONE,
-        NONE,
-        NONE,
-        NONE,
-        NONE,
-        NONE,
-        NONE,
-        NONE,
-    ];
+    let mut rows = [NONE; 10];
+    rows[0] = Access(DEMOD, page, register, value as u16);
     device::perform(rows, 1, 0, 0, outcomes, room)
 }
 
@@ -223,19 +213,12 @@ pub fn ddc(f: Flow, inverted: bool, outcomes: &[u8], room: &mut [u8]) -> Flow
     ensures bounds { λ r. ⌜ r .count + due (r .held) ≤ f .count + 1 + due (f .held) ⌝ }
 {
     let byte = ddc_byte(inverted);
-    let rows = [
+    device::one_access(
+        f,
         Access(DEMOD, P1_PAGE, P1_DDC_SYNC, byte as u16),
-        NONE,
-        NONE,
-        NONE,
-        NONE,
-        NONE,
-        NONE,
-        NONE,
-        NONE,
-        NONE,
-    ];
-    device::access_all(f, rows, 1, outcomes, room)
+        outcomes,
+        room,
+    )
 }
 
 // 22 bits, high first.
@@ -244,18 +227,11 @@ fn if_rows(hz: u32, xtal: u32) -> [Access; 10]
     ensures { λ r. ⌜ map accessStep (take 3 r) ≡ ifSteps hz xtal ⌝ }
 {
     let value = registers::if_value(hz, xtal);
-    [
-        Access(DEMOD, P1_PAGE, P1_IF_FREQ_H, (value >> 16) as u16),
-        Access(DEMOD, P1_PAGE, P1_IF_FREQ_M, ((value >> 8) % 256) as u16),
-        Access(DEMOD, P1_PAGE, P1_IF_FREQ_L, (value % 256) as u16),
-        NONE,
-        NONE,
-        NONE,
-        NONE,
-        NONE,
-        NONE,
-        NONE,
-    ]
+    let mut rows = [NONE; 10];
+    rows[0] = Access(DEMOD, P1_PAGE, P1_IF_FREQ_H, (value >> 16) as u16);
+    rows[1] = Access(DEMOD, P1_PAGE, P1_IF_FREQ_M, ((value >> 8) % 256) as u16);
+    rows[2] = Access(DEMOD, P1_PAGE, P1_IF_FREQ_L, (value % 256) as u16);
+    rows
 }
 
 pub fn if_steps(f: Flow, hz: u32, xtal: u32, outcomes: &[u8], room: &mut [u8]) -> Flow
@@ -287,18 +263,12 @@ fn rate_rows(rate: u32, xtal: u32) -> [Access; 10]
 {
     let ratio = registers::ratio(rate, xtal);
     let sent = registers::sent(ratio);
-    [
-        Access(DEMOD16, P1_PAGE, 0x9f, (sent >> 16) as u16),
-        Access(DEMOD16, P1_PAGE, 0xa1, (sent % 65536) as u16),
-        Access(DEMOD, P1_PAGE, 0x3f, 0x00),
-        Access(DEMOD, P1_PAGE, 0x3e, 0x00),
-        NONE,
-        NONE,
-        NONE,
-        NONE,
-        NONE,
-        NONE,
-    ]
+    let mut rows = [NONE; 10];
+    rows[0] = Access(DEMOD16, P1_PAGE, 0x9f, (sent >> 16) as u16);
+    rows[1] = Access(DEMOD16, P1_PAGE, 0xa1, (sent % 65536) as u16);
+    rows[2] = Access(DEMOD, P1_PAGE, 0x3f, 0x00);
+    rows[3] = Access(DEMOD, P1_PAGE, 0x3e, 0x00);
+    rows
 }
 
 pub fn rate_steps(f: Flow, rate: u32, xtal: u32, outcomes: &[u8], room: &mut [u8]) -> Flow

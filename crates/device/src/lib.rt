@@ -46,7 +46,7 @@ pub struct Handed {
 }
 
 // An access as its entry, when it is done.
-pub fn entry(a: Access) -> Entry
+fn entry(a: Access) -> Entry
     ensures { λ r. ⌜ r ≡ accessEntry a ⌝ }
 {
     let kind = a.0;
@@ -184,18 +184,12 @@ fn output_rows(gpio: u8, a: u8, b: u8) -> [Access; 10]
 {
     let out = with_bit(a, gpio);
     let driven = without_bit(b, gpio);
-    [
-        Access(READ, block::SYS, sys::GPOE, a as u16),
-        Access(BLOCK, block::SYS, sys::GPOE, out as u16),
-        Access(READ, block::SYS, sys::GPD, b as u16),
-        Access(BLOCK, block::SYS, sys::GPD, driven as u16),
-        NONE,
-        NONE,
-        NONE,
-        NONE,
-        NONE,
-        NONE,
-    ]
+    let mut rows = [NONE; 10];
+    rows[0] = Access(READ, block::SYS, sys::GPOE, a as u16);
+    rows[1] = Access(BLOCK, block::SYS, sys::GPOE, out as u16);
+    rows[2] = Access(READ, block::SYS, sys::GPD, b as u16);
+    rows[3] = Access(BLOCK, block::SYS, sys::GPD, driven as u16);
+    rows
 }
 
 // The byte that `set_gpio_bit` writes back.
@@ -215,18 +209,10 @@ fn bit_rows(gpio: u8, value: u8, a: u8) -> [Access; 10]
     ensures { λ r. ⌜ map accessStep (take 2 r) ≡ bitSteps gpio value a ⌝ }
 {
     let new = changed(gpio, value, a);
-    [
-        Access(READ, block::SYS, sys::GPO, a as u16),
-        Access(BLOCK, block::SYS, sys::GPO, new as u16),
-        NONE,
-        NONE,
-        NONE,
-        NONE,
-        NONE,
-        NONE,
-        NONE,
-        NONE,
-    ]
+    let mut rows = [NONE; 10];
+    rows[0] = Access(READ, block::SYS, sys::GPO, a as u16);
+    rows[1] = Access(BLOCK, block::SYS, sys::GPO, new as u16);
+    rows
 }
 
 // What a larger call holds of the two: a failed read cuts it, so the write behind one never uses its zeros.

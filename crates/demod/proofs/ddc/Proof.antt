@@ -1,11 +1,8 @@
 -- `demod::ddc` meets its contract. Assumes nothing.
-use Prim.Native.Nat.{ℕ}
 use mathlib.Core.Path.{ap}
-use mathlib.Core.List.{[], _∷_}
-use Rattle.chip.specs.Steps.{inRoom}
-use Rattle.chip.specs.Steps.Step.{Plain}
+use Rattle.chip.specs.Steps.{inRoom, run}
 use Rattle.device.specs.Accesses.{accessStep, demodWrite}
-use Rattle.device.proofs.Programs.{by-program}
+use Rattle.device.proofs.Programs.{by-entry}
 use Rattle.demod.specs.Programs.{ddcSteps}
 use borrow.Author.Needs.{needs}
 use Rattle.demod.proofs.ddc.Statement.{statement}
@@ -13,23 +10,23 @@ use Rattle.demod.proofs.ddc.Tie as tie
 use Rattle.demod.proofs.ddc.Reads as reads
 use Rattle.demod.proofs.ddc.Lts as lts
 use Rattle.demod.proofs.ddc_byte.Reads as ddc-byte-reads
-use Rattle.device.proofs.access_all.Reads as access-all-reads
+use Rattle.device.proofs.one_access.Reads as one-access-reads
 
 ddc-byte-requires : tie.Need-ddc-byte-requires
 ddc-byte-requires c κs = search needs
 
-cast-t7 : tie.Need-cast-t7
-cast-t7 c = search needs
+cast-t6 : tie.Need-cast-t6
+cast-t6 c = search needs
 
-access-all-requires : tie.Need-access-all-requires
-access-all-requires c κs = search needs
+one-access-requires : tie.Need-one-access-requires
+one-access-requires c κs = search needs
 
 same-length : tie.Need-same-length
 same-length c = search needs
 
 returns : tie.Need-returns
-unfolding accessStep ddcSteps
-returns c = (by-program inRoom _ _ _ _ _ (ap (λ (x : ℕ). Plain (demodWrite 1 0x15 x) ∷ []) (c .before .before .before .before .ddc-byte .ensures)) (c .before .before .access-all .ensures .0), search needs)
+unfolding run accessStep ddcSteps
+returns c = (by-entry inRoom _ _ _ _ _ (ap (demodWrite 1 0x15) (c .before .before .before .before .ddc-byte .ensures)) (c .before .before .one-access .ensures .0), search needs)
 
 pub ddc-spec : {M : Type 1} → statement M
-ddc-spec = tie.close (tie.spec ddc-byte-requires cast-t7 access-all-requires same-length returns)
+ddc-spec = tie.close (tie.spec ddc-byte-requires cast-t6 one-access-requires same-length returns)

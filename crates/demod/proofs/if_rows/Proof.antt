@@ -15,14 +15,23 @@ use Rattle.registers.proofs.if_value.Reads as if-value-reads
 if-value-requires : tie.Need-if-value-requires
 if-value-requires c κs = search needs
 
-cast-t5 : tie.Need-cast-t5
-cast-t5 c = search needs
+cast-t7 : tie.Need-cast-t7
+cast-t7 c = search needs
 
-cast-t9 : tie.Need-cast-t9
-cast-t9 c = search needs
+array-set-from-rows : tie.Need-array-set-from-rows
+array-set-from-rows c = search needs
 
-cast-t12 : tie.Need-cast-t12
-cast-t12 c = search needs
+cast-t7-2 : tie.Need-cast-t7-2
+cast-t7-2 c = search needs
+
+array-set-from-rows-2 : tie.Need-array-set-from-rows-2
+array-set-from-rows-2 c = search needs
+
+cast-t7-3 : tie.Need-cast-t7-3
+cast-t7-3 c = search needs
+
+array-set-from-rows-3 : tie.Need-array-set-from-rows-3
+array-set-from-rows-3 c = search needs
 
 returns : tie.Need-returns
 unfolding accessStep ifSteps
@@ -31,4 +40,14 @@ returns c =
     (c .if-value .ensures)
 
 pub if-rows-spec : {M : Type 1} → statement M
-if-rows-spec = tie.close (tie.spec if-value-requires cast-t5 cast-t9 cast-t12 returns)
+if-rows-spec =
+    tie.close
+    (tie.spec
+    if-value-requires
+    cast-t7
+    array-set-from-rows
+    cast-t7-2
+    array-set-from-rows-2
+    cast-t7-3
+    array-set-from-rows-3
+    returns)

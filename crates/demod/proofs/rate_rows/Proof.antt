@@ -20,11 +20,23 @@ ratio-requires c κs = search needs
 sent-requires : tie.Need-sent-requires
 sent-requires c κs = search needs
 
-cast-t6 : tie.Need-cast-t6
-cast-t6 c = search needs
+cast-t8 : tie.Need-cast-t8
+cast-t8 c = search needs
 
-cast-t9 : tie.Need-cast-t9
-cast-t9 c = search needs
+array-set-from-rows : tie.Need-array-set-from-rows
+array-set-from-rows c = search needs
+
+cast-t8-2 : tie.Need-cast-t8-2
+cast-t8-2 c = search needs
+
+array-set-from-rows-2 : tie.Need-array-set-from-rows-2
+array-set-from-rows-2 c = search needs
+
+array-set-from-rows-3 : tie.Need-array-set-from-rows-3
+array-set-from-rows-3 c = search needs
+
+array-set-from-rows-4 : tie.Need-array-set-from-rows-4
+array-set-from-rows-4 c = search needs
 
 returns : tie.Need-returns
 unfolding accessStep rateSteps
@@ -33,4 +45,15 @@ returns c =
     (c .sent .ensures ∙ ap sentOf (c .before .ratio .ensures))
 
 pub rate-rows-spec : {M : Type 1} → statement M
-rate-rows-spec = tie.close (tie.spec ratio-requires sent-requires cast-t6 cast-t9 returns)
+rate-rows-spec =
+    tie.close
+    (tie.spec
+    ratio-requires
+    sent-requires
+    cast-t8
+    array-set-from-rows
+    cast-t8-2
+    array-set-from-rows-2
+    array-set-from-rows-3
+    array-set-from-rows-4
+    returns)

@@ -9,6 +9,9 @@ use Rattle.demod.proofs.write_reg_direct.Reads as reads
 use Rattle.demod.proofs.write_reg_direct.Lts as lts
 use Rattle.device.proofs.perform.Reads as perform-reads
 
+array-set-from-rows : tie.Need-array-set-from-rows
+array-set-from-rows c = search needs
+
 perform-requires : tie.Need-perform-requires
 perform-requires c κs = search needs
 
@@ -20,4 +23,5 @@ unfolding directCall accessStep directSteps
 returns c = c .before .before .perform .ensures
 
 pub write-reg-direct-spec : {M : Type 1} → statement M
-write-reg-direct-spec = tie.close (tie.spec perform-requires same-length returns)
+write-reg-direct-spec =
+    tie.close (tie.spec array-set-from-rows perform-requires same-length returns)
