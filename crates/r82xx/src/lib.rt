@@ -370,7 +370,7 @@ impl Tuner {
         }
     }
 
-    pub fn initialize(self, outcomes: &[u8], room: &mut [u8]) -> Told
+    pub fn initialize(mut self, outcomes: &[u8], room: &mut [u8]) -> Told
         ensures { λ r. ⌜ called (r .tuner) (now (room .exit)) (r .count) (r .answer)
             ≡ initCall (now (outcomes .entry)) self (now (room .entry)) ⌝ }
     {
@@ -395,11 +395,10 @@ impl Tuner {
         };
         let f = writes::initialize(start, outcomes, room);
         let answered = chip::finish(f, Answer::Done(0), room);
-        let mut next = self;
         let left = f.chip;
-        next.chip = left;
+        self.chip = left;
         Told {
-            tuner: next,
+            tuner: self,
             answer: answered,
             count: f.count,
         }
