@@ -453,16 +453,16 @@ impl Tuner {
                 locked: false,
             },
         };
-        let f = writes::send_all(start, bytes, outcomes, room);
-        let answered = chip::finish(f, Answer::Done(0), room);
+        let sent = writes::send_all(start, bytes, outcomes, room);
+        let answered = chip::finish(sent, Answer::Done(0), room);
         let mut next = self;
-        let went = f.went;
-        let left = f.chip;
+        let went = sent.went;
+        let left = sent.chip;
         next.chip = reload_chip(went, left);
         Told {
             tuner: next,
             answer: answered,
-            count: f.count,
+            count: sent.count,
         }
     }
 
