@@ -186,6 +186,29 @@ fn kept_notch(nominal: u32, corrected: u32, old: bool, on: bool) -> bool
     on
 }
 
+// Document 01: "only `set_ppm` and `apply_notch` change the caller's record where it lies". Each calls covered functions on numbers and stores one
+// field, with no branch: a refusal stores what was there.
+pub fn set_ppm(t: &mut Tuner, ppm: i32) -> Answer
+    ensures { λ r. ⌜ (r ≡ ppmAnswer (now (t .entry) .nominal) (now (t .entry) .corrected) ppm)
+        × (now (t .exit) ≡ withCorrected (now (t .entry)) (keptPpm (now (t .entry) .nominal) (now (t .entry) .corrected) ppm)) ⌝ }
+{
+    let n = t.nominal;
+    let c = t.corrected;
+    t.corrected = kept_ppm(n, c, ppm);
+    ppm_answer(n, c, ppm)
+}
+
+pub fn apply_notch(t: &mut Tuner, on: bool) -> Answer
+    ensures { λ r. ⌜ (r ≡ soundAnswer (now (t .entry) .nominal) (now (t .entry) .corrected) 0)
+        × (now (t .exit) ≡ withNotch (now (t .entry)) (keptNotch (now (t .entry) .nominal) (now (t .entry) .corrected) (now (t .entry) .notch) on)) ⌝ }
+{
+    let n = t.nominal;
+    let c = t.corrected;
+    let old = t.notch;
+    t.notch = kept_notch(n, c, old, on);
+    sound_answer(n, c, 0)
+}
+
 impl Tuner {
     // kind: 0 R820T, 1 R828D.
     pub fn new(kind: u64, address: u8, nominal: u64) -> Made
@@ -429,16 +452,16 @@ impl Tuner {
                 locked: false,
             },
         };
-        let f = writes::send_all(start, bytes, outcomes, room);
-        let answered = chip::finish(f, Answer::Done(0), room);
+        let sent = writes::send_all(start, bytes, outcomes, room);
+        let answered = chip::finish(sent, Answer::Done(0), room);
         let mut next = self;
-        let went = f.went;
-        let left = f.chip;
+        let went = sent.went;
+        let left = sent.chip;
         next.chip = reload_chip(went, left);
         Told {
             tuner: next,
             answer: answered,
-            count: f.count,
+            count: sent.count,
         }
     }
 
