@@ -147,7 +147,7 @@ reloaded-same : (w : Went) (c : Chip) → reloaded w c ≡ shadowBy w c
 reloaded-same Going c = refl
 reloaded-same (Failed k) c = refl
 
-isDone : Answer → Bool
+abbrev isDone : Answer → Bool
 isDone (Done value) = true
 isDone (Refused number) = false
 isDone (Stopped index) = false

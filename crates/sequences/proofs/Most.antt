@@ -26,6 +26,7 @@ use Rattle.tuning.specs.Tries.{repairUpdates, triesFrom}
 use Rattle.r82xx.specs.declared.Tuner.{Tuner}
 use Rattle.r82xx.specs.Record.{freshTuner}
 use Rattle.r82xx.specs.Calls.{planFor}
+use Rattle.history.specs.Histories.{callEntries}
 use Rattle.sequences.specs.Calls.{Call, Order, askedOf, call, entries, most, pathAsked}
 use Rattle.sequences.specs.Calls.Order.{Initialize, Reload, Bandwidth, Middle, Gain, Index, Input, Tune, Quietly}
 use Rattle.sequences.specs.Asides.{Aside, asideAsked, asideEntries, asideMost}
@@ -64,7 +65,7 @@ most-aside a =
 pub most-plain : (path : ℕ) (os room : List ℕ) (t : Tuner) → t .kind ≡ R820T → entries (call (Input path) os room) t ≡ []
 most-plain path os room t h = go (pathOf path) (t .kind) h
   where
-    go : (p : PathRead) (kind : Kind) → kind ≡ R820T → Rattle.history.specs.Histories.callEntries (pathAsked p kind t os room .number) os (pathAsked p kind t os room .steps) (t .chip) ≡ []
+    go : (p : PathRead) (kind : Kind) → kind ≡ R820T → callEntries (pathAsked p kind t os room .number) os (pathAsked p kind t os room .steps) (t .chip) ≡ []
     go path-read.Refused kind e = none-entries os (t .chip)
     go (path-read.Is path) R820T e = none-entries os (t .chip)
     go (path-read.Is path) R828D e = cc
@@ -77,35 +78,35 @@ fresh = freshTuner R828D 0x74 28_800_000
 abbrev lent : Order → Call
 lent o = call o (replicate (most o) 0) (replicate (16 * most o + 8) 0)
 
-pub initialise-reached : length (entries (lent Initialize) fresh) ≡ 19
+pub initialise-reached : length (entries (lent Initialize) fresh) ≡ most Initialize
 unfolding trace run step lentOf
 initialise-reached = refl
 
-pub reload-reached : length (entries (lent Reload) fresh) ≡ 9
+pub reload-reached : length (entries (lent Reload) fresh) ≡ most Reload
 unfolding trace run step lentOf
 reload-reached = refl
 
-pub bandwidth-reached : length (entries (lent (Bandwidth 2_048_000)) fresh) ≡ 3
+pub bandwidth-reached : length (entries (lent (Bandwidth 2_048_000)) fresh) ≡ most (Bandwidth 2_048_000)
 unfolding trace run step lentOf
 bandwidth-reached = refl
 
-pub if-reached : length (entries (lent (Middle 3_570_000)) fresh) ≡ 4
+pub if-reached : length (entries (lent (Middle 3_570_000)) fresh) ≡ most (Middle 3_570_000)
 unfolding trace run step lentOf
 if-reached = refl
 
-pub gain-reached : length (entries (lent (Gain (ofBits binary32 0))) fresh) ≡ 7
+pub gain-reached : length (entries (lent (Gain (ofBits binary32 0))) fresh) ≡ most (Gain (ofBits binary32 0))
 unfolding trace run step lentOf
 gain-reached = refl
 
-pub index-reached : length (entries (lent (Index 28)) fresh) ≡ 7
+pub index-reached : length (entries (lent (Index 28)) fresh) ≡ most (Index 28)
 unfolding trace run step lentOf
 index-reached = refl
 
-pub path-reached : length (entries (lent (Input 0)) fresh) ≡ 4
+pub path-reached : length (entries (lent (Input 0)) fresh) ≡ most (Input 0)
 unfolding trace run step lentOf
 path-reached = refl
 
 -- no lock in ten tries, and the divider repaired: all replies are zero
-pub tune-reached : length (entries (lent (Tune 100_000_000 (replicate 35 0))) fresh) ≡ 53
+pub tune-reached : length (entries (lent (Tune 100_000_000 (replicate 35 0))) fresh) ≡ most (Tune 100_000_000 (replicate 35 0))
 unfolding trace run step lentOf inVco firstOf settingOf turnOf turnsOf planWith planOf innerSteps repairUpdates triesFrom reversed
 tune-reached = refl

@@ -180,21 +180,17 @@ again-length (suc i) =
     let later : eqb (suc i) 0 ≡ false = ne-eqb (suc i) 0 (λ e. omega arith) in
     rw later (omega arith)
 
+try-length : (address : ℕ) (rs : List ℕ) (left i : ℕ) (deeper : List Step) → length deeper ≤ 3 * left + (1 - (i + 1)) → (b : Bool)
+    → length (tryRead address rs i ++ pick b (updates locked) (afterTry i ++ deeper)) ≤ 3 * suc left + (1 - i)
+try-length address rs left i deeper h true = omega arith
+try-length address rs left i deeper h false =
+    omega (arith, length-append (afterTry i) deeper, length-append (updates (again i)) (Plain (wait 1) ∷ []), again-length i, h)
+
 tries-length : (address : ℕ) (rs : List ℕ) (left i : ℕ) → length (triesFrom address rs left i) ≤ 3 * left + (1 - i)
 unfolding triesFrom
 tries-length address rs zero i = omega arith
-tries-length address rs (suc left) i = go (locksAt rs i)
-  where
-    deeper : length (triesFrom address rs left (i + 1)) ≤ 3 * left + (1 - (i + 1))
-    deeper = tries-length address rs left (i + 1)
-
-    long : length (afterTry i ++ triesFrom address rs left (i + 1)) ≤ 1 - i + 1 + 3 * left
-    long =
-        omega (arith, length-append (afterTry i) (triesFrom address rs left (i + 1)), length-append (updates (again i)) (Plain (wait 1) ∷ []), again-length i, deeper)
-
-    go : (b : Bool) → length (tryRead address rs i ++ pick b (updates locked) (afterTry i ++ triesFrom address rs left (i + 1))) ≤ 3 * suc left + (1 - i)
-    go true = omega arith
-    go false = omega (arith, long)
+tries-length address rs (suc left) i =
+    try-length address rs left i (triesFrom address rs left (i + 1)) (tries-length address rs left (i + 1)) (locksAt rs i)
 
 repair-length : (kind : Kind) (number byte : ℕ) → length (updates (repairUpdates kind number byte)) ≤ 1
 unfolding repairUpdates
