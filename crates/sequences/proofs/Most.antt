@@ -1,0 +1,112 @@
+-- Document 01's list, "Per call, the most entries": no run makes more (`most-entries`), and for each call some run makes as many (`reached`).
+-- Assumes nothing.
+use Prim.Native.Nat.{ℕ, _+_, _*_, _≤_}
+use mathlib.Core.Path.{_≡_, refl}
+use mathlib.Core.Bool.{Bool, true}
+use mathlib.Core.List.{List, [], _∷_}
+use native.Mathlib.Omega.{arith}
+use lib.Ieee.{binary32, ofBits}
+use lib.ListN.{length, replicate}
+use Rattle.board.specs.declared.PathRead.{PathRead}
+use Rattle.board.specs.declared.PathRead.the-variants as path-read
+use Rattle.board.specs.Numbers.{pathOf}
+use Rattle.chip.specs.Calls.{lentOf}
+use Rattle.chip.specs.Steps.{run, step, trace}
+use Rattle.gain.specs.Product.{tenthsOf}
+use Rattle.gain.specs.Steps.{chosenOf, nearestIn, nearestOf}
+use Rattle.pll.specs.declared.Kind.{Kind}
+use Rattle.pll.specs.declared.Kind.the-variants.{R820T, R828D}
+use Rattle.pll.specs.Divide.{firstOf, inVco}
+use Rattle.pll.specs.Fraction.{turnOf, turnsOf}
+use Rattle.pll.specs.Plan.{planOf, planWith}
+use Rattle.pll.specs.Setting.{settingOf}
+use Rattle.status.specs.Reversal.{reversed}
+use Rattle.tuning.specs.Program.{innerSteps}
+use Rattle.tuning.specs.Tries.{repairUpdates, triesFrom}
+use Rattle.r82xx.specs.declared.Tuner.{Tuner}
+use Rattle.r82xx.specs.Record.{freshTuner}
+use Rattle.r82xx.specs.Calls.{planFor}
+use Rattle.history.specs.Histories.{callEntries}
+use Rattle.sequences.specs.Calls.{Call, Order, askedOf, call, entries, most, pathAsked}
+use Rattle.sequences.specs.Calls.Order.{Initialize, Reload, Bandwidth, Middle, Gain, Index, Input, Tune, Quietly}
+use Rattle.sequences.specs.Asides.{Aside, asideAsked, asideEntries, asideMost}
+use Rattle.device.specs.Calls.{noChip}
+use Rattle.sequences.proofs.Programs.{path-length, tune-length}
+use Rattle.sequences.proofs.Ties.{entries-most, none-entries}
+use Rattle.sequences.proofs.Asides.{aside-length}
+
+path-most : (p : PathRead) (kind : Kind) (t : Tuner) (os room : List ℕ) → length (pathAsked p kind t os room .steps) ≤ 4
+path-most path-read.Refused kind t os room = omega arith
+path-most (path-read.Is path) R820T t os room = omega arith
+path-most (path-read.Is path) R828D t os room = omega (arith, path-length path)
+
+most-steps : (o : Order) (os room : List ℕ) (t : Tuner) → length (askedOf o os room t .steps) ≤ most o
+most-steps Initialize os room t = omega arith
+most-steps Reload os room t = omega arith
+most-steps (Bandwidth hz) os room t = omega arith
+most-steps (Middle hz) os room t = omega arith
+most-steps (Gain db) os room t = omega arith
+most-steps (Index k) os room t = omega arith
+most-steps (Input path) os room t = path-most (pathOf path) (t .kind) t os room
+most-steps (Tune hz rs) os room t = tune-length (t .chip .address) (t .kind) (t .notch) (planFor t hz) hz rs
+most-steps (Quietly q) os room t = omega arith
+
+-- "initialise 19, 0; tune 53, 35; gain 7, 0; bandwidth 3, 0; IF 4, 0; input path 4, 0; reload 9, 0; .. `set_ppm`, notch, `update_shadow` 0, 0"
+pub most-entries : (k : Call) (t : Tuner) → length (entries k t) ≤ most (k .order)
+most-entries k t = entries-most (most (k .order)) (k .outcomes) (askedOf (k .order) (k .outcomes) (k .room) t) (t .chip) (most-steps (k .order) (k .outcomes) (k .room) t)
+
+-- "baseband 45, 0; .. GPIO direction 4, 2; GPIO bit 2, 1"
+pub most-aside : (a : Aside) → length (asideEntries a) ≤ asideMost (a .other)
+most-aside a =
+    entries-most (asideMost (a .other)) (a .outcomes) (asideAsked (a .other) (a .outcomes) (a .room)) noChip
+    (omega (arith, aside-length (a .other) (a .outcomes) (a .room)))
+
+-- "(R820T: 0, 0)": whatever the path's number and whatever is lent
+pub most-plain : (path : ℕ) (os room : List ℕ) (t : Tuner) → t .kind ≡ R820T → entries (call (Input path) os room) t ≡ []
+most-plain path os room t h = go (pathOf path) (t .kind) h
+  where
+    go : (p : PathRead) (kind : Kind) → kind ≡ R820T → callEntries (pathAsked p kind t os room .number) os (pathAsked p kind t os room .steps) (t .chip) ≡ []
+    go path-read.Refused kind e = none-entries os (t .chip)
+    go (path-read.Is path) R820T e = none-entries os (t .chip)
+    go (path-read.Is path) R828D e = cc
+
+-- ---- each bound is reached: a fresh R828D, all steps done, and just the memory that is asked for
+
+abbrev fresh : Tuner
+fresh = freshTuner R828D 0x74 28_800_000
+
+abbrev lent : Order → Call
+lent o = call o (replicate (most o) 0) (replicate (16 * most o + 8) 0)
+
+pub initialise-reached : length (entries (lent Initialize) fresh) ≡ most Initialize
+unfolding trace run step lentOf
+initialise-reached = refl
+
+pub reload-reached : length (entries (lent Reload) fresh) ≡ most Reload
+unfolding trace run step lentOf
+reload-reached = refl
+
+pub bandwidth-reached : length (entries (lent (Bandwidth 2_048_000)) fresh) ≡ most (Bandwidth 2_048_000)
+unfolding trace run step lentOf
+bandwidth-reached = refl
+
+pub if-reached : length (entries (lent (Middle 3_570_000)) fresh) ≡ most (Middle 3_570_000)
+unfolding trace run step lentOf
+if-reached = refl
+
+pub gain-reached : length (entries (lent (Gain (ofBits binary32 0))) fresh) ≡ most (Gain (ofBits binary32 0))
+unfolding trace run step lentOf
+gain-reached = refl
+
+pub index-reached : length (entries (lent (Index 28)) fresh) ≡ most (Index 28)
+unfolding trace run step lentOf
+index-reached = refl
+
+pub path-reached : length (entries (lent (Input 0)) fresh) ≡ most (Input 0)
+unfolding trace run step lentOf
+path-reached = refl
+
+-- no lock in ten tries, and the divider repaired: all replies are zero
+pub tune-reached : length (entries (lent (Tune 100_000_000 (replicate 35 0))) fresh) ≡ most (Tune 100_000_000 (replicate 35 0))
+unfolding trace run step lentOf inVco firstOf settingOf turnOf turnsOf planWith planOf innerSteps repairUpdates triesFrom reversed
+tune-reached = refl

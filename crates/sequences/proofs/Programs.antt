@@ -1,0 +1,223 @@
+-- The programs of the calls: every step of them passes crate `history`'s test, and how many steps they have. Assumes nothing.
+use Prim.Native.Nat.{ℕ, zero, suc, _+_, _-_, _*_, _≤_}
+use mathlib.Core.Path.{_≡_, refl, ap, _∙_}
+use mathlib.Core.Bool.{Bool, true, false, _&&_}
+use mathlib.Core.List.{List, [], _∷_, _++_}
+use native.Mathlib.Omega.{arith}
+use borrow.Author.Tests.{leb-true, ne-eqb}
+use lib.Dec.{eqb, leb, ltb}
+use lib.ListN.{length, getD, take, drop, length-append, length-map}
+use lib.Seq.{sets, length-sets}
+use Rattle.transcript.specs.Entries.{zeros}
+use Rattle.board.specs.declared.Path.{Path}
+use Rattle.board.specs.declared.Path.the-variants.{Hf, Vhf, Uhf}
+use Rattle.chip.specs.declared.Update.{Update}
+use Rattle.chip.specs.Entries.{pointer, readEntry, wait, zeros8}
+use Rattle.chip.specs.Steps.{Step, allIn, behind, every, updateStep, updates}
+use Rattle.chip.specs.Steps.Step.{Close, Plain}
+use Rattle.chip.proofs.Laws.{and-left}
+use Rattle.pll.specs.declared.Kind.{Kind}
+use Rattle.pll.specs.declared.Plan.{Plan}
+use Rattle.pll.specs.declared.Pll.{Pll}
+use Rattle.pll.specs.declared.Pll.the-variants.{Planned, Refused}
+use Rattle.tuning.specs.Mux.{masked, muxUpdates, pick, pllUpdates, rangeOf}
+use Rattle.tuning.specs.Tries.{afterTry, again, fineOf, locked, locksAt, powerOf, repairUpdates, replyBytes, statusSteps, triesFrom, tryRead}
+use Rattle.tuning.specs.Program.{innerSteps, pllSteps, tuneSteps}
+use Rattle.writes.specs.Lists.{bandwidthUpdates, gainUpdates, ifUpdates, initArray, initUpdates, pathUpdates}
+use Rattle.writes.specs.Programs.{initSteps, sendAll}
+use Rattle.history.specs.Programs.{fine}
+use Rattle.history.proofs.Fine.{every-append, every-drop, fine-behind, fine-pointer, fine-read, fine-reload, fine-updates, fine-wait}
+use Rattle.sequences.specs.Calls.{isByte}
+
+and-in : (a b : Bool) → a ≡ true → b ≡ true → (a && b) ≡ true
+and-in a b h k = rw (h, k)
+
+-- ---- masked writes, behind an open repeater
+
+pub fine-bracket : (us : List Update) → allIn us ≡ true → every fine (behind (updates us)) ≡ true
+fine-bracket us h = fine-behind (updates us) (fine-updates us h)
+
+pub bandwidth-in : (hz : ℕ) → allIn (bandwidthUpdates hz) ≡ true
+unfolding every
+bandwidth-in hz = refl
+
+pub if-in : (hz : ℕ) → allIn (ifUpdates hz) ≡ true
+unfolding every
+if-in hz = refl
+
+pub gain-in : (k : ℕ) → allIn (gainUpdates k) ≡ true
+unfolding every
+gain-in k = refl
+
+pub path-in : (path : Path) → allIn (pathUpdates path) ≡ true
+unfolding every
+path-in Hf = refl
+path-in Vhf = refl
+path-in Uhf = refl
+
+init-in : allIn initUpdates ≡ true
+unfolding every
+init-in = refl
+
+-- ---- initialise
+
+pub fine-init : every fine initSteps ≡ true
+fine-init =
+    every-append fine (sendAll initArray) (behind (updates initUpdates) ++ behind (updates (ifUpdates 2_300_000))) (fine-reload initArray)
+    (every-append fine (behind (updates initUpdates)) (behind (updates (ifUpdates 2_300_000))) (fine-bracket initUpdates init-in)
+    (fine-bracket (ifUpdates 2_300_000) (if-in 2_300_000)))
+
+-- ---- a tuning
+
+tune-in : (notch : Bool) (hz : ℕ) (p : Plan) → allIn (muxUpdates notch (rangeOf hz) ++ pllUpdates p) ≡ true
+unfolding every
+tune-in notch hz p = refl
+
+mux-in : (notch : Bool) (hz : ℕ) → allIn (muxUpdates notch (rangeOf hz)) ≡ true
+unfolding every
+mux-in notch hz = refl
+
+pick-in : (b : Bool) (us vs : List Update) → allIn us ≡ true → allIn vs ≡ true → allIn (pick b us vs) ≡ true
+pick-in true us vs h k = h
+pick-in false us vs h k = k
+
+repair-in : (kind : Kind) (number byte : ℕ) → allIn (repairUpdates kind number byte) ≡ true
+unfolding repairUpdates every
+repair-in kind number byte =
+    pick-in (ltb (powerOf kind) (fineOf byte)) (masked 0x10 ((number - 1) * 32) 0xe0 ∷ [])
+    (pick (ltb (fineOf byte) (powerOf kind)) (masked 0x10 ((number + 1) * 32) 0xe0 ∷ []) []) refl
+    (pick-in (ltb (fineOf byte) (powerOf kind)) (masked 0x10 ((number + 1) * 32) 0xe0 ∷ []) [] refl refl)
+
+again-in : (i : ℕ) → allIn (again i) ≡ true
+unfolding every
+again-in i = pick-in (eqb i 0) (masked 0x12 0x06 0xff ∷ []) [] refl refl
+
+locked-in : allIn locked ≡ true
+unfolding every
+locked-in = refl
+
+-- the first of five or of three replies, and the zeros behind them
+five-small : (l : List ℕ) → every isByte l ≡ true → getD (sets zeros8 0 (take 5 l)) 0 0 ≤ 255
+unfolding every
+five-small [] h = omega arith
+five-small (a ∷ []) h = leb-true a 255 (and-left (isByte a) true h)
+five-small (a ∷ b ∷ []) h = leb-true a 255 (and-left (isByte a) (every isByte (b ∷ [])) h)
+five-small (a ∷ b ∷ c ∷ []) h = leb-true a 255 (and-left (isByte a) (every isByte (b ∷ c ∷ [])) h)
+five-small (a ∷ b ∷ c ∷ d ∷ []) h = leb-true a 255 (and-left (isByte a) (every isByte (b ∷ c ∷ d ∷ [])) h)
+five-small (a ∷ b ∷ c ∷ d ∷ e ∷ l) h = leb-true a 255 (and-left (isByte a) (every isByte (b ∷ c ∷ d ∷ e ∷ l)) h)
+
+five-padded : (l : List ℕ) → zeros (drop 5 (sets zeros8 0 (take 5 l))) ≡ true
+unfolding zeros
+five-padded [] = refl
+five-padded (a ∷ []) = refl
+five-padded (a ∷ b ∷ []) = refl
+five-padded (a ∷ b ∷ c ∷ []) = refl
+five-padded (a ∷ b ∷ c ∷ d ∷ []) = refl
+five-padded (a ∷ b ∷ c ∷ d ∷ e ∷ l) = refl
+
+three-small : (l : List ℕ) → every isByte l ≡ true → getD (sets zeros8 0 (take 3 l)) 0 0 ≤ 255
+unfolding every
+three-small [] h = omega arith
+three-small (a ∷ []) h = leb-true a 255 (and-left (isByte a) true h)
+three-small (a ∷ b ∷ []) h = leb-true a 255 (and-left (isByte a) (every isByte (b ∷ [])) h)
+three-small (a ∷ b ∷ c ∷ l) h = leb-true a 255 (and-left (isByte a) (every isByte (b ∷ c ∷ l)) h)
+
+three-padded : (l : List ℕ) → zeros (drop 3 (sets zeros8 0 (take 3 l))) ≡ true
+unfolding zeros
+three-padded [] = refl
+three-padded (a ∷ []) = refl
+three-padded (a ∷ b ∷ []) = refl
+three-padded (a ∷ b ∷ c ∷ l) = refl
+
+pick-every : (b : Bool) (xs ys : List Step) → every fine xs ≡ true → every fine ys ≡ true → every fine (pick b xs ys) ≡ true
+pick-every true xs ys h k = h
+pick-every false xs ys h k = k
+
+module _ (address : ℕ) (rs : List ℕ) (small : address ≤ 255) (bytes : every isByte rs ≡ true) where
+  fine-status : every fine (statusSteps address rs) ≡ true
+  unfolding every replyBytes
+  fine-status =
+      rw (fine-wait 2 (omega arith), fine-pointer address small, fine-read address 5 (sets zeros8 0 (take 5 (drop 0 rs))) small (omega arith) (omega arith) (five-small (drop 0 rs) (every-drop isByte 0 rs bytes)) (length-sets zeros8 0 (take 5 (drop 0 rs))) (five-padded (drop 0 rs)))
+
+  fine-try : (i : ℕ) → every fine (tryRead address rs i) ≡ true
+  unfolding every replyBytes
+  fine-try i =
+      rw (fine-pointer address small, fine-read address 3 (sets zeros8 0 (take 3 (drop (5 + 3 * i) rs))) small (omega arith) (omega arith) (three-small (drop (5 + 3 * i) rs) (every-drop isByte (5 + 3 * i) rs bytes)) (length-sets zeros8 0 (take 3 (drop (5 + 3 * i) rs))) (three-padded (drop (5 + 3 * i) rs)))
+
+  fine-after : (i : ℕ) → every fine (afterTry i) ≡ true
+  unfolding every
+  fine-after i = every-append fine (updates (again i)) (Plain (wait 1) ∷ []) (fine-updates (again i) (again-in i)) (rw (fine-wait 1 (omega arith)))
+
+  fine-tries : (left i : ℕ) → every fine (triesFrom address rs left i) ≡ true
+  unfolding triesFrom every
+  fine-tries zero i = refl
+  fine-tries (suc left) i =
+      every-append fine (tryRead address rs i) (pick (locksAt rs i) (updates locked) (afterTry i ++ triesFrom address rs left (i + 1))) (fine-try i)
+      (pick-every (locksAt rs i) (updates locked) (afterTry i ++ triesFrom address rs left (i + 1)) (fine-updates locked locked-in)
+      (every-append fine (afterTry i) (triesFrom address rs left (i + 1)) (fine-after i) (fine-tries left (i + 1))))
+
+  fine-pll : (kind : Kind) (number : ℕ) → every fine (pllSteps address kind number rs) ≡ true
+  fine-pll kind number =
+      every-append fine (statusSteps address rs) (updates (repairUpdates kind number (getD rs 4 0)) ++ triesFrom address rs 10 0) fine-status
+      (every-append fine (updates (repairUpdates kind number (getD rs 4 0))) (triesFrom address rs 10 0)
+      (fine-updates (repairUpdates kind number (getD rs 4 0)) (repair-in kind number (getD rs 4 0))) (fine-tries 10 0))
+
+  fine-inner : (kind : Kind) (notch : Bool) (plan : Pll) (hz : ℕ) → every fine (innerSteps address kind notch plan hz rs) ≡ true
+  unfolding innerSteps
+  fine-inner kind notch Refused hz = fine-updates (muxUpdates notch (rangeOf hz)) (mux-in notch hz)
+  fine-inner kind notch (Planned p) hz =
+      every-append fine (updates (muxUpdates notch (rangeOf hz) ++ pllUpdates p)) (pllSteps address kind (p .number) rs)
+      (fine-updates (muxUpdates notch (rangeOf hz) ++ pllUpdates p) (tune-in notch hz p)) (fine-pll kind (p .number))
+
+  pub fine-tune : (kind : Kind) (notch : Bool) (plan : Pll) (hz : ℕ) → every fine (tuneSteps address kind notch plan hz rs) ≡ true
+  fine-tune kind notch plan hz = fine-behind (innerSteps address kind notch plan hz rs) (fine-inner kind notch plan hz)
+
+-- ---- how many steps
+
+again-length : (i : ℕ) → length (updates (again i)) ≤ 1 - i
+again-length zero = omega arith
+again-length (suc i) =
+    let later : eqb (suc i) 0 ≡ false = ne-eqb (suc i) 0 (λ e. omega arith) in
+    rw later (omega arith)
+
+try-length : (address : ℕ) (rs : List ℕ) (left i : ℕ) (deeper : List Step) → length deeper ≤ 3 * left + (1 - (i + 1)) → (b : Bool)
+    → length (tryRead address rs i ++ pick b (updates locked) (afterTry i ++ deeper)) ≤ 3 * suc left + (1 - i)
+try-length address rs left i deeper h true = omega arith
+try-length address rs left i deeper h false =
+    omega (arith, length-append (afterTry i) deeper, length-append (updates (again i)) (Plain (wait 1) ∷ []), again-length i, h)
+
+tries-length : (address : ℕ) (rs : List ℕ) (left i : ℕ) → length (triesFrom address rs left i) ≤ 3 * left + (1 - i)
+unfolding triesFrom
+tries-length address rs zero i = omega arith
+tries-length address rs (suc left) i =
+    try-length address rs left i (triesFrom address rs left (i + 1)) (tries-length address rs left (i + 1)) (locksAt rs i)
+
+repair-length : (kind : Kind) (number byte : ℕ) → length (updates (repairUpdates kind number byte)) ≤ 1
+unfolding repairUpdates
+repair-length kind number byte = go (ltb (powerOf kind) (fineOf byte)) (ltb (fineOf byte) (powerOf kind))
+  where
+    go : (a b : Bool)
+        → length (updates (pick a (masked 0x10 ((number - 1) * 32) 0xe0 ∷ []) (pick b (masked 0x10 ((number + 1) * 32) 0xe0 ∷ []) []))) ≤ 1
+    go true b = omega arith
+    go false true = omega arith
+    go false false = omega arith
+
+pll-length : (address : ℕ) (kind : Kind) (number : ℕ) (rs : List ℕ) → length (pllSteps address kind number rs) ≤ 35
+pll-length address kind number rs =
+    omega (arith, length-append (updates (repairUpdates kind number (getD rs 4 0))) (triesFrom address rs 10 0), repair-length kind number (getD rs 4 0), tries-length address rs 10 0)
+
+inner-length : (address : ℕ) (kind : Kind) (notch : Bool) (plan : Pll) (hz : ℕ) (rs : List ℕ) → length (innerSteps address kind notch plan hz rs) ≤ 51
+unfolding innerSteps
+inner-length address kind notch Refused hz rs = omega arith
+inner-length address kind notch (Planned p) hz rs =
+    omega (arith, pll-length address kind (p .number) rs)
+
+-- "tune 53"
+pub tune-length : (address : ℕ) (kind : Kind) (notch : Bool) (plan : Pll) (hz : ℕ) (rs : List ℕ) → length (tuneSteps address kind notch plan hz rs) ≤ 53
+tune-length address kind notch plan hz rs =
+    omega (arith, length-append (innerSteps address kind notch plan hz rs) (Close ∷ []), inner-length address kind notch plan hz rs)
+
+pub path-length : (path : Path) → length (behind (updates (pathUpdates path))) ≡ 4
+path-length Hf = refl
+path-length Vhf = refl
+path-length Uhf = refl

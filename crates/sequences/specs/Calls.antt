@@ -1,0 +1,163 @@
+-- Every call that takes or hands back a tuner record, with any arguments, outcomes, replies and room: what it leaves is its contract's definition of
+-- crate `r82xx`, and its entries are those of the program in that definition. Document 01, "Transcript and script", "The record".
+-- Assumes nothing.
+use Prim.Native.Nat.{ℕ, _+_}
+use mathlib.Core.Bool.{Bool, true}
+use mathlib.Core.List.{List, []}
+use lib.Dec.{leb}
+use lib.Ieee.{Float, binary32, toBits}
+use lib.IntN.{ℤ}
+use lib.ListN.{length, set}
+use Rattle.transcript.specs.declared.Entry.{Entry}
+use Rattle.board.specs.declared.PathRead.{PathRead}
+use Rattle.board.specs.declared.PathRead.the-variants as path-read
+use Rattle.board.specs.Numbers.{pathOf}
+use Rattle.chip.specs.declared.Chip.{Chip}
+use Rattle.chip.specs.declared.Update.{Update}
+use Rattle.chip.specs.Calls.{Called, called}
+use Rattle.chip.specs.Steps.{Step, behind, every, updates}
+use Rattle.gain.specs.Steps.{chosenOf, clamped}
+use Rattle.pll.specs.declared.Kind.{Kind}
+use Rattle.pll.specs.declared.Kind.the-variants.{R820T, R828D}
+use Rattle.tuning.specs.Program.{tuneSteps}
+use Rattle.writes.specs.Lists.{bandwidthUpdates, gainUpdates, ifUpdates, pathUpdates}
+use Rattle.writes.specs.Programs.{initSteps, sendAll}
+use Rattle.r82xx.specs.declared.Tuner.{Tuner}
+use Rattle.r82xx.specs.Record.{withCorrected, withNotch}
+use Rattle.r82xx.specs.Calls.{bandwidthCall, gainCall, hzRefusal, ifCall, indexCall, initCall, keptNotch, keptPpm, pathCall, planFor, ppmAnswer, refusalOf, reloadCall, shadowCall, soundAnswer, tableOf, tuneCall}
+use Rattle.history.specs.Histories.{callEntries}
+
+-- calls that take no step: "`set_ppm`, notch, `update_shadow` 0, 0 (0 entries: no lent memory, no section)", and the three that only tell
+pub data Quiet : Type 0 where
+  Shadow : (register value mask : ℕ) → Quiet
+  Ppm : (ppm : ℤ) → Quiet
+  Notch : (on : Bool) → Quiet
+  GainTold : Quiet
+  MiddleTold : Quiet
+  TableTold : Quiet
+
+-- what is called, with its arguments; rs are a tuning's replies
+pub data Order : Type 0 where
+  Initialize : Order
+  Reload : Order
+  Bandwidth : (hz : ℕ) → Order
+  Middle : (hz : ℕ) → Order
+  Gain : (db : Float) → Order
+  Index : (k : ℕ) → Order
+  Input : (path : ℕ) → Order
+  Tune : (hz : ℕ) (rs : List ℕ) → Order
+  Quietly : (q : Quiet) → Order
+
+-- a call: what is called, and the outcomes and the room that are lent to it (a quiet one looks at neither)
+pub record Call : Type 0 where
+  pub order : Order
+  pub outcomes : List ℕ
+  pub room : List ℕ
+
+abbrev pub call : Order → List ℕ → List ℕ → Call
+call order outcomes room = record { order = order; outcomes = outcomes; room = room }
+
+-- ---- what a call leaves, by its contract
+
+abbrev pub quietResult : Quiet → Tuner → Called Tuner
+quietResult (Shadow register value mask) t = shadowCall register value mask t
+quietResult (Ppm ppm) t =
+    called (withCorrected t (keptPpm (t .nominal) (t .corrected) ppm)) [] 0 (ppmAnswer (t .nominal) (t .corrected) ppm)
+quietResult (Notch on) t =
+    called (withNotch t (keptNotch (t .nominal) (t .corrected) (t .notch) on)) [] 0 (soundAnswer (t .nominal) (t .corrected) 0)
+quietResult GainTold t = called t [] 0 (soundAnswer (t .nominal) (t .corrected) (toBits binary32 (t .gain)))
+quietResult MiddleTold t = called t [] 0 (soundAnswer (t .nominal) (t .corrected) (t .ifreq))
+quietResult TableTold t = called t [] 0 (tableOf (t .nominal) (t .corrected) .answer)
+
+abbrev pub resultOf : Order → List ℕ → List ℕ → Tuner → Called Tuner
+resultOf Initialize os room t = initCall os t room
+resultOf Reload os room t = reloadCall os t room
+resultOf (Bandwidth hz) os room t = bandwidthCall os hz t room
+resultOf (Middle hz) os room t = ifCall os hz t room
+resultOf (Gain db) os room t = gainCall os db t room
+resultOf (Index k) os room t = indexCall os k t room
+resultOf (Input path) os room t = pathCall os path t room
+resultOf (Tune hz rs) os room t = tuneCall os rs hz t room
+resultOf (Quietly q) os room t = quietResult q t
+
+abbrev pub result : Call → Tuner → Called Tuner
+result k t = resultOf (k .order) (k .outcomes) (k .room) t
+
+-- the record that it hands back
+abbrev pub after : Call → Tuner → Tuner
+after k t = result k t .next
+
+-- ---- its entries
+
+-- what decides them beside the outcomes: the number that refuses the call before any step, and its program
+pub record Asked : Type 0 where
+  pub number : ℕ
+  pub steps : List Step
+
+abbrev pub ask : ℕ → List Step → Asked
+ask number steps = record { number = number; steps = steps }
+
+-- no step
+abbrev pub none : Asked
+none = ask 0 []
+
+-- one bracket of n masked writes
+abbrev pub bracket : ℕ → List Update → Tuner → List ℕ → List ℕ → Asked
+bracket n us t os room = ask (refusalOf t 0 (n + 2) 0 (length room) (length os) 0) (behind (updates us))
+
+-- "input path 4, 0 (R820T: 0, 0)"
+abbrev pub pathAsked : PathRead → Kind → Tuner → List ℕ → List ℕ → Asked
+pathAsked path-read.Refused kind t os room = none
+pathAsked (path-read.Is path) R820T t os room = none
+pathAsked (path-read.Is path) R828D t os room = bracket 2 (pathUpdates path) t os room
+
+abbrev pub askedOf : Order → List ℕ → List ℕ → Tuner → Asked
+askedOf Initialize os room t = ask (refusalOf t 0 19 0 (length room) (length os) 0) initSteps
+askedOf Reload os room t = ask (refusalOf t 0 9 0 (length room) (length os) 0) (sendAll (t .chip .attempted))
+askedOf (Bandwidth hz) os room t = bracket 1 (bandwidthUpdates hz) t os room
+askedOf (Middle hz) os room t = bracket 2 (ifUpdates hz) t os room
+askedOf (Gain db) os room t = bracket 5 (gainUpdates (chosenOf db)) t os room
+askedOf (Index k) os room t = bracket 5 (gainUpdates (clamped k)) t os room
+askedOf (Input path) os room t = pathAsked (pathOf path) (t .kind) t os room
+askedOf (Tune hz rs) os room t =
+    ask (refusalOf t (hzRefusal hz (t .ifreq)) 53 35 (length room) (length os) (length rs))
+    (tuneSteps (t .chip .address) (t .kind) (t .notch) (planFor t hz) hz rs)
+askedOf (Quietly q) os room t = none
+
+abbrev pub asked : Call → Tuner → Asked
+asked k t = askedOf (k .order) (k .outcomes) (k .room) t
+
+-- proofs/Ties.antt: they are the ones that the reader finds in the room that the contract hands back
+abbrev pub entries : Call → Tuner → List Entry
+entries k t = callEntries (asked k t .number) (k .outcomes) (asked k t .steps) (t .chip)
+
+-- "the uncut call is the one with the failing step done and all other outcomes and replies equal"
+abbrev pub uncut : ℕ → Call → Call
+uncut i k = call (k .order) (set (k .outcomes) i 0) (k .room)
+
+-- "Per call, the most entries"
+abbrev pub most : Order → ℕ
+most Initialize = 19
+most Reload = 9
+most (Bandwidth hz) = 3
+most (Middle hz) = 4
+most (Gain db) = 7
+most (Index k) = 7
+most (Input path) = 4
+most (Tune hz rs) = 53
+most (Quietly q) = 0
+
+abbrev pub isByte : ℕ → Bool
+isByte b = leb b 255
+
+-- what is asked of a call's numbers: replies are bytes. Nothing else, so that any numbers of the code's types are among them
+abbrev pub given : Order → Bool
+given Initialize = true
+given Reload = true
+given (Bandwidth hz) = true
+given (Middle hz) = true
+given (Gain db) = true
+given (Index k) = true
+given (Input path) = true
+given (Tune hz rs) = every isByte rs
+given (Quietly q) = true
