@@ -37,7 +37,7 @@ refusal-requires : tie.Need-refusal-requires
 refusal-requires c κs = search needs
 
 returns-2 : tie.Need-returns-2
-returns-2 c = path-refused _ (c .before .before .before .before .by .by) (now (c .before .before .before .before .before .before .before .before .before .before .args .outcomes)) (now (c .before .before .before .before .before .before .before .before .before .before .args .replies)) (now (c .before .before .before .before .before .before .before .before .before .before .args .room)) (c .before .before .before .before .before .before .before .before .before .before .args .tuner) _ _ (sym (c .before .before .before .before .before .before .path-of .ensures) ∙ c .before .before .before .before .by .given .1) (c .before .before .sound .ensures) (c .before .refusal .ensures) (c .if1 .taken)
+returns-2 c = path-refused _ (c .before .before .before .before .by .given .0 .0) (now (c .before .before .before .before .before .before .before .before .before .before .args .outcomes)) (now (c .before .before .before .before .before .before .before .before .before .before .args .replies)) (now (c .before .before .before .before .before .before .before .before .before .before .args .room)) (c .before .before .before .before .before .before .before .before .before .before .args .tuner) _ _ (sym (c .before .before .before .before .before .before .path-of .ensures) ∙ c .before .before .before .before .by .given .1) (c .before .before .sound .ensures) (c .before .refusal .ensures) (c .if1 .taken)
 
 path-steps-requires : tie.Need-path-steps-requires
 path-steps-requires c κs = 
@@ -59,7 +59,7 @@ same-length : tie.Need-same-length
 same-length c = search needs
 
 returns-3 : tie.Need-returns-3
-returns-3 c = path-performed _ (c .before .before .before .before .before .before .before .before .before .before .before .before .before .before .by .by) (now (c .before .before .before .before .before .before .before .before .before .before .before .before .before .before .before .before .before .before .before .before .args .outcomes)) (now (c .before .before .before .before .before .before .before .before .before .before .before .before .before .before .before .before .before .before .before .before .args .replies)) (now (c .before .before .before .before .before .before .before .before .before .before .before .before .before .before .before .before .before .before .before .before .args .room)) (c .before .before .before .before .before .before .before .before .before .before .before .before .before .before .before .before .before .before .before .before .args .tuner) _ _ (sym (c .before .before .before .before .before .before .before .before .before .before .before .before .before .before .before .before .path-of .ensures) ∙ c .before .before .before .before .before .before .before .before .before .before .before .before .before .before .by .given .1) (c .before .before .before .before .before .before .before .before .before .before .before .before .sound .ensures) (c .before .before .before .before .before .before .before .before .before .before .before .refusal .ensures) _ (c .before .before .before .before .before .before .before .path-steps .result) _ _ _ (c .before .before .before .before .before .before .before .before .before .before .if1 .left) refl (c .before .before .before .before .before .before .before .path-steps .ensures .0) (c .before .before .before .finish .ensures .1) (c .before .before .before .finish .ensures .0)
+returns-3 c = path-performed _ (c .before .before .before .before .before .before .before .before .before .before .before .before .before .before .by .given .0 .0) (now (c .before .before .before .before .before .before .before .before .before .before .before .before .before .before .before .before .before .before .before .before .args .outcomes)) (now (c .before .before .before .before .before .before .before .before .before .before .before .before .before .before .before .before .before .before .before .before .args .replies)) (now (c .before .before .before .before .before .before .before .before .before .before .before .before .before .before .before .before .before .before .before .before .args .room)) (c .before .before .before .before .before .before .before .before .before .before .before .before .before .before .before .before .before .before .before .before .args .tuner) _ _ (sym (c .before .before .before .before .before .before .before .before .before .before .before .before .before .before .before .before .path-of .ensures) ∙ c .before .before .before .before .before .before .before .before .before .before .before .before .before .before .by .given .1) (c .before .before .before .before .before .before .before .before .before .before .before .before .sound .ensures) (c .before .before .before .before .before .before .before .before .before .before .before .refusal .ensures) _ (c .before .before .before .before .before .before .before .path-steps .result) _ _ _ (c .before .before .before .before .before .before .before .before .before .before .if1 .left) refl (c .before .before .before .before .before .before .before .path-steps .ensures .0) (c .before .before .before .finish .ensures .1) (c .before .before .before .finish .ensures .0)
 
 pub apply-input-path-spec : {M : Type 1} → statement M
 apply-input-path-spec =

@@ -1,14 +1,14 @@
 -- `driver::path_steps` meets its contract: GPIO 5, then the tuner. Assumes nothing.
 use native.Mathlib.Omega.{arith}
-use mathlib.Core.Path.{ap}
+use mathlib.Core.Path.{_≡_, ap}
 use mathlib.Core.List.{_++_}
-use lib.ListN.{getD}
+use lib.ListN.{getD, length}
 use denote.Ref.{now}
-use Rattle.chip.specs.Steps.{inRoom}
+use Rattle.chip.specs.Steps.{due, inRoom}
 use Rattle.device.proofs.Programs.{by-program, then}
 use Rattle.device.specs.Gpio.{bitSteps, outputSteps}
 use Rattle.driver.specs.Programs.{levelFor, tunerPath}
-use Prim.Native.Nat.{ℕ}
+use Prim.Native.Nat.{ℕ, _+_, _*_, _≤_}
 use borrow.Author.Needs.{needs}
 use Rattle.driver.proofs.path_steps.Statement.{statement}
 use Rattle.driver.proofs.path_steps.Tie as tie
@@ -38,7 +38,16 @@ gpio-bit-requires : tie.Need-gpio-bit-requires
 gpio-bit-requires c κs = search needs
 
 tuner-path-requires : tie.Need-tuner-path-requires
-tuner-path-requires c κs = (omega (arith, c .before .before .before .gpio-bit .ensures .1, c .before .before .before .before .before .before .before .before .before .gpio-output .ensures .1), omega (arith, c .before .before .before .gpio-bit .ensures .1, c .before .before .before .before .before .before .before .before .before .gpio-output .ensures .1, c .before .before .before .gpio-bit .kept, c .before .before .before .before .before .before .before .before .before .gpio-output .kept))
+tuner-path-requires c κs = 
+    let a : c .before .before .before .before .before .before .before .before .before .gpio-output .result .count + due (c .before .before .before .before .before .before .before .before .before .gpio-output .result .held) ≤ c .before .before .before .before .before .before .before .before .before .before .before .before .before .before .before .before .args .f .count + 4 + due (c .before .before .before .before .before .before .before .before .before .before .before .before .before .before .before .before .args .f .held) = c .before .before .before .before .before .before .before .before .before .gpio-output .ensures .1 in
+    let b : c .before .before .before .gpio-bit .result .count + due (c .before .before .before .gpio-bit .result .held) ≤ c .before .before .before .before .before .before .before .before .before .gpio-output .result .count + 2 + due (c .before .before .before .before .before .before .before .before .before .gpio-output .result .held) = c .before .before .before .gpio-bit .ensures .1 in
+    let d : length (c .before .before .before .before .before .before .before .before .before .gpio-output .last .1 .1 .1 .1 .1 .0) ≡ length (now (c .before .before .before .before .before .before .before .before .before .before .before .before .before .before .before .before .args .room)) = c .before .before .before .before .before .before .before .before .before .gpio-output .kept .1 .1 .1 .1 .1 .0 in
+    let e : length (c .before .before .before .gpio-bit .last .1 .1 .1 .1 .1 .0) ≡ length (c .before .before .before .before .before .before .before .before .before .gpio-output .last .1 .1 .1 .1 .1 .0) = c .before .before .before .gpio-bit .kept .1 .1 .1 .1 .1 .0 in
+    let p : c .before .before .before .before .before .before .before .before .before .before .before .before .before .before .before .before .args .f .count + 10 + due (c .before .before .before .before .before .before .before .before .before .before .before .before .before .before .before .before .args .f .held) ≤ length (now (c .before .before .before .before .before .before .before .before .before .before .before .before .before .before .before .before .args .outcomes)) = c .before .before .before .before .before .before .before .before .before .before .before .before .before .before .before .before .pre .1 in
+    let q : 16 * (c .before .before .before .before .before .before .before .before .before .before .before .before .before .before .before .before .args .f .count + 10 + due (c .before .before .before .before .before .before .before .before .before .before .before .before .before .before .before .before .args .f .held)) ≤ length (now (c .before .before .before .before .before .before .before .before .before .before .before .before .before .before .before .before .args .room)) = c .before .before .before .before .before .before .before .before .before .before .before .before .before .before .before .before .pre .2 in
+    let one : c .before .before .before .gpio-bit .result .count + 4 + due (c .before .before .before .gpio-bit .result .held) ≤ length (now (c .before .before .before .before .before .before .before .before .before .before .before .before .before .before .before .before .args .outcomes)) = omega arith in
+    let two : 16 * (c .before .before .before .gpio-bit .result .count + 4 + due (c .before .before .before .gpio-bit .result .held)) ≤ length (c .before .before .before .gpio-bit .last .1 .1 .1 .1 .1 .0) = omega arith in
+    (one, two)
 
 same-length : tie.Need-same-length
 same-length c = search needs

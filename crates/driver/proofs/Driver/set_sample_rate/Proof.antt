@@ -7,6 +7,7 @@ use lib.Dec.{leb}
 use lib.ListN.{length}
 use denote.Ref.{now}
 use mir.Facts.{toZ-ofZ}
+use mir.Syntax.{w32}
 use Rattle.chip.specs.Steps.{due}
 use Rattle.driver.specs.Record.{xtalBy}
 use Rattle.driver.proofs.Refusals.{rate-taken, taken-by, xtal-taken}
@@ -40,7 +41,7 @@ refusal-requires : tie.Need-refusal-requires
 refusal-requires c κs = search needs
 
 returns : tie.Need-returns
-returns c = rate-refused (now (c .before .before .before .before .before .before .before .before .args .outcomes)) (now (c .before .before .before .before .before .before .before .before .args .room)) (c .before .before .before .before .before .before .before .before .args .rate) (c .before .before .before .before .before .before .before .before .args .tuner) (c .before .before .before .before .before .before .before .before .args .self) _ _ _ _ (c .before .before .before .sound .ensures) (c .before .before .before .before .xtal-by .ensures ∙ ap (xtalBy (c .before .before .before .before .before .before .before .before .args .self .nominal)) (toZ-ofZ (c .before .before .before .before .before .before .before .before .fits .self .ppm))) (c .before .before .rate-refusal .ensures) (c .before .refusal .ensures) (c .if1 .taken)
+returns c = rate-refused (now (c .before .before .before .before .before .before .before .before .args .outcomes)) (now (c .before .before .before .before .before .before .before .before .args .room)) (c .before .before .before .before .before .before .before .before .args .rate) (c .before .before .before .before .before .before .before .before .args .tuner) (c .before .before .before .before .before .before .before .before .args .self) _ _ _ _ (c .before .before .before .sound .ensures) (c .before .before .before .before .xtal-by .ensures ∙ ap (xtalBy (c .before .before .before .before .before .before .before .before .args .self .nominal)) (toZ-ofZ {w = w32} {z = c .before .before .before .before .before .before .before .before .args .self .ppm} (record { sfits = c .before .before .before .before .before .struct-told .given .1 .1 .0 .1 }))) (c .before .before .rate-refusal .ensures) (c .before .refusal .ensures) (c .if1 .taken)
 
 plan-tuning-requires : tie.Need-plan-tuning-requires
 plan-tuning-requires c κs = search needs
@@ -74,7 +75,7 @@ same-length : tie.Need-same-length
 same-length c = search needs
 
 returns-2 : tie.Need-returns-2
-returns-2 c = rate-performed (now (c .before .before .before .before .before .before .before .before .before .before .before .before .before .before .before .before .before .before .before .before .before .before .args .outcomes)) (now (c .before .before .before .before .before .before .before .before .before .before .before .before .before .before .before .before .before .before .before .before .before .before .args .room)) (c .before .before .before .before .before .before .before .before .before .before .before .before .before .before .before .before .before .before .before .before .before .before .args .rate) (c .before .before .before .before .before .before .before .before .before .before .before .before .before .before .before .before .before .before .before .before .before .before .args .tuner) (c .before .before .before .before .before .before .before .before .before .before .before .before .before .before .before .before .before .before .before .before .before .before .args .self) _ _ _ _ (c .before .before .before .before .before .before .before .before .before .before .before .before .before .before .before .before .before .sound .ensures) (c .before .before .before .before .before .before .before .before .before .before .before .before .before .before .before .before .before .before .xtal-by .ensures ∙ ap (xtalBy (c .before .before .before .before .before .before .before .before .before .before .before .before .before .before .before .before .before .before .before .before .before .before .args .self .nominal)) (toZ-ofZ (c .before .before .before .before .before .before .before .before .before .before .before .before .before .before .before .before .before .before .before .before .before .before .fits .self .ppm))) (c .before .before .before .before .before .before .before .before .before .before .before .before .before .before .before .before .rate-refusal .ensures) (c .before .before .before .before .before .before .before .before .before .before .before .before .before .before .before .refusal .ensures) (c .before .before .before .before .before .before .before .before .before .before .before .before .if-for .result) (c .before .before .before .before .before .before .before .before .before .before .before .before .before .plan-tuning .result) (c .before .before .before .before .before .before .before .before .before .sample-rate-steps .result) _ _ _ _ _ (c .before .before .before .before .before .before .before .before .before .before .before .before .before .before .if1 .left) (c .before .before .before .before .before .before .before .before .before .before .before .before .if-for .ensures) (c .before .before .before .before .before .before .before .before .before .before .before .before .before .plan-tuning .ensures) (c .before .before .before .before .before .before .before .before .before .sample-rate-steps .ensures .0) (c .before .before .before .before .before .finish .ensures .1) (c .before .before .before .before .before .finish .ensures .0) (c .before .retune .ensures) (c .with-rate .ensures)
+returns-2 c = rate-performed (now (c .before .before .before .before .before .before .before .before .before .before .before .before .before .before .before .before .before .before .before .before .before .before .args .outcomes)) (now (c .before .before .before .before .before .before .before .before .before .before .before .before .before .before .before .before .before .before .before .before .before .before .args .room)) (c .before .before .before .before .before .before .before .before .before .before .before .before .before .before .before .before .before .before .before .before .before .before .args .rate) (c .before .before .before .before .before .before .before .before .before .before .before .before .before .before .before .before .before .before .before .before .before .before .args .tuner) (c .before .before .before .before .before .before .before .before .before .before .before .before .before .before .before .before .before .before .before .before .before .before .args .self) _ _ _ _ (c .before .before .before .before .before .before .before .before .before .before .before .before .before .before .before .before .before .sound .ensures) (c .before .before .before .before .before .before .before .before .before .before .before .before .before .before .before .before .before .before .xtal-by .ensures ∙ ap (xtalBy (c .before .before .before .before .before .before .before .before .before .before .before .before .before .before .before .before .before .before .before .before .before .before .args .self .nominal)) (toZ-ofZ {w = w32} {z = c .before .before .before .before .before .before .before .before .before .before .before .before .before .before .before .before .before .before .before .before .before .before .args .self .ppm} (record { sfits = c .before .before .before .before .before .before .before .before .before .before .before .before .before .before .before .before .before .before .before .struct-told .given .1 .1 .0 .1 }))) (c .before .before .before .before .before .before .before .before .before .before .before .before .before .before .before .before .rate-refusal .ensures) (c .before .before .before .before .before .before .before .before .before .before .before .before .before .before .before .refusal .ensures) (c .before .before .before .before .before .before .before .before .before .before .before .before .if-for .result) (c .before .before .before .before .before .before .before .before .before .before .before .before .before .plan-tuning .result) (c .before .before .before .before .before .before .before .before .before .sample-rate-steps .result) _ _ _ _ _ (c .before .before .before .before .before .before .before .before .before .before .before .before .before .before .if1 .left) (c .before .before .before .before .before .before .before .before .before .before .before .before .if-for .ensures) (c .before .before .before .before .before .before .before .before .before .before .before .before .before .plan-tuning .ensures) (c .before .before .before .before .before .before .before .before .before .sample-rate-steps .ensures .0) (c .before .before .before .before .before .finish .ensures .1) (c .before .before .before .before .before .finish .ensures .0) (c .before .retune .ensures) (c .with-rate .ensures)
 
 pub set-sample-rate-spec : {M : Type 1} → statement M
 set-sample-rate-spec =
