@@ -27,10 +27,10 @@ same-length c = search needs
 
 returns : tie.Need-returns
 returns c = (
-      then inRoom _ resetSteps (rateSteps (c .before .before .before .before .before .before .before .before .before .before .before .before .before .before .args .rate) (c .before .before .before .before .before .before .before .before .before .before .before .before .before .before .args .xtal) ++ ifSteps (c .before .before .before .before .before .before .before .before .before .before .before .before .before .before .args .hz) (c .before .before .before .before .before .before .before .before .before .before .before .before .before .before .args .xtal)) _ _ _ (c .before .before .before .before .before .before .before .before .before .before .reset-steps .ensures .0)
-          (then inRoom _ (rateSteps (c .before .before .before .before .before .before .before .before .before .before .before .before .before .before .args .rate) (c .before .before .before .before .before .before .before .before .before .before .before .before .before .before .args .xtal)) (ifSteps (c .before .before .before .before .before .before .before .before .before .before .before .before .before .before .args .hz) (c .before .before .before .before .before .before .before .before .before .before .before .before .before .before .args .xtal)) _ _ _ (c .before .before .before .before .before .before .rate-steps .ensures .0) (c .before .before .if-steps .ensures .0)),
-      omega (arith, c .before .before .before .before .before .before .before .before .before .before .reset-steps .ensures .1, c .before .before .before .before .before .before .rate-steps .ensures .1, c .before .before .if-steps .ensures .1),
-    )
+  then inRoom _ resetSteps (rateSteps (c .before .before .before .before .before .before .before .before .before .before .before .before .before .before .args .rate) (c .before .before .before .before .before .before .before .before .before .before .before .before .before .before .args .xtal) ++ ifSteps (c .before .before .before .before .before .before .before .before .before .before .before .before .before .before .args .hz) (c .before .before .before .before .before .before .before .before .before .before .before .before .before .before .args .xtal)) _ _ _ (c .before .before .before .before .before .before .before .before .before .before .reset-steps .ensures .0)
+      (then inRoom _ (rateSteps (c .before .before .before .before .before .before .before .before .before .before .before .before .before .before .args .rate) (c .before .before .before .before .before .before .before .before .before .before .before .before .before .before .args .xtal)) (ifSteps (c .before .before .before .before .before .before .before .before .before .before .before .before .before .before .args .hz) (c .before .before .before .before .before .before .before .before .before .before .before .before .before .before .args .xtal)) _ _ _ (c .before .before .before .before .before .before .rate-steps .ensures .0) (c .before .before .if-steps .ensures .0)),
+  omega (arith, c .before .before .before .before .before .before .before .before .before .before .reset-steps .ensures .1, c .before .before .before .before .before .before .rate-steps .ensures .1, c .before .before .if-steps .ensures .1),
+)
 
 pub anew-steps-spec : {M : Type 1} → statement M
 anew-steps-spec =

@@ -40,14 +40,14 @@ returns-2 : tie.Need-returns-2
 returns-2 c = path-refused _ (c .before .before .before .before .by .given .0 .0) (now (c .before .before .before .before .before .before .before .before .before .before .args .outcomes)) (now (c .before .before .before .before .before .before .before .before .before .before .args .replies)) (now (c .before .before .before .before .before .before .before .before .before .before .args .room)) (c .before .before .before .before .before .before .before .before .before .before .args .tuner) _ _ (sym (c .before .before .before .before .before .before .path-of .ensures) ∙ c .before .before .before .before .by .given .1) (c .before .before .sound .ensures) (c .before .refusal .ensures) (c .if1 .taken)
 
 path-steps-requires : tie.Need-path-steps-requires
-path-steps-requires c κs = 
+path-steps-requires c κs =
     let z = taken-by (c .before .before .before .before .sound .result) 0 10 3 (length (now (c .before .before .before .before .before .before .before .before .before .before .before .before .args .room))) (length (now (c .before .before .before .before .before .before .before .before .before .before .before .before .args .outcomes))) (length (now (c .before .before .before .before .before .before .before .before .before .before .before .before .args .replies))) (sym (c .before .before .before .refusal .ensures) ∙ c .before .before .if1 .left) in
     let one = z .lent .rooms in
     let two = z .lent .outs in
     (z .lent .back, omega arith, omega arith)
 
 finish-requires : tie.Need-finish-requires
-finish-requires c κs = 
+finish-requires c κs =
     let z = taken-by (c .before .before .before .before .before .before .before .before .sound .result) 0 10 3 (length (now (c .before .before .before .before .before .before .before .before .before .before .before .before .before .before .before .before .args .room))) (length (now (c .before .before .before .before .before .before .before .before .before .before .before .before .before .before .before .before .args .outcomes))) (length (now (c .before .before .before .before .before .before .before .before .before .before .before .before .before .before .before .before .args .replies))) (sym (c .before .before .before .before .before .before .before .refusal .ensures) ∙ c .before .before .before .before .before .before .if1 .left) in
     let one = z .lent .rooms in
     let few : c .before .before .before .path-steps .result .count + due (c .before .before .before .path-steps .result .held) ≤ 0 + 10 + 0 = c .before .before .before .path-steps .ensures .1 in

@@ -32,11 +32,11 @@ same-length c = search needs
 
 returns : tie.Need-returns
 returns c = (
-      then inRoom _ (behind (updates (ifUpdates (c .before .before .before .before .before .before .before .before .before .before .before .before .args .hz)))) (behind (updates (bandwidthUpdates (c .before .before .before .before .before .before .before .before .before .before .before .before .args .rate)))) _ _ _
-          (by-program inRoom _ _ _ _ _ (ap (λ (us : List Update). behind (updates us)) (c .before .before .before .before .before .before .before .before .before .if-updates .ensures .0)) (c .before .before .before .before .before .before .before .with-repeater .ensures .0))
-          (by-program inRoom _ _ _ _ _ (ap (λ (us : List Update). behind (updates us)) (c .before .before .before .before .bandwidth-updates .ensures .0)) (c .before .before .with-repeater2 .ensures .0)),
-      omega (arith, c .before .before .before .before .before .before .before .with-repeater .ensures .1, c .before .before .with-repeater2 .ensures .1),
-    )
+  then inRoom _ (behind (updates (ifUpdates (c .before .before .before .before .before .before .before .before .before .before .before .before .args .hz)))) (behind (updates (bandwidthUpdates (c .before .before .before .before .before .before .before .before .before .before .before .before .args .rate)))) _ _ _
+      (by-program inRoom _ _ _ _ _ (ap (λ (us : List Update). behind (updates us)) (c .before .before .before .before .before .before .before .before .before .if-updates .ensures .0)) (c .before .before .before .before .before .before .before .with-repeater .ensures .0))
+      (by-program inRoom _ _ _ _ _ (ap (λ (us : List Update). behind (updates us)) (c .before .before .before .before .bandwidth-updates .ensures .0)) (c .before .before .with-repeater2 .ensures .0)),
+  omega (arith, c .before .before .before .before .before .before .before .with-repeater .ensures .1, c .before .before .with-repeater2 .ensures .1),
+)
 
 pub filter-steps-spec : {M : Type 1} → statement M
 filter-steps-spec =

@@ -38,7 +38,7 @@ gpio-bit-requires : tie.Need-gpio-bit-requires
 gpio-bit-requires c κs = search needs
 
 tuner-path-requires : tie.Need-tuner-path-requires
-tuner-path-requires c κs = 
+tuner-path-requires c κs =
     let a : c .before .before .before .before .before .before .before .before .before .gpio-output .result .count + due (c .before .before .before .before .before .before .before .before .before .gpio-output .result .held) ≤ c .before .before .before .before .before .before .before .before .before .before .before .before .before .before .before .before .args .f .count + 4 + due (c .before .before .before .before .before .before .before .before .before .before .before .before .before .before .before .before .args .f .held) = c .before .before .before .before .before .before .before .before .before .gpio-output .ensures .1 in
     let b : c .before .before .before .gpio-bit .result .count + due (c .before .before .before .gpio-bit .result .held) ≤ c .before .before .before .before .before .before .before .before .before .gpio-output .result .count + 2 + due (c .before .before .before .before .before .before .before .before .before .gpio-output .result .held) = c .before .before .before .gpio-bit .ensures .1 in
     let d : length (c .before .before .before .before .before .before .before .before .before .gpio-output .last .1 .1 .1 .1 .1 .0) ≡ length (now (c .before .before .before .before .before .before .before .before .before .before .before .before .before .before .before .before .args .room)) = c .before .before .before .before .before .before .before .before .before .gpio-output .kept .1 .1 .1 .1 .1 .0 in
@@ -54,11 +54,11 @@ same-length c = search needs
 
 returns : tie.Need-returns
 returns c = (
-      then inRoom _ (outputSteps 5 (getD (now (c .before .before .before .before .before .before .before .before .before .before .before .before .before .before .before .before .before .before .before .args .replies)) 0 0) (getD (now (c .before .before .before .before .before .before .before .before .before .before .before .before .before .before .before .before .before .before .before .args .replies)) 1 0)) (bitSteps 5 (levelFor (c .before .before .before .before .before .before .before .before .before .before .before .before .before .before .before .before .before .before .before .args .path)) (getD (now (c .before .before .before .before .before .before .before .before .before .before .before .before .before .before .before .before .before .before .before .args .replies)) 2 0) ++ tunerPath (c .before .before .before .before .before .before .before .before .before .before .before .before .before .before .before .before .before .before .before .args .kind) (c .before .before .before .before .before .before .before .before .before .before .before .before .before .before .before .before .before .before .before .args .path)) _ _ _ (c .before .before .before .before .before .before .before .before .before .before .before .before .gpio-output .ensures .0)
-          (then inRoom _ (bitSteps 5 (levelFor (c .before .before .before .before .before .before .before .before .before .before .before .before .before .before .before .before .before .before .before .args .path)) (getD (now (c .before .before .before .before .before .before .before .before .before .before .before .before .before .before .before .before .before .before .before .args .replies)) 2 0)) (tunerPath (c .before .before .before .before .before .before .before .before .before .before .before .before .before .before .before .before .before .before .before .args .kind) (c .before .before .before .before .before .before .before .before .before .before .before .before .before .before .before .before .before .before .before .args .path)) _ _ _
-          (by-program inRoom _ _ _ _ _ (ap (λ (x : ℕ). bitSteps 5 x (getD (now (c .before .before .before .before .before .before .before .before .before .before .before .before .before .before .before .before .before .before .before .args .replies)) 2 0)) (c .before .before .before .before .before .before .before .before .before .level .ensures)) (c .before .before .before .before .before .before .gpio-bit .ensures .0)) (c .before .before .tuner-path .ensures .0)),
-      omega (arith, c .before .before .before .before .before .before .before .before .before .before .before .before .gpio-output .ensures .1, c .before .before .before .before .before .before .gpio-bit .ensures .1, c .before .before .tuner-path .ensures .1),
-    )
+  then inRoom _ (outputSteps 5 (getD (now (c .before .before .before .before .before .before .before .before .before .before .before .before .before .before .before .before .before .before .before .args .replies)) 0 0) (getD (now (c .before .before .before .before .before .before .before .before .before .before .before .before .before .before .before .before .before .before .before .args .replies)) 1 0)) (bitSteps 5 (levelFor (c .before .before .before .before .before .before .before .before .before .before .before .before .before .before .before .before .before .before .before .args .path)) (getD (now (c .before .before .before .before .before .before .before .before .before .before .before .before .before .before .before .before .before .before .before .args .replies)) 2 0) ++ tunerPath (c .before .before .before .before .before .before .before .before .before .before .before .before .before .before .before .before .before .before .before .args .kind) (c .before .before .before .before .before .before .before .before .before .before .before .before .before .before .before .before .before .before .before .args .path)) _ _ _ (c .before .before .before .before .before .before .before .before .before .before .before .before .gpio-output .ensures .0)
+      (then inRoom _ (bitSteps 5 (levelFor (c .before .before .before .before .before .before .before .before .before .before .before .before .before .before .before .before .before .before .before .args .path)) (getD (now (c .before .before .before .before .before .before .before .before .before .before .before .before .before .before .before .before .before .before .before .args .replies)) 2 0)) (tunerPath (c .before .before .before .before .before .before .before .before .before .before .before .before .before .before .before .before .before .before .before .args .kind) (c .before .before .before .before .before .before .before .before .before .before .before .before .before .before .before .before .before .before .before .args .path)) _ _ _
+      (by-program inRoom _ _ _ _ _ (ap (λ (x : ℕ). bitSteps 5 x (getD (now (c .before .before .before .before .before .before .before .before .before .before .before .before .before .before .before .before .before .before .before .args .replies)) 2 0)) (c .before .before .before .before .before .before .before .before .before .level .ensures)) (c .before .before .before .before .before .before .gpio-bit .ensures .0)) (c .before .before .tuner-path .ensures .0)),
+  omega (arith, c .before .before .before .before .before .before .before .before .before .before .before .before .gpio-output .ensures .1, c .before .before .before .before .before .before .gpio-bit .ensures .1, c .before .before .tuner-path .ensures .1),
+)
 
 pub path-steps-spec : {M : Type 1} → statement M
 path-steps-spec =

@@ -28,10 +28,10 @@ same-length c = search needs
 
 returns : tie.Need-returns
 returns c = (
-      then inRoom _ (filterSteps (c .before .before .before .before .before .before .before .before .before .before .before .before .before .before .args .hz) (c .before .before .before .before .before .before .before .before .before .before .before .before .before .before .args .rate)) (anewSteps (c .before .before .before .before .before .before .before .before .before .before .before .before .before .before .args .hz) (c .before .before .before .before .before .before .before .before .before .before .before .before .before .before .args .rate) (c .before .before .before .before .before .before .before .before .before .before .before .before .before .before .args .xtal) ++ ddcSteps (c .before .before .before .before .before .before .before .before .before .before .before .before .before .before .args .inverted)) _ _ _ (c .before .before .before .before .before .before .before .before .before .before .filter-steps .ensures .0)
-          (then inRoom _ (anewSteps (c .before .before .before .before .before .before .before .before .before .before .before .before .before .before .args .hz) (c .before .before .before .before .before .before .before .before .before .before .before .before .before .before .args .rate) (c .before .before .before .before .before .before .before .before .before .before .before .before .before .before .args .xtal)) (ddcSteps (c .before .before .before .before .before .before .before .before .before .before .before .before .before .before .args .inverted)) _ _ _ (c .before .before .before .before .before .before .anew-steps .ensures .0) (c .before .before .ddc .ensures .0)),
-      omega (arith, c .before .before .before .before .before .before .before .before .before .before .filter-steps .ensures .1, c .before .before .before .before .before .before .anew-steps .ensures .1, c .before .before .ddc .ensures .1),
-    )
+  then inRoom _ (filterSteps (c .before .before .before .before .before .before .before .before .before .before .before .before .before .before .args .hz) (c .before .before .before .before .before .before .before .before .before .before .before .before .before .before .args .rate)) (anewSteps (c .before .before .before .before .before .before .before .before .before .before .before .before .before .before .args .hz) (c .before .before .before .before .before .before .before .before .before .before .before .before .before .before .args .rate) (c .before .before .before .before .before .before .before .before .before .before .before .before .before .before .args .xtal) ++ ddcSteps (c .before .before .before .before .before .before .before .before .before .before .before .before .before .before .args .inverted)) _ _ _ (c .before .before .before .before .before .before .before .before .before .before .filter-steps .ensures .0)
+      (then inRoom _ (anewSteps (c .before .before .before .before .before .before .before .before .before .before .before .before .before .before .args .hz) (c .before .before .before .before .before .before .before .before .before .before .before .before .before .before .args .rate) (c .before .before .before .before .before .before .before .before .before .before .before .before .before .before .args .xtal)) (ddcSteps (c .before .before .before .before .before .before .before .before .before .before .before .before .before .before .args .inverted)) _ _ _ (c .before .before .before .before .before .before .anew-steps .ensures .0) (c .before .before .ddc .ensures .0)),
+  omega (arith, c .before .before .before .before .before .before .before .before .before .before .filter-steps .ensures .1, c .before .before .before .before .before .before .anew-steps .ensures .1, c .before .before .ddc .ensures .1),
+)
 
 pub sample-rate-steps-spec : {M : Type 1} → statement M
 sample-rate-steps-spec =

@@ -50,14 +50,14 @@ if-for-requires : tie.Need-if-for-requires
 if-for-requires c κs = search needs
 
 sample-rate-steps-requires : tie.Need-sample-rate-steps-requires
-sample-rate-steps-requires c κs = 
+sample-rate-steps-requires c κs =
     let z = taken-by (c .before .before .before .before .before .before .before .sound .result && leb 1 (c .before .before .before .before .before .before .before .before .xtal-by .result)) (c .before .before .before .before .before .before .rate-refusal .result) 17 0 (length (now (c .before .before .before .before .before .before .before .before .before .before .before .before .args .room))) (length (now (c .before .before .before .before .before .before .before .before .before .before .before .before .args .outcomes))) 0 (sym (c .before .before .before .before .before .refusal .ensures) ∙ c .before .before .before .before .if1 .left) in
     let one = z .lent .rooms in
     let two = z .lent .outs in
-    (rate-taken _ _ (c .before .before .before .before .before .before .rate-refusal .ensures) (z .taken), xtal-taken _ _ (z .sure), omega arith, omega arith)
+    (rate-taken _ _ (c .before .before .before .before .before .before .rate-refusal .ensures) (z .taken), xtal-taken (c .before .before .before .before .before .before .before .sound .result) (c .before .before .before .before .before .before .before .before .xtal-by .result) (z .sure), omega arith, omega arith)
 
 finish-requires : tie.Need-finish-requires
-finish-requires c κs = 
+finish-requires c κs =
     let z = taken-by (c .before .before .before .before .before .before .before .before .before .before .before .sound .result && leb 1 (c .before .before .before .before .before .before .before .before .before .before .before .before .xtal-by .result)) (c .before .before .before .before .before .before .before .before .before .before .rate-refusal .result) 17 0 (length (now (c .before .before .before .before .before .before .before .before .before .before .before .before .before .before .before .before .args .room))) (length (now (c .before .before .before .before .before .before .before .before .before .before .before .before .before .before .before .before .args .outcomes))) 0 (sym (c .before .before .before .before .before .before .before .before .before .refusal .ensures) ∙ c .before .before .before .before .before .before .before .before .if1 .left) in
     let one = z .lent .rooms in
     let few : c .before .before .before .sample-rate-steps .result .count + due (c .before .before .before .sample-rate-steps .result .held) ≤ 0 + 17 = c .before .before .before .sample-rate-steps .ensures .1 in
