@@ -78,6 +78,10 @@ asideEntriesOf a os = callEntries (a .number) os (a .steps) noChip
 abbrev pub asideEntries : Aside → List Entry
 asideEntries a = asideEntriesOf (asideAsked (a .other) (a .outcomes) (a .room)) (a .outcomes)
 
+-- "the uncut call is the one with the failing step done and all other outcomes and replies equal"
+abbrev pub asideUncut : ℕ → Aside → Aside
+asideUncut i a = aside (a .other) (set (a .outcomes) i 0) (a .room)
+
 -- "baseband 45, 0", "GPIO direction 4, 2; GPIO bit 2, 1"; "Other `src/demod.rs` calls need as many entries as they make interface calls"
 abbrev pub asideMost : Other → ℕ
 asideMost (Output pin rs) = 4
