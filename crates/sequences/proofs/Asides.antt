@@ -25,7 +25,7 @@ use Rattle.history.specs.Histories.History.{aside}
 use Rattle.history.proofs.Calls.{lent-room}
 use Rattle.sequences.specs.Calls.{Asked, ask}
 use Rattle.sequences.specs.Asides.{Aside, Other, asideAsked, asideEntries, asideEntriesOf, asideGiven, asideMost, asideResult, asideUncut}
-use Rattle.sequences.specs.Asides.Other.{Output, Bit, Baseband, LowIf, ZeroIf, Reset, Direct, Start, Stop, Offset, Ratio}
+use Rattle.sequences.specs.Asides.Other.{Output, Bit, Baseband, LowIf, ZeroIf, Reset, Direct, Start, Stop, IfXtal, RateXtal}
 use Rattle.sequences.proofs.Beside.{beside-bit, beside-direct, beside-if, beside-init, beside-low, beside-output, beside-rate, beside-reset, beside-start, beside-stop, beside-zero, fines}
 use Rattle.sequences.proofs.Views.{Stepping}
 
@@ -43,8 +43,8 @@ aside-beside (Direct page register value) os room g =
     (leb-true register 65535 (and-right (leb page 255) (leb register 65535) g))
 aside-beside Start os room g = beside-start
 aside-beside Stop os room g = beside-stop
-aside-beside (Offset hz xtal) os room g = beside-if hz xtal
-aside-beside (Ratio rate xtal) os room g = beside-rate rate xtal
+aside-beside (IfXtal hz xtal) os room g = beside-if hz xtal
+aside-beside (RateXtal rate xtal) os room g = beside-rate rate xtal
 
 -- "Other `src/demod.rs` calls need as many entries as they make interface calls"
 pub aside-length : (o : Other) (os room : List ℕ) → length (asideAsked o os room .steps) ≡ asideMost o
@@ -57,8 +57,8 @@ aside-length Reset os room = reset-length
 aside-length (Direct page register value) os room = direct-length page register value
 aside-length Start os room = start-length
 aside-length Stop os room = stop-length
-aside-length (Offset hz xtal) os room = if-length hz xtal
-aside-length (Ratio rate xtal) os room = rate-length rate xtal
+aside-length (IfXtal hz xtal) os room = if-length hz xtal
+aside-length (RateXtal rate xtal) os room = rate-length rate xtal
 
 few : (o : Other) → asideMost o ≤ 45
 few (Output pin rs) = omega arith
@@ -70,8 +70,8 @@ few Reset = omega arith
 few (Direct page register value) = omega arith
 few Start = omega arith
 few Stop = omega arith
-few (Offset hz xtal) = omega arith
-few (Ratio rate xtal) = omega arith
+few (IfXtal hz xtal) = omega arith
+few (RateXtal rate xtal) = omega arith
 
 -- ---- their contracts
 
@@ -86,8 +86,8 @@ aside-free Reset os room = refl
 aside-free (Direct page register value) os room = refl
 aside-free Start os room = refl
 aside-free Stop os room = refl
-aside-free (Offset hz xtal) os room = refl
-aside-free (Ratio rate xtal) os room = refl
+aside-free (IfXtal hz xtal) os room = refl
+aside-free (RateXtal rate xtal) os room = refl
 
 -- a number that comes before another: where neither refuses, the other does not
 then-zero : (b : Bool) (a k : ℕ) → 0 < a → pickN b a k ≡ 0 → k ≡ 0
@@ -106,9 +106,9 @@ aside-room Reset os room e = lent-room 2 0 (length room) (length os) 0 e
 aside-room (Direct page register value) os room e = lent-room 1 0 (length room) (length os) 0 e
 aside-room Start os room e = lent-room 2 0 (length room) (length os) 0 e
 aside-room Stop os room e = lent-room 2 0 (length room) (length os) 0 e
-aside-room (Offset hz xtal) os room e =
+aside-room (IfXtal hz xtal) os room e =
     lent-room 3 0 (length room) (length os) 0 (then-zero (eqb xtal 0) 4 (lentOf 3 0 (length room) (length os) 0) (omega arith) e)
-aside-room (Ratio rate xtal) os room e =
+aside-room (RateXtal rate xtal) os room e =
     lent-room 4 0 (length room) (length os) 0
     (then-zero (eqb xtal 0) 4 (lentOf 4 0 (length room) (length os) 0) (omega arith)
     (then-zero (eqb rate 0) 3 (pickN (eqb xtal 0) 4 (lentOf 4 0 (length room) (length os) 0)) (omega arith) e))
@@ -137,8 +137,8 @@ aside-same Reset os ps room e = rw e
 aside-same (Direct page register value) os ps room e = rw e
 aside-same Start os ps room e = rw e
 aside-same Stop os ps room e = rw e
-aside-same (Offset hz xtal) os ps room e = rw e
-aside-same (Ratio rate xtal) os ps room e = rw e
+aside-same (IfXtal hz xtal) os ps room e = rw e
+aside-same (RateXtal rate xtal) os ps room e = rw e
 
 pub aside-uncut : (i : ℕ) (a : Aside) → asideEntriesOf (asideAsked (a .other) (a .outcomes) (a .room)) (set (a .outcomes) i 0) ≡ asideEntries (asideUncut i a)
 aside-uncut i a =

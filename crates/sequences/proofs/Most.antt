@@ -28,7 +28,7 @@ use Rattle.r82xx.specs.Record.{freshTuner}
 use Rattle.r82xx.specs.Calls.{planFor}
 use Rattle.history.specs.Histories.{callEntries}
 use Rattle.sequences.specs.Calls.{Call, Order, askedOf, call, entries, most, pathAsked}
-use Rattle.sequences.specs.Calls.Order.{Initialize, Reload, Bandwidth, Middle, Gain, Index, Input, Tune, Quietly}
+use Rattle.sequences.specs.Calls.Order.{Initialize, Reload, Bandwidth, IfFreq, Gain, GainIndex, InputPath, Tune, Quietly}
 use Rattle.sequences.specs.Asides.{Aside, asideAsked, asideEntries, asideMost}
 use Rattle.device.specs.Calls.{noChip}
 use Rattle.sequences.proofs.Programs.{path-length, tune-length}
@@ -44,10 +44,10 @@ most-steps : (o : Order) (os room : List ℕ) (t : Tuner) → length (askedOf o 
 most-steps Initialize os room t = omega arith
 most-steps Reload os room t = omega arith
 most-steps (Bandwidth hz) os room t = omega arith
-most-steps (Middle hz) os room t = omega arith
+most-steps (IfFreq hz) os room t = omega arith
 most-steps (Gain db) os room t = omega arith
-most-steps (Index k) os room t = omega arith
-most-steps (Input path) os room t = path-most (pathOf path) (t .kind) t os room
+most-steps (GainIndex k) os room t = omega arith
+most-steps (InputPath path) os room t = path-most (pathOf path) (t .kind) t os room
 most-steps (Tune hz rs) os room t = tune-length (t .chip .address) (t .kind) (t .notch) (planFor t hz) hz rs
 most-steps (Quietly q) os room t = omega arith
 
@@ -62,7 +62,7 @@ most-aside a =
     (omega (arith, aside-length (a .other) (a .outcomes) (a .room)))
 
 -- "(R820T: 0, 0)": whatever the path's number and whatever is lent
-pub most-plain : (path : ℕ) (os room : List ℕ) (t : Tuner) → t .kind ≡ R820T → entries (call (Input path) os room) t ≡ []
+pub most-plain : (path : ℕ) (os room : List ℕ) (t : Tuner) → t .kind ≡ R820T → entries (call (InputPath path) os room) t ≡ []
 most-plain path os room t h = go (pathOf path) (t .kind) h
   where
     go : (p : PathRead) (kind : Kind) → kind ≡ R820T → callEntries (pathAsked p kind t os room .number) os (pathAsked p kind t os room .steps) (t .chip) ≡ []
@@ -90,7 +90,7 @@ pub bandwidth-reached : length (entries (lent (Bandwidth 2_048_000)) fresh) ≡ 
 unfolding trace run step lentOf
 bandwidth-reached = refl
 
-pub if-reached : length (entries (lent (Middle 3_570_000)) fresh) ≡ most (Middle 3_570_000)
+pub if-reached : length (entries (lent (IfFreq 3_570_000)) fresh) ≡ most (IfFreq 3_570_000)
 unfolding trace run step lentOf
 if-reached = refl
 
@@ -98,11 +98,11 @@ pub gain-reached : length (entries (lent (Gain (ofBits binary32 0))) fresh) ≡ 
 unfolding trace run step lentOf
 gain-reached = refl
 
-pub index-reached : length (entries (lent (Index 28)) fresh) ≡ most (Index 28)
+pub index-reached : length (entries (lent (GainIndex 28)) fresh) ≡ most (GainIndex 28)
 unfolding trace run step lentOf
 index-reached = refl
 
-pub path-reached : length (entries (lent (Input 0)) fresh) ≡ most (Input 0)
+pub path-reached : length (entries (lent (InputPath 0)) fresh) ≡ most (InputPath 0)
 unfolding trace run step lentOf
 path-reached = refl
 

@@ -28,7 +28,7 @@ use Rattle.history.specs.Histories.History.{still}
 use Rattle.history.proofs.Fitted.{most-trace}
 use Rattle.history.proofs.Calls.{call-count, call-cut, call-history, call-index, call-performed, call-read, call-refused}
 use Rattle.sequences.specs.Calls.{Asked, Call, Order, asked, askedOf, entries, none, pathAsked, result, uncut}
-use Rattle.sequences.specs.Calls.Order.{Initialize, Reload, Bandwidth, Middle, Gain, Index, Input, Tune, Quietly}
+use Rattle.sequences.specs.Calls.Order.{Initialize, Reload, Bandwidth, IfFreq, Gain, GainIndex, InputPath, Tune, Quietly}
 use Rattle.sequences.proofs.Views.{Moving, Silent, Stepping, View}
 use Rattle.sequences.proofs.Views.View.{moving, silent}
 
@@ -124,10 +124,10 @@ same-asked : (o : Order) (os ps room : List ℕ) (t : Tuner) → length ps ≡ l
 same-asked Initialize os ps room t e = rw e
 same-asked Reload os ps room t e = rw e
 same-asked (Bandwidth hz) os ps room t e = rw e
-same-asked (Middle hz) os ps room t e = rw e
+same-asked (IfFreq hz) os ps room t e = rw e
 same-asked (Gain db) os ps room t e = rw e
-same-asked (Index k) os ps room t e = rw e
-same-asked (Input path) os ps room t e = path-same (pathOf path) (t .kind) t os ps room e
+same-asked (GainIndex k) os ps room t e = rw e
+same-asked (InputPath path) os ps room t e = path-same (pathOf path) (t .kind) t os ps room e
 same-asked (Tune hz rs) os ps room t e = rw e
 same-asked (Quietly q) os ps room t e = refl
 

@@ -44,8 +44,8 @@ use Rattle.history.specs.Programs.{fine}
 use Rattle.history.specs.Histories.{Alike, stops}
 use Rattle.history.proofs.Fine.{fine-reload}
 use Rattle.sequences.specs.Calls.{Asked, Order, Quiet, ask, askedOf, bracket, given, none, pathAsked, quietResult, resultOf}
-use Rattle.sequences.specs.Calls.Order.{Initialize, Reload, Bandwidth, Middle, Gain, Index, Input, Tune, Quietly}
-use Rattle.sequences.specs.Calls.Quiet.{Shadow, Ppm, Notch, GainTold, MiddleTold, TableTold}
+use Rattle.sequences.specs.Calls.Order.{Initialize, Reload, Bandwidth, IfFreq, Gain, GainIndex, InputPath, Tune, Quietly}
+use Rattle.sequences.specs.Calls.Quiet.{Shadow, Ppm, Notch, GainTold, IfTold, TableTold}
 use Rattle.sequences.proofs.Programs.{bandwidth-in, fine-bracket, fine-init, fine-tune, gain-in, if-in, path-in, path-length, tune-length}
 
 pub record Stepping (R : Type 0) (c : Chip) (old : R) (x : Called R) (a : Asked) (os room : List ℕ) : Type 0 where
@@ -223,7 +223,7 @@ quiet-silent (Notch on) t =
     record { nothing = refl; count = refl; named = sound-named (t .nominal) (t .corrected) 0; alike = as-it-was (t .chip) }
 quiet-silent GainTold t =
     kept-silent t [] (soundAnswer (t .nominal) (t .corrected) (toBits binary32 (t .gain))) (sound-named (t .nominal) (t .corrected) (toBits binary32 (t .gain)))
-quiet-silent MiddleTold t =
+quiet-silent IfTold t =
     kept-silent t [] (soundAnswer (t .nominal) (t .corrected) (t .ifreq)) (sound-named (t .nominal) (t .corrected) (t .ifreq))
 quiet-silent TableTold t = kept-silent t [] (tableOf (t .nominal) (t .corrected) .answer) (table-named (t .nominal) (t .corrected))
 
@@ -250,10 +250,10 @@ view Initialize os room t g small = moving (init-view t os room)
 view Reload os room t g small = moving (reload-view t os room)
 view (Bandwidth hz) os room t g small =
     moving (bracket-view t os room t t (Done 0) (bandwidthUpdates hz) 1 refl (bandwidth-in hz) refl (omega arith))
-view (Middle hz) os room t g small =
+view (IfFreq hz) os room t g small =
     moving (bracket-view t os room (withIf t hz) (withIf t hz) (Done 0) (ifUpdates hz) 2 refl (if-in hz) refl (omega arith))
 view (Gain db) os room t g small = moving (step-view (chosenOf db) os room t)
-view (Index k) os room t g small = moving (step-view (clamped k) os room t)
-view (Input path) os room t g small = path-view (pathOf path) (t .kind) os room t
+view (GainIndex k) os room t g small = moving (step-view (clamped k) os room t)
+view (InputPath path) os room t g small = path-view (pathOf path) (t .kind) os room t
 view (Tune hz rs) os room t g small = moving (tune-view t os room hz rs g small)
 view (Quietly q) os room t g small = silent (quiet-silent q t)

@@ -33,7 +33,7 @@ pub data Quiet : Type 0 where
   Ppm : (ppm : ℤ) → Quiet
   Notch : (on : Bool) → Quiet
   GainTold : Quiet
-  MiddleTold : Quiet
+  IfTold : Quiet
   TableTold : Quiet
 
 -- what is called, with its arguments; rs are a tuning's replies
@@ -41,10 +41,10 @@ pub data Order : Type 0 where
   Initialize : Order
   Reload : Order
   Bandwidth : (hz : ℕ) → Order
-  Middle : (hz : ℕ) → Order
+  IfFreq : (hz : ℕ) → Order
   Gain : (db : Float) → Order
-  Index : (k : ℕ) → Order
-  Input : (path : ℕ) → Order
+  GainIndex : (k : ℕ) → Order
+  InputPath : (path : ℕ) → Order
   Tune : (hz : ℕ) (rs : List ℕ) → Order
   Quietly : (q : Quiet) → Order
 
@@ -66,17 +66,17 @@ quietResult (Ppm ppm) t =
 quietResult (Notch on) t =
     called (withNotch t (keptNotch (t .nominal) (t .corrected) (t .notch) on)) [] 0 (soundAnswer (t .nominal) (t .corrected) 0)
 quietResult GainTold t = called t [] 0 (soundAnswer (t .nominal) (t .corrected) (toBits binary32 (t .gain)))
-quietResult MiddleTold t = called t [] 0 (soundAnswer (t .nominal) (t .corrected) (t .ifreq))
+quietResult IfTold t = called t [] 0 (soundAnswer (t .nominal) (t .corrected) (t .ifreq))
 quietResult TableTold t = called t [] 0 (tableOf (t .nominal) (t .corrected) .answer)
 
 abbrev pub resultOf : Order → List ℕ → List ℕ → Tuner → Called Tuner
 resultOf Initialize os room t = initCall os t room
 resultOf Reload os room t = reloadCall os t room
 resultOf (Bandwidth hz) os room t = bandwidthCall os hz t room
-resultOf (Middle hz) os room t = ifCall os hz t room
+resultOf (IfFreq hz) os room t = ifCall os hz t room
 resultOf (Gain db) os room t = gainCall os db t room
-resultOf (Index k) os room t = indexCall os k t room
-resultOf (Input path) os room t = pathCall os path t room
+resultOf (GainIndex k) os room t = indexCall os k t room
+resultOf (InputPath path) os room t = pathCall os path t room
 resultOf (Tune hz rs) os room t = tuneCall os rs hz t room
 resultOf (Quietly q) os room t = quietResult q t
 
@@ -115,10 +115,10 @@ abbrev pub askedOf : Order → List ℕ → List ℕ → Tuner → Asked
 askedOf Initialize os room t = ask (refusalOf t 0 19 0 (length room) (length os) 0) initSteps
 askedOf Reload os room t = ask (refusalOf t 0 9 0 (length room) (length os) 0) (sendAll (t .chip .attempted))
 askedOf (Bandwidth hz) os room t = bracket 1 (bandwidthUpdates hz) t os room
-askedOf (Middle hz) os room t = bracket 2 (ifUpdates hz) t os room
+askedOf (IfFreq hz) os room t = bracket 2 (ifUpdates hz) t os room
 askedOf (Gain db) os room t = bracket 5 (gainUpdates (chosenOf db)) t os room
-askedOf (Index k) os room t = bracket 5 (gainUpdates (clamped k)) t os room
-askedOf (Input path) os room t = pathAsked (pathOf path) (t .kind) t os room
+askedOf (GainIndex k) os room t = bracket 5 (gainUpdates (clamped k)) t os room
+askedOf (InputPath path) os room t = pathAsked (pathOf path) (t .kind) t os room
 askedOf (Tune hz rs) os room t =
     ask (refusalOf t (hzRefusal hz (t .ifreq)) 53 35 (length room) (length os) (length rs))
     (tuneSteps (t .chip .address) (t .kind) (t .notch) (planFor t hz) hz rs)
@@ -140,10 +140,10 @@ abbrev pub most : Order → ℕ
 most Initialize = 19
 most Reload = 9
 most (Bandwidth hz) = 3
-most (Middle hz) = 4
+most (IfFreq hz) = 4
 most (Gain db) = 7
-most (Index k) = 7
-most (Input path) = 4
+most (GainIndex k) = 7
+most (InputPath path) = 4
 most (Tune hz rs) = 53
 most (Quietly q) = 0
 
@@ -155,9 +155,9 @@ abbrev pub given : Order → Bool
 given Initialize = true
 given Reload = true
 given (Bandwidth hz) = true
-given (Middle hz) = true
+given (IfFreq hz) = true
 given (Gain db) = true
-given (Index k) = true
-given (Input path) = true
+given (GainIndex k) = true
+given (InputPath path) = true
 given (Tune hz rs) = every isByte rs
 given (Quietly q) = true
