@@ -1,9 +1,9 @@
 -- The calls that touch no tuner record: they attempt no register, so that they may stand anywhere in a sequence; and their entries are told, read and
 -- cut as the others' are. Assumes nothing.
 use Prim.Native.Nat.{ℕ, _+_, _*_, _≤_, _<_}
-use mathlib.Core.Path.{_≡_, refl, sym, ap, subst, _∙_}
-use mathlib.Core.Bool.{Bool, true, false, _&&_}
-use mathlib.Core.List.{List, [], _∷_, _++_, append-nil}
+use mathlib.Core.Path.{_≡_, refl, sym, ap}
+use mathlib.Core.Bool.{Bool, true, false}
+use mathlib.Core.List.{List, _++_, append-nil}
 use native.Mathlib.Omega.{arith}
 use borrow.Author.Tests.{leb-true}
 use lib.Dec.{eqb, leb, ltb}
@@ -23,7 +23,7 @@ use Rattle.history.specs.Programs.{beside}
 use Rattle.history.specs.Histories.{History, callEntries}
 use Rattle.history.specs.Histories.History.{aside}
 use Rattle.history.proofs.Calls.{lent-room}
-use Rattle.sequences.specs.Calls.{Asked, ask}
+use Rattle.sequences.specs.Calls.{Asked}
 use Rattle.sequences.specs.Asides.{Aside, Other, asideAsked, asideEntries, asideEntriesOf, asideGiven, asideMost, asideResult, asideUncut}
 use Rattle.sequences.specs.Asides.Other.{Output, Bit, Baseband, LowIf, ZeroIf, Reset, Direct, Start, Stop, IfXtal, RateXtal}
 use Rattle.sequences.proofs.Beside.{beside-bit, beside-direct, beside-if, beside-init, beside-low, beside-output, beside-rate, beside-reset, beside-start, beside-stop, beside-zero, fines}

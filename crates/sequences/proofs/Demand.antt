@@ -13,7 +13,7 @@ use mathlib.Core.List.{List, [], _++_}
 use mathlib.Core.Logic.{_↔_}
 use native.Mathlib.Omega.{arith}
 use lib.Dec.{eqb, leb}
-use lib.ListN.{getD, length, replicate, take}
+use lib.ListN.{getD, length, take}
 use Rattle.transcript.specs.declared.Entry.{Entry}
 use Rattle.transcript.specs.Sections.{AllFit, Parted}
 use Rattle.attempts.specs.Attempts.{Played, Regs, byteIn, doubtIn, lastIn}
@@ -25,16 +25,15 @@ use Rattle.chip.specs.declared.Chip.{Chip}
 use Rattle.chip.specs.declared.Went.{Went}
 use Rattle.chip.specs.declared.Went.the-variants.{Going, Failed}
 use Rattle.chip.specs.Calls.{Called, answerOf}
-use Rattle.chip.specs.Steps.{Step, Trace, trace}
+use Rattle.chip.specs.Steps.{Trace, trace}
 use Rattle.device.specs.Calls.{noChip}
 use Rattle.writes.specs.Lists.{initArray}
 use Rattle.writes.specs.Programs.{sendAll}
-use Rattle.r82xx.specs.declared.Made.{Made}
 use Rattle.r82xx.specs.declared.Tuner.{Tuner}
-use Rattle.r82xx.specs.Record.{freshChip, freshTuner, madeOf, pick, reloaded, withChip}
+use Rattle.r82xx.specs.Record.{freshChip, madeOf, reloaded, withChip}
 use Rattle.r82xx.specs.Calls.{refusalOf, reloadCall}
 use Rattle.history.specs.Programs.{shadowBy}
-use Rattle.history.specs.Histories.{Cut, Fresh, History, Restored, callEntries, wentIn}
+use Rattle.history.specs.Histories.{Cut, Fresh, History, Restored, wentIn}
 use Rattle.history.specs.Histories.History.{made}
 use Rattle.history.proofs.Calls.{call-performed, call-refused}
 use Rattle.history.proofs.Demand as demand

@@ -2,8 +2,7 @@
 -- Assumes nothing.
 use Prim.Native.Nat.{ℕ, _+_, _*_, _≤_}
 use mathlib.Core.Path.{_≡_, refl}
-use mathlib.Core.Bool.{Bool, true}
-use mathlib.Core.List.{List, [], _∷_}
+use mathlib.Core.List.{List, []}
 use native.Mathlib.Omega.{arith}
 use lib.Ieee.{binary32, ofBits}
 use lib.ListN.{length, replicate}
@@ -12,8 +11,6 @@ use Rattle.board.specs.declared.PathRead.the-variants as path-read
 use Rattle.board.specs.Numbers.{pathOf}
 use Rattle.chip.specs.Calls.{lentOf}
 use Rattle.chip.specs.Steps.{run, step, trace}
-use Rattle.gain.specs.Product.{tenthsOf}
-use Rattle.gain.specs.Steps.{chosenOf, nearestIn, nearestOf}
 use Rattle.pll.specs.declared.Kind.{Kind}
 use Rattle.pll.specs.declared.Kind.the-variants.{R820T, R828D}
 use Rattle.pll.specs.Divide.{firstOf, inVco}

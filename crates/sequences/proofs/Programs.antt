@@ -1,19 +1,19 @@
 -- The programs of the calls: every step of them passes crate `history`'s test, and how many steps they have. Assumes nothing.
 use Prim.Native.Nat.{ℕ, zero, suc, _+_, _-_, _*_, _≤_}
-use mathlib.Core.Path.{_≡_, refl, ap, _∙_}
-use mathlib.Core.Bool.{Bool, true, false, _&&_}
+use mathlib.Core.Path.{_≡_, refl}
+use mathlib.Core.Bool.{Bool, true, false}
 use mathlib.Core.List.{List, [], _∷_, _++_}
 use native.Mathlib.Omega.{arith}
 use borrow.Author.Tests.{leb-true, ne-eqb}
-use lib.Dec.{eqb, leb, ltb}
-use lib.ListN.{length, getD, take, drop, length-append, length-map}
+use lib.Dec.{eqb, ltb}
+use lib.ListN.{length, getD, take, drop, length-append}
 use lib.Seq.{sets, length-sets}
 use Rattle.transcript.specs.Entries.{zeros}
 use Rattle.board.specs.declared.Path.{Path}
 use Rattle.board.specs.declared.Path.the-variants.{Hf, Vhf, Uhf}
 use Rattle.chip.specs.declared.Update.{Update}
-use Rattle.chip.specs.Entries.{pointer, readEntry, wait, zeros8}
-use Rattle.chip.specs.Steps.{Step, allIn, behind, every, updateStep, updates}
+use Rattle.chip.specs.Entries.{wait, zeros8}
+use Rattle.chip.specs.Steps.{Step, allIn, behind, every, updates}
 use Rattle.chip.specs.Steps.Step.{Close, Plain}
 use Rattle.chip.proofs.Laws.{and-left}
 use Rattle.pll.specs.declared.Kind.{Kind}
@@ -28,9 +28,6 @@ use Rattle.writes.specs.Programs.{initSteps, sendAll}
 use Rattle.history.specs.Programs.{fine}
 use Rattle.history.proofs.Fine.{every-append, every-drop, fine-behind, fine-pointer, fine-read, fine-reload, fine-updates, fine-wait}
 use Rattle.sequences.specs.Calls.{isByte}
-
-and-in : (a b : Bool) → a ≡ true → b ≡ true → (a && b) ≡ true
-and-in a b h k = rw (h, k)
 
 -- ---- masked writes, behind an open repeater
 

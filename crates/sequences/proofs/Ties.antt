@@ -6,7 +6,7 @@ use mathlib.Core.Path.{_≡_, refl, sym, ap, subst, _∙_}
 use mathlib.Core.Bool.{Bool, true, false, false≢true}
 use mathlib.Core.List.{List, [], _++_, append-nil}
 use native.Mathlib.Omega.{arith}
-use borrow.Author.Tests.{eq-eqb, eqb-true}
+use borrow.Author.Tests.{eqb-true}
 use lib.Dec.{eqb}
 use lib.ListN.{length, set, take, length-set}
 use Rattle.transcript.specs.declared.Entry.{Entry}
@@ -14,7 +14,6 @@ use Rattle.transcript.specs.Sections.{Parted}
 use Rattle.board.specs.declared.PathRead.{PathRead}
 use Rattle.board.specs.declared.PathRead.the-variants as path-read
 use Rattle.board.specs.Numbers.{pathOf}
-use Rattle.chip.specs.declared.Answer.{Answer}
 use Rattle.chip.specs.declared.Answer.the-variants.{Refused, Stopped}
 use Rattle.chip.specs.declared.Chip.{Chip}
 use Rattle.chip.specs.declared.Went.the-variants.{Failed}
@@ -23,13 +22,13 @@ use Rattle.chip.specs.Steps.{run, trace}
 use Rattle.pll.specs.declared.Kind.{Kind}
 use Rattle.pll.specs.declared.Kind.the-variants.{R820T, R828D}
 use Rattle.r82xx.specs.declared.Tuner.{Tuner}
-use Rattle.history.specs.Histories.{Alike, Cut, History, callEntries, stops, wentIn}
+use Rattle.history.specs.Histories.{Cut, History, callEntries, stops, wentIn}
 use Rattle.history.specs.Histories.History.{still}
 use Rattle.history.proofs.Fitted.{most-trace}
-use Rattle.history.proofs.Calls.{call-count, call-cut, call-history, call-index, call-performed, call-read, call-refused}
-use Rattle.sequences.specs.Calls.{Asked, Call, Order, asked, askedOf, entries, none, pathAsked, result, uncut}
+use Rattle.history.proofs.Calls.{call-count, call-cut, call-history, call-index, call-read, call-refused}
+use Rattle.sequences.specs.Calls.{Asked, Call, Order, asked, askedOf, entries, pathAsked, uncut}
 use Rattle.sequences.specs.Calls.Order.{Initialize, Reload, Bandwidth, IfFreq, Gain, GainIndex, InputPath, Tune, Quietly}
-use Rattle.sequences.proofs.Views.{Moving, Silent, Stepping, View}
+use Rattle.sequences.proofs.Views.{Silent, Stepping, View}
 use Rattle.sequences.proofs.Views.View.{moving, silent}
 
 -- a call without steps has no entries

@@ -1,12 +1,11 @@
 -- A call by its contract is either a call of crate `chip` over the very program that its entries come of (`Stepping`), or takes no step (`Silent`). One case
 -- for each call; what follows goes by these two alone. Assumes nothing.
 use Prim.Native.Nat.{ℕ, _+_, _*_, _≤_}
-use mathlib.Core.Path.{_≡_, refl, ap, _∙_}
+use mathlib.Core.Path.{_≡_, refl}
 use mathlib.Core.Bool.{Bool, true, false, _&&_}
 use mathlib.Core.List.{List, [], _∷_}
 use native.Mathlib.Omega.{arith}
-use borrow.Author.Tests.{eqb-true}
-use lib.Dec.{eqb, leb}
+use lib.Dec.{leb}
 use lib.Ieee.{binary32, toBits}
 use lib.IntN.{ℤ}
 use lib.ListN.{length, length-append, length-map}
@@ -43,7 +42,7 @@ use Rattle.r82xx.proofs.Refusals.{taken-by}
 use Rattle.history.specs.Programs.{fine}
 use Rattle.history.specs.Histories.{Alike, stops}
 use Rattle.history.proofs.Fine.{fine-reload}
-use Rattle.sequences.specs.Calls.{Asked, Order, Quiet, ask, askedOf, bracket, given, none, pathAsked, quietResult, resultOf}
+use Rattle.sequences.specs.Calls.{Asked, Order, Quiet, askedOf, bracket, given, none, pathAsked, quietResult, resultOf}
 use Rattle.sequences.specs.Calls.Order.{Initialize, Reload, Bandwidth, IfFreq, Gain, GainIndex, InputPath, Tune, Quietly}
 use Rattle.sequences.specs.Calls.Quiet.{Shadow, Ppm, Notch, GainTold, IfTold, TableTold}
 use Rattle.sequences.proofs.Programs.{bandwidth-in, fine-bracket, fine-init, fine-tune, gain-in, if-in, path-in, path-length, tune-length}
@@ -202,9 +201,6 @@ shadow-silent : (register value mask : ℕ) (t : Tuner) → Silent t (shadowCall
 unfolding shadowCall
 shadow-silent register value mask t = go (sound t) (leb 5 register && leb register 31)
   where
-    byte : ℕ
-    byte = maskedByte (t .chip) register value mask
-
     go : (s r : Bool)
         → Silent t
         (pickCalled s

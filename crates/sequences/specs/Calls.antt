@@ -12,7 +12,6 @@ use Rattle.transcript.specs.declared.Entry.{Entry}
 use Rattle.board.specs.declared.PathRead.{PathRead}
 use Rattle.board.specs.declared.PathRead.the-variants as path-read
 use Rattle.board.specs.Numbers.{pathOf}
-use Rattle.chip.specs.declared.Chip.{Chip}
 use Rattle.chip.specs.declared.Update.{Update}
 use Rattle.chip.specs.Calls.{Called, called}
 use Rattle.chip.specs.Steps.{Step, behind, every, updates}
