@@ -5,17 +5,20 @@ use mathlib.Core.Path.{_≡_, refl}
 use mathlib.Core.List.{List, []}
 use native.Mathlib.Omega.{arith}
 use lib.Ieee.{binary32, ofBits}
+use lib.IntN.{pos}
 use lib.ListN.{length, replicate}
 use Rattle.board.specs.declared.PathRead.{PathRead}
 use Rattle.board.specs.declared.PathRead.the-variants as path-read
+use Rattle.board.specs.declared.Board.the-variants.{Generic}
 use Rattle.board.specs.Numbers.{pathOf}
+use Rattle.board.specs.Plans.{planOf}
 use Rattle.chip.specs.Calls.{lentOf}
 use Rattle.chip.specs.Steps.{run, step, trace}
 use Rattle.pll.specs.declared.Kind.{Kind}
 use Rattle.pll.specs.declared.Kind.the-variants.{R820T, R828D}
 use Rattle.pll.specs.Divide.{firstOf, inVco}
 use Rattle.pll.specs.Fraction.{turnOf, turnsOf}
-use Rattle.pll.specs.Plan.{planOf, planWith}
+use Rattle.pll.specs.Plan.{planOf as pllOf, planWith}
 use Rattle.pll.specs.Setting.{settingOf}
 use Rattle.status.specs.Reversal.{reversed}
 use Rattle.tuning.specs.Program.{innerSteps}
@@ -23,12 +26,18 @@ use Rattle.tuning.specs.Tries.{repairUpdates, triesFrom}
 use Rattle.r82xx.specs.declared.Tuner.{Tuner}
 use Rattle.r82xx.specs.Record.{freshTuner}
 use Rattle.r82xx.specs.Calls.{planFor}
+use Rattle.driver.specs.Record.{driver, xtalBy, xtalOf}
+use Rattle.driver.proofs.Lengths.{sample-rate-length}
+use Rattle.driver.specs.Programs.{ifFor}
 use Rattle.history.specs.Histories.{callEntries}
-use Rattle.sequences.specs.Calls.{Call, Order, askedOf, call, entries, most, pathAsked}
-use Rattle.sequences.specs.Calls.Order.{Initialize, Reload, Bandwidth, IfFreq, Gain, GainIndex, InputPath, Tune, Quietly}
+use Rattle.sequences.specs.Calls.{Call, Order, askedOf, boardAsked, call, entries, most, pathAsked}
+use Rattle.sequences.specs.Calls.Order.{Initialize, Reload, Bandwidth, IfFreq, Gain, GainIndex, InputPath, Tune, SampleRate, BoardPath, Quietly}
 use Rattle.sequences.specs.Asides.{Aside, asideAsked, asideEntries, asideMost}
+use Rattle.reference.specs.Correct.{correctedOf}
 use Rattle.device.specs.Calls.{noChip}
-use Rattle.sequences.proofs.Programs.{path-length, tune-length}
+use Rattle.device.specs.Gpio.{bitSteps, outputSteps}
+use Rattle.demod.specs.Programs.{ddcSteps, ifSteps, rateSteps, resetSteps}
+use Rattle.sequences.proofs.Programs.{board-length, path-length, tune-length}
 use Rattle.sequences.proofs.Ties.{entries-most, none-entries}
 use Rattle.sequences.proofs.Asides.{aside-length}
 
@@ -36,6 +45,10 @@ path-most : (p : PathRead) (kind : Kind) (t : Tuner) (os room : List ℕ) → le
 path-most path-read.Refused kind t os room = omega arith
 path-most (path-read.Is path) R820T t os room = omega arith
 path-most (path-read.Is path) R828D t os room = omega (arith, path-length path)
+
+board-most : (p : PathRead) (rs : List ℕ) (t : Tuner) (os room : List ℕ) → length (boardAsked p rs t os room .steps) ≤ 10
+board-most path-read.Refused rs t os room = omega arith
+board-most (path-read.Is path) rs t os room = board-length (t .kind) path rs
 
 most-steps : (o : Order) (os room : List ℕ) (t : Tuner) → length (askedOf o os room t .steps) ≤ most o
 most-steps Initialize os room t = omega arith
@@ -46,9 +59,12 @@ most-steps (Gain db) os room t = omega arith
 most-steps (GainIndex k) os room t = omega arith
 most-steps (InputPath path) os room t = path-most (pathOf path) (t .kind) t os room
 most-steps (Tune hz rs) os room t = tune-length (t .chip .address) (t .kind) (t .notch) (planFor t hz) hz rs
+most-steps (SampleRate rate d) os room t =
+    omega (arith, sample-rate-length (ifFor (t .ifreq) rate) rate (xtalOf d) (planOf (d .board) (d .frequency) .inverted))
+most-steps (BoardPath path rs) os room t = board-most (pathOf path) rs t os room
 most-steps (Quietly q) os room t = omega arith
 
--- "initialise 19, 0; tune 53, 35; gain 7, 0; bandwidth 3, 0; IF 4, 0; input path 4, 0; reload 9, 0; .. `set_ppm`, notch, `update_shadow` 0, 0"
+-- "initialise 19, 0; tune 53, 35; gain 7, 0; bandwidth 3, 0; IF 4, 0; input path 4, 0; reload 9, 0; .. sample rate 17, 0; board path 10, 3; .. `set_ppm`, notch, `update_shadow` 0, 0"
 pub most-entries : (k : Call) (t : Tuner) → length (entries k t) ≤ most (k .order)
 most-entries k t = entries-most (most (k .order)) (k .outcomes) (askedOf (k .order) (k .outcomes) (k .room) t) (t .chip) (most-steps (k .order) (k .outcomes) (k .room) t)
 
@@ -105,5 +121,13 @@ path-reached = refl
 
 -- no lock in ten tries, and the divider repaired: all replies are zero
 pub tune-reached : length (entries (lent (Tune 100_000_000 (replicate 35 0))) fresh) ≡ most (Tune 100_000_000 (replicate 35 0))
-unfolding trace run step lentOf inVco firstOf settingOf turnOf turnsOf planWith planOf innerSteps repairUpdates triesFrom reversed
+unfolding trace run step lentOf inVco firstOf settingOf turnOf turnsOf planWith pllOf innerSteps repairUpdates triesFrom reversed
 tune-reached = refl
+
+pub rate-reached : length (entries (lent (SampleRate 2_048_000 (driver Generic 28_800_000 (pos 0) 0 0))) fresh) ≡ most (SampleRate 2_048_000 (driver Generic 28_800_000 (pos 0) 0 0))
+unfolding trace run step lentOf xtalBy correctedOf resetSteps rateSteps ifSteps ddcSteps
+rate-reached = refl
+
+pub board-reached : length (entries (lent (BoardPath 0 (replicate 3 0))) fresh) ≡ most (BoardPath 0 (replicate 3 0))
+unfolding trace run step lentOf outputSteps bitSteps
+board-reached = refl

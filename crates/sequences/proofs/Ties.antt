@@ -26,8 +26,8 @@ use Rattle.history.specs.Histories.{Cut, History, callEntries, stops, wentIn}
 use Rattle.history.specs.Histories.History.{still}
 use Rattle.history.proofs.Fitted.{most-trace}
 use Rattle.history.proofs.Calls.{call-count, call-cut, call-history, call-index, call-read, call-refused}
-use Rattle.sequences.specs.Calls.{Asked, Call, Order, asked, askedOf, entries, pathAsked, uncut}
-use Rattle.sequences.specs.Calls.Order.{Initialize, Reload, Bandwidth, IfFreq, Gain, GainIndex, InputPath, Tune, Quietly}
+use Rattle.sequences.specs.Calls.{Asked, Call, Order, asked, askedOf, entries, boardAsked, pathAsked, uncut}
+use Rattle.sequences.specs.Calls.Order.{Initialize, Reload, Bandwidth, IfFreq, Gain, GainIndex, InputPath, Tune, SampleRate, BoardPath, Quietly}
 use Rattle.sequences.proofs.Views.{Silent, Stepping, View}
 use Rattle.sequences.proofs.Views.View.{moving, silent}
 
@@ -119,6 +119,10 @@ path-same path-read.Refused kind t os ps room e = refl
 path-same (path-read.Is path) R820T t os ps room e = refl
 path-same (path-read.Is path) R828D t os ps room e = rw e
 
+board-same : (p : PathRead) (rs : List ℕ) (t : Tuner) (os ps room : List ℕ) → length ps ≡ length os → boardAsked p rs t ps room ≡ boardAsked p rs t os room
+board-same path-read.Refused rs t os ps room e = refl
+board-same (path-read.Is path) rs t os ps room e = rw e
+
 same-asked : (o : Order) (os ps room : List ℕ) (t : Tuner) → length ps ≡ length os → askedOf o ps room t ≡ askedOf o os room t
 same-asked Initialize os ps room t e = rw e
 same-asked Reload os ps room t e = rw e
@@ -128,6 +132,8 @@ same-asked (Gain db) os ps room t e = rw e
 same-asked (GainIndex k) os ps room t e = rw e
 same-asked (InputPath path) os ps room t e = path-same (pathOf path) (t .kind) t os ps room e
 same-asked (Tune hz rs) os ps room t e = rw e
+same-asked (SampleRate rate d) os ps room t e = rw e
+same-asked (BoardPath path rs) os ps room t e = board-same (pathOf path) rs t os ps room e
 same-asked (Quietly q) os ps room t e = refl
 
 pub uncut-entries : (i : ℕ) (k : Call) (t : Tuner) → callEntries (asked k t .number) (set (k .outcomes) i 0) (asked k t .steps) (t .chip) ≡ entries (uncut i k) t
