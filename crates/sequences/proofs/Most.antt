@@ -32,11 +32,13 @@ use Rattle.driver.specs.Programs.{ifFor}
 use Rattle.history.specs.Histories.{callEntries}
 use Rattle.sequences.specs.Calls.{Call, Order, askedOf, boardAsked, call, entries, most, pathAsked}
 use Rattle.sequences.specs.Calls.Order.{Initialize, Reload, Bandwidth, IfFreq, Gain, GainIndex, InputPath, Tune, SampleRate, BoardPath, Quietly}
-use Rattle.sequences.specs.Asides.{Aside, asideAsked, asideEntries, asideMost}
+use Rattle.sequences.specs.Asides.{Aside, Other, aside, asideAsked, asideEntries, asideMost}
+use Rattle.sequences.specs.Asides.Other.{Output, Bit, Baseband}
 use Rattle.reference.specs.Correct.{correctedOf}
 use Rattle.device.specs.Calls.{noChip}
 use Rattle.device.specs.Gpio.{bitSteps, outputSteps}
-use Rattle.demod.specs.Programs.{ddcSteps, ifSteps, rateSteps, resetSteps}
+use Rattle.fir.specs.Packing.{packOf}
+use Rattle.demod.specs.Programs.{ddcSteps, firSteps, ifSteps, initSteps, modeSteps, powerSteps, rateSteps, resetSteps, upward}
 use Rattle.sequences.proofs.Programs.{board-length, path-length, tune-length}
 use Rattle.sequences.proofs.Ties.{entries-most, none-entries}
 use Rattle.sequences.proofs.Asides.{aside-length}
@@ -131,3 +133,19 @@ rate-reached = refl
 pub board-reached : length (entries (lent (BoardPath 0 (replicate 3 0))) fresh) ≡ most (BoardPath 0 (replicate 3 0))
 unfolding trace run step lentOf outputSteps bitSteps
 board-reached = refl
+
+-- and of those that touch no record
+abbrev lentAside : Other → Aside
+lentAside o = aside o (replicate (asideMost o) 0) (replicate (16 * asideMost o + 8) 0)
+
+pub baseband-reached : length (asideEntries (lentAside Baseband)) ≡ asideMost Baseband
+unfolding trace run step lentOf initSteps powerSteps upward firSteps packOf modeSteps
+baseband-reached = refl
+
+pub direction-reached : length (asideEntries (lentAside (Output 5 (replicate 2 0)))) ≡ asideMost (Output 5 (replicate 2 0))
+unfolding trace run step lentOf outputSteps
+direction-reached = refl
+
+pub bit-reached : length (asideEntries (lentAside (Bit 5 1 (replicate 1 0)))) ≡ asideMost (Bit 5 1 (replicate 1 0))
+unfolding trace run step lentOf bitSteps
+bit-reached = refl
