@@ -462,23 +462,7 @@ pub fn i2c_write_tuner(
     close_repeater(sent, outcomes, room)
 }
 
-// The first n of a list of plain steps; those behind a failed one are not taken.
-pub fn plain_all(f: Flow, es: [Entry; 10], n: usize, outcomes: &[u8], room: &mut [u8]) -> Flow
-    requires { ⌜ (n ≤ 10) × (f .count + n + due (f .held) ≤ length (now outcomes)) × (16 * (f .count + n + due (f .held)) ≤ length (now room)) ⌝ }
-    ensures { λ r. ⌜ onRoom r (now (room .exit))
-        ≡ run inRoom (now (outcomes .entry)) (map Plain (take n es)) (onRoom f (now (room .entry))) ⌝ }
-    ensures bounds { λ r. ⌜ r .count + due (r .held) ≤ f .count + n + due (f .held) ⌝ }
-{
-    let mut f = f;
-    let mut i = 0;
-    while i < n {
-        f = plain(f, es[i], outcomes, room);
-        i += 1;
-    }
-    f
-}
-
-// The same behind an open repeater: a failed step closes it.
+// The first n of a list of plain steps behind an open repeater: a failed one closes it.
 pub fn plain_part(f: Flow, es: [Entry; 3], n: usize, outcomes: &[u8], room: &mut [u8]) -> Flow
     requires { ⌜ (n ≤ 3) × (f .count + n + due (f .held) ≤ length (now outcomes)) × (16 * (f .count + n + due (f .held)) ≤ length (now room)) ⌝ }
     ensures { λ r. ⌜ onRoom r (now (room .exit))

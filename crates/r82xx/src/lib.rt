@@ -186,6 +186,29 @@ fn kept_notch(nominal: u32, corrected: u32, old: bool, on: bool) -> bool
     on
 }
 
+// Document 01: "only `set_ppm` and `apply_notch` change the caller's record where it lies". Each calls covered functions on numbers and stores one
+// field, with no branch: a refusal stores what was there.
+pub fn set_ppm(t: &mut Tuner, ppm: i32) -> Answer
+    ensures { λ r. ⌜ (r ≡ ppmAnswer (now (t .entry) .nominal) (now (t .entry) .corrected) ppm)
+        × (now (t .exit) ≡ withCorrected (now (t .entry)) (keptPpm (now (t .entry) .nominal) (now (t .entry) .corrected) ppm)) ⌝ }
+{
+    let n = t.nominal;
+    let c = t.corrected;
+    t.corrected = kept_ppm(n, c, ppm);
+    ppm_answer(n, c, ppm)
+}
+
+pub fn apply_notch(t: &mut Tuner, on: bool) -> Answer
+    ensures { λ r. ⌜ (r ≡ soundAnswer (now (t .entry) .nominal) (now (t .entry) .corrected) 0)
+        × (now (t .exit) ≡ withNotch (now (t .entry)) (keptNotch (now (t .entry) .nominal) (now (t .entry) .corrected) (now (t .entry) .notch) on)) ⌝ }
+{
+    let n = t.nominal;
+    let c = t.corrected;
+    let old = t.notch;
+    t.notch = kept_notch(n, c, old, on);
+    sound_answer(n, c, 0)
+}
+
 impl Tuner {
     // kind: 0 R820T, 1 R828D.
     pub fn new(kind: u64, address: u8, nominal: u64) -> Made
@@ -293,36 +316,28 @@ impl Tuner {
     }
 
     // The IF changes before its writes are tried.
-    pub fn set_if_freq(self, hz: u64, outcomes: &[u8], room: &mut [u8]) -> Told
+    pub fn set_if_freq(mut self, hz: u64, outcomes: &[u8], room: &mut [u8]) -> Told
         ensures { λ r. ⌜ called (r .tuner) (now (room .exit)) (r .count) (r .answer)
             ≡ ifCall (now (outcomes .entry)) hz self (now (room .entry)) ⌝ }
     {
         let us = writes::if_updates(hz);
-        let mut next = self;
-        next.ifreq = hz;
-        self.operate(next, next, Answer::Done(0), us, 2, outcomes, room)
+        let old = self;
+        self.ifreq = hz;
+        old.operate(self, self, Answer::Done(0), us, 2, outcomes, room)
     }
 
     // The gain changes only when all writes are done.
-    fn set_step(self, k: usize, outcomes: &[u8], room: &mut [u8]) -> Told
+    fn set_step(mut self, k: usize, outcomes: &[u8], room: &mut [u8]) -> Told
         requires { ⌜ k < 29 ⌝ }
         ensures { λ r. ⌜ called (r .tuner) (now (room .exit)) (r .count) (r .answer)
             ≡ stepCall (now (outcomes .entry)) k self (now (room .entry)) ⌝ }
     {
         let us = writes::gain_updates(k);
         let actual = gain::gain_at(k);
-        let mut whole = self;
-        whole.gain = actual;
+        let old = self;
+        self.gain = actual;
         let bits = wire::bits_of(actual);
-        self.operate(
-            self,
-            whole,
-            Answer::Done(bits as u64),
-            us,
-            5,
-            outcomes,
-            room,
-        )
+        old.operate(old, self, Answer::Done(bits as u64), us, 5, outcomes, room)
     }
 
     pub fn set_gain(self, db: f32, outcomes: &[u8], room: &mut [u8]) -> Told
@@ -370,7 +385,7 @@ impl Tuner {
         }
     }
 
-    pub fn initialize(self, outcomes: &[u8], room: &mut [u8]) -> Told
+    pub fn initialize(mut self, outcomes: &[u8], room: &mut [u8]) -> Told
         ensures { λ r. ⌜ called (r .tuner) (now (room .exit)) (r .count) (r .answer)
             ≡ initCall (now (outcomes .entry)) self (now (room .entry)) ⌝ }
     {
@@ -395,18 +410,17 @@ impl Tuner {
         };
         let f = writes::initialize(start, outcomes, room);
         let answered = chip::finish(f, Answer::Done(0), room);
-        let mut next = self;
         let left = f.chip;
-        next.chip = left;
+        self.chip = left;
         Told {
-            tuner: next,
+            tuner: self,
             answer: answered,
             count: f.count,
         }
     }
 
     // "Reload sends the attempted bytes in `initialize`'s chunks .. and sets the shadow to them when all are done."
-    pub fn reload(self, outcomes: &[u8], room: &mut [u8]) -> Told
+    pub fn reload(mut self, outcomes: &[u8], room: &mut [u8]) -> Told
         ensures { λ r. ⌜ called (r .tuner) (now (room .exit)) (r .count) (r .answer)
             ≡ reloadCall (now (outcomes .entry)) self (now (room .entry)) ⌝ }
     {
@@ -430,20 +444,25 @@ impl Tuner {
                 locked: false,
             },
         };
-        let f = writes::send_all(start, bytes, outcomes, room);
-        let answered = chip::finish(f, Answer::Done(0), room);
-        let mut next = self;
-        let went = f.went;
-        let left = f.chip;
-        next.chip = reload_chip(went, left);
+        let sent = writes::send_all(start, bytes, outcomes, room);
+        let answered = chip::finish(sent, Answer::Done(0), room);
+        let went = sent.went;
+        let left = sent.chip;
+        self.chip = reload_chip(went, left);
         Told {
-            tuner: next,
+            tuner: self,
             answer: answered,
-            count: f.count,
+            count: sent.count,
         }
     }
 
-    pub fn set_frequency(self, hz: u64, replies: &[u8], outcomes: &[u8], room: &mut [u8]) -> Told
+    pub fn set_frequency(
+        mut self,
+        hz: u64,
+        replies: &[u8],
+        outcomes: &[u8],
+        room: &mut [u8],
+    ) -> Told
         ensures { λ r. ⌜ called (r .tuner) (now (room .exit)) (r .count) (r .answer)
             ≡ tuneCall (now (outcomes .entry)) (now (replies .entry)) hz self (now (room .entry)) ⌝ }
     {
@@ -488,20 +507,19 @@ impl Tuner {
             room,
         );
         let answered = chip::finish(f, whole_answer(plan, hz), room);
-        let mut next = self;
         let left = f.chip;
         let seen = f.seen;
-        next.chip = left;
-        next.lock = locked(seen, self.lock);
+        self.chip = left;
+        self.lock = locked(seen, self.lock);
         Told {
-            tuner: next,
+            tuner: self,
             answer: answered,
             count: f.count,
         }
     }
 
     // The mask leaf called alone: the shadow is changed and nothing is sent.
-    pub fn update_shadow(self, register: u8, value: u8, mask: u8) -> Told
+    pub fn update_shadow(mut self, register: u8, value: u8, mask: u8) -> Told
         ensures { λ r. ⌜ called (r .tuner) [] (r .count) (r .answer) ≡ shadowCall register value mask self ⌝ }
     {
         if !sound(self.nominal, self.corrected) {
@@ -529,10 +547,9 @@ impl Tuner {
         let mut chip = self.chip;
         let byte = chip::mask_into(chip.shadow[index], value, mask);
         chip.shadow[index] = byte;
-        let mut next = self;
-        next.chip = chip;
+        self.chip = chip;
         Told {
-            tuner: next,
+            tuner: self,
             answer: Answer::Done(byte as u64),
             count: 0,
         }
@@ -569,32 +586,30 @@ impl Tuner {
     }
 
     // `set_ppm` over a record by value, for callers that hold one so.
-    pub fn with_ppm(self, ppm: i32) -> Told
+    pub fn with_ppm(mut self, ppm: i32) -> Told
         ensures { λ r. ⌜ called (r .tuner) [] (r .count) (r .answer)
             ≡ called (withCorrected self (keptPpm (self .nominal) (self .corrected) ppm)) [] 0 (ppmAnswer (self .nominal) (self .corrected) ppm) ⌝ }
     {
         let n = self.nominal;
         let c = self.corrected;
-        let mut next = self;
-        next.corrected = kept_ppm(n, c, ppm);
+        self.corrected = kept_ppm(n, c, ppm);
         Told {
-            tuner: next,
+            tuner: self,
             answer: ppm_answer(n, c, ppm),
             count: 0,
         }
     }
 
     // `apply_notch` over a record by value.
-    pub fn with_notch(self, on: bool) -> Told
+    pub fn with_notch(mut self, on: bool) -> Told
         ensures { λ r. ⌜ called (r .tuner) [] (r .count) (r .answer)
             ≡ called (withNotch self (keptNotch (self .nominal) (self .corrected) (self .notch) on)) [] 0 (soundAnswer (self .nominal) (self .corrected) 0) ⌝ }
     {
         let n = self.nominal;
         let c = self.corrected;
-        let mut next = self;
-        next.notch = kept_notch(n, c, self.notch, on);
+        self.notch = kept_notch(n, c, self.notch, on);
         Told {
-            tuner: next,
+            tuner: self,
             answer: sound_answer(n, c, 0),
             count: 0,
         }

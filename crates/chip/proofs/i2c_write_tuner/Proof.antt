@@ -1,29 +1,22 @@
+-- `chip::i2c_write_tuner` meets its contract. Each return is one law of the definition, with what the calls before it ensure. Assumes nothing.
 use mathlib.Core.List.{map}
 use lib.ListN.{length, take, drop}
 use Rattle.chip.specs.Steps.{chunkStep, chunkTable, due, inRoom}
 use Rattle.chip.proofs.Laws.{bracketed}
-use mathlib.Core.Path.{_≡_, refl, sym, ap, _∙_}
+use mathlib.Core.Path.{_≡_, _∙_}
 use native.Mathlib.Omega.{arith}
-use Prim.Native.Nat.{_+_, _*_, _-_, _≤_, _<_}
+use Prim.Native.Nat.{_+_, _*_, _-_, _≤_}
 use denote.Ref.{now}
 use borrow.Author.Needs.{needs}
 use Rattle.chip.proofs.i2c_write_tuner.Statement.{statement}
 use Rattle.chip.proofs.i2c_write_tuner.Tie as tie
-use Rattle.chip.proofs.i2c_write_tuner.Reads as reads
-use Rattle.chip.proofs.i2c_write_tuner.Lts as lts
-use Rattle.chip.proofs.close_repeater.Reads as close-repeater-reads
-use Rattle.chip.proofs.open_repeater.Reads as open-repeater-reads
-use Rattle.chip.proofs.send_chunks.Reads as send-chunks-reads
 
--- src/lib.rt:423:9
 open-repeater-requires : tie.Need-open-repeater-requires
 open-repeater-requires c κs = search needs
 
--- src/lib.rt:424:9
 send-chunks-requires : tie.Need-send-chunks-requires
 send-chunks-requires c κs = search needs
 
--- src/lib.rt:425:5
 close-repeater-requires : tie.Need-close-repeater-requires
 close-repeater-requires c κs = let a : c .before .before .before .before .before .before .before .open-repeater .result .count + due (c .before .before .before .before .before .before .before .open-repeater .result .held) ≤ c .before .before .before .before .before .before .before .before .before .before .before .args .f .count + 2 = c .before .before .before .before .before .before .before .open-repeater .ensures .1 in
     let b : c .before .before .before .send-chunks .result .count + due (c .before .before .before .send-chunks .result .held) ≤ c .before .before .before .before .before .before .before .open-repeater .result .count + (c .before .before .before .before .before .before .before .before .before .before .before .args .to - c .before .before .before .before .before .before .before .before .before .before .before .args .from) + due (c .before .before .before .before .before .before .before .open-repeater .result .held) = c .before .before .before .send-chunks .ensures .1 in
@@ -33,11 +26,9 @@ close-repeater-requires c κs = let a : c .before .before .before .before .befor
     omega (arith, c .before .before .before .before .before .before .before .before .before .before .before .pre) in
     g
 
--- src/lib.rt:417:1
 same-length : tie.Need-same-length
 same-length c = search needs
 
--- src/lib.rt:417:1
 returns : tie.Need-returns
 returns c = let a : c .before .before .before .before .before .before .before .before .before .before .open-repeater .result .count + due (c .before .before .before .before .before .before .before .before .before .before .open-repeater .result .held) ≤ c .before .before .before .before .before .before .before .before .before .before .before .before .before .before .args .f .count + 2 = c .before .before .before .before .before .before .before .before .before .before .open-repeater .ensures .1 in
     let b : c .before .before .before .before .before .before .send-chunks .result .count + due (c .before .before .before .before .before .before .send-chunks .result .held) ≤ c .before .before .before .before .before .before .before .before .before .before .open-repeater .result .count + (c .before .before .before .before .before .before .before .before .before .before .before .before .before .before .args .to - c .before .before .before .before .before .before .before .before .before .before .before .before .before .before .args .from) + due (c .before .before .before .before .before .before .before .before .before .before .open-repeater .result .held) = c .before .before .before .before .before .before .send-chunks .ensures .1 in

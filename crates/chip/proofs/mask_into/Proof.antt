@@ -1,11 +1,9 @@
+-- `chip::mask_into` meets its contract. Each return is one law of the definition, with what the calls before it ensure. Assumes nothing.
 use mathlib.Core.Path.{refl}
 use Rattle.chip.specs.Chips.{maskOf}
 use Rattle.chip.proofs.mask_into.Statement.{statement}
 use Rattle.chip.proofs.mask_into.Tie as tie
-use Rattle.chip.proofs.mask_into.Reads as reads
-use Rattle.chip.proofs.mask_into.Lts as lts
 
--- src/lib.rt:94:1
 returns : tie.Need-returns
 unfolding maskOf
 returns c = refl

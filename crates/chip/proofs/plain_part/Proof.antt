@@ -4,21 +4,16 @@ use mathlib.Core.List.{map}
 use Rattle.transcript.specs.declared.Entry.{Entry}
 use Rattle.chip.specs.Steps.Step.{Plain}
 use Rattle.chip.proofs.Laws.{stop, keep}
-use mathlib.Core.Path.{_≡_, refl, sym, ap, _∙_}
+use mathlib.Core.Path.{_≡_, refl, ap, _∙_}
 use borrow.Author.Needs.{needs}
 use native.Mathlib.Omega.{arith}
 use Prim.Native.Nat.{_≤_, _+_, _-_}
 use mathlib.Core.Bool.{true}
 use lib.ListN.{length, take, drop}
 use Rattle.chip.specs.Steps.{due, goes, inRoom, onRoom, run}
-use Rattle.chip.proofs.Laws.{idle-run, closing-going, closing-stopped}
 use Rattle.chip.proofs.Lists.{every-inner, turn, end}
 use Rattle.chip.proofs.plain_part.Statement.{statement}
 use Rattle.chip.proofs.plain_part.Tie as tie
-use Rattle.chip.proofs.plain_part.Reads as reads
-use Rattle.chip.proofs.plain_part.Lts as lts
-use Rattle.chip.proofs.close_repeater.Reads as close-repeater-reads
-use Rattle.chip.proofs.plain.Reads as plain-reads
 
 abbrev Inv-loop : tie.InvT-loop
 Inv-loop n outcomes room₀ es f₀ i₀ room f i = (i ≤ n) × ((length room ≡ length room₀) × ((length es ≡ 3) × ((f .count + due (f .held) ≤ f₀ .count + i + due (f₀ .held)) × ((goes (f .went) ≡ true) × (run inRoom outcomes (map Plain (drop i (take n es))) (onRoom f room) ≡ run inRoom outcomes (map Plain (take n es)) (onRoom f₀ room₀))))))

@@ -1,41 +1,31 @@
+-- `chip::send_chunk` meets its contract. Each return is one law of the definition, with what the calls before it ensure. Assumes nothing.
 use Rattle.chip.proofs.Laws.{by-bytes}
-use mathlib.Core.Path.{_≡_, refl, sym, ap, _∙_}
+use mathlib.Core.Path.{_≡_, ap, _∙_}
 use native.Mathlib.Omega.{arith}
 use Prim.Native.Nat.{ℕ, _+_, _≤_}
 use mathlib.Core.List.{List}
 use lib.ListN.{getD}
-use Rattle.chip.specs.Steps.{step, inRoom}
-use Rattle.chip.specs.Steps.Step.{Send}
+use Rattle.chip.specs.Steps.{inRoom}
 use Rattle.chip.proofs.Chunks.{some, seven, inside, first-register}
 use borrow.Author.Needs.{needs}
 use Rattle.chip.proofs.send_chunk.Statement.{statement}
 use Rattle.chip.proofs.send_chunk.Tie as tie
-use Rattle.chip.proofs.send_chunk.Reads as reads
-use Rattle.chip.proofs.send_chunk.Lts as lts
-use Rattle.chip.proofs.chunk_bytes.Reads as chunk-bytes-reads
-use Rattle.chip.proofs.send.Reads as send-reads
 
--- src/lib.rt:386:9
 chunk-bytes-requires : tie.Need-chunk-bytes-requires
 chunk-bytes-requires c κs = let k = c .before .before .args .k in let s : 1 ≤ k .size = some k (c .before .before .pre .0) in let t : k .size ≤ 7 = seven k (c .before .before .pre .0) in let u : k .at + k .size ≤ 27 = inside k (c .before .before .pre .0) in omega arith
 
--- src/lib.rt:387:13
 cast-send : tie.Need-cast-send
 cast-send c = let k = c .before .before .before .args .k in let s : 1 ≤ k .size = some k (c .before .before .before .pre .0) in let t : k .size ≤ 7 = seven k (c .before .before .before .pre .0) in let u : k .at + k .size ≤ 27 = inside k (c .before .before .before .pre .0) in omega arith
 
--- src/lib.rt:387:13
 add-send : tie.Need-add-send
 add-send c = let k = c .before .before .before .args .k in let s : 1 ≤ k .size = some k (c .before .before .before .pre .0) in let t : k .size ≤ 7 = seven k (c .before .before .before .pre .0) in let u : k .at + k .size ≤ 27 = inside k (c .before .before .before .pre .0) in omega arith
 
--- src/lib.rt:387:5
 send-requires : tie.Need-send-requires
 send-requires c κs = let k = c .before .before .before .before .args .k in let s : 1 ≤ k .size = some k (c .before .before .before .before .pre .0) in let t : k .size ≤ 7 = seven k (c .before .before .before .before .pre .0) in let u : k .at + k .size ≤ 27 = inside k (c .before .before .before .before .pre .0) in let r : getD (c .before .chunk-bytes .result) 0 0 ≡ 5 + k .at = ap (λ (l : List ℕ). getD l 0 0) (c .before .chunk-bytes .ensures) ∙ first-register _ _ _ in omega arith
 
--- src/lib.rt:379:1
 same-length : tie.Need-same-length
 same-length c = search needs
 
--- src/lib.rt:379:1
 returns : tie.Need-returns
 returns c = (by-bytes inRoom _ _ _ _ _ _ (c .before .before .before .before .chunk-bytes .ensures) (c .before .before .send .ensures .0), search needs)
 

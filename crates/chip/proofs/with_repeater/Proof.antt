@@ -1,28 +1,21 @@
+-- `chip::with_repeater` meets its contract. Each return is one law of the definition, with what the calls before it ensure. Assumes nothing.
 use Rattle.chip.specs.Steps.{due, inRoom, updates}
-use Prim.Native.Nat.{_+_, _*_, _-_, _≤_, _<_}
+use Prim.Native.Nat.{_+_, _*_, _≤_}
 use denote.Ref.{now}
 use lib.ListN.{length, take}
 use Rattle.chip.proofs.Laws.{bracketed}
-use mathlib.Core.Path.{_≡_, refl, sym, ap, _∙_}
+use mathlib.Core.Path.{_≡_, _∙_}
 use native.Mathlib.Omega.{arith}
 use borrow.Author.Needs.{needs}
 use Rattle.chip.proofs.with_repeater.Statement.{statement}
 use Rattle.chip.proofs.with_repeater.Tie as tie
-use Rattle.chip.proofs.with_repeater.Reads as reads
-use Rattle.chip.proofs.with_repeater.Lts as lts
-use Rattle.chip.proofs.close_repeater.Reads as close-repeater-reads
-use Rattle.chip.proofs.open_repeater.Reads as open-repeater-reads
-use Rattle.chip.proofs.write_all.Reads as write-all-reads
 
--- src/lib.rt:363:9
 open-repeater-requires : tie.Need-open-repeater-requires
 open-repeater-requires c κs = search needs
 
--- src/lib.rt:364:9
 write-all-requires : tie.Need-write-all-requires
 write-all-requires c κs = search needs
 
--- src/lib.rt:365:5
 close-repeater-requires : tie.Need-close-repeater-requires
 close-repeater-requires c κs = let a : c .before .before .before .before .before .before .before .open-repeater .result .count + due (c .before .before .before .before .before .before .before .open-repeater .result .held) ≤ c .before .before .before .before .before .before .before .before .before .before .before .args .f .count + 2 = c .before .before .before .before .before .before .before .open-repeater .ensures .1 in
     let b : c .before .before .before .write-all .result .count + due (c .before .before .before .write-all .result .held) ≤ c .before .before .before .before .before .before .before .open-repeater .result .count + c .before .before .before .before .before .before .before .before .before .before .before .args .n + due (c .before .before .before .before .before .before .before .open-repeater .result .held) = c .before .before .before .write-all .ensures .1 in
@@ -32,11 +25,9 @@ close-repeater-requires c κs = let a : c .before .before .before .before .befor
     omega (arith, c .before .before .before .before .before .before .before .before .before .before .before .pre) in
     g
 
--- src/lib.rt:356:1
 same-length : tie.Need-same-length
 same-length c = search needs
 
--- src/lib.rt:356:1
 returns : tie.Need-returns
 returns c = let a : c .before .before .before .before .before .before .before .before .before .before .open-repeater .result .count + due (c .before .before .before .before .before .before .before .before .before .before .open-repeater .result .held) ≤ c .before .before .before .before .before .before .before .before .before .before .before .before .before .before .args .f .count + 2 = c .before .before .before .before .before .before .before .before .before .before .open-repeater .ensures .1 in
     let b : c .before .before .before .before .before .before .write-all .result .count + due (c .before .before .before .before .before .before .write-all .result .held) ≤ c .before .before .before .before .before .before .before .before .before .before .open-repeater .result .count + c .before .before .before .before .before .before .before .before .before .before .before .before .before .before .args .n + due (c .before .before .before .before .before .before .before .before .before .before .open-repeater .result .held) = c .before .before .before .before .before .before .write-all .ensures .1 in

@@ -1,20 +1,15 @@
-use Rattle.chip.specs.Steps.Step.{Open, Close, Send, Mask, Plain}
+-- `chip::write_all` meets its contract. The loop's invariant: what is left, from here, gives what all of it gives from the start. Assumes nothing.
 use Rattle.chip.proofs.Laws.{stop, keep}
-use mathlib.Core.Path.{_≡_, refl, sym, ap, _∙_}
+use mathlib.Core.Path.{_≡_, refl, ap, _∙_}
 use borrow.Author.Needs.{needs}
 use native.Mathlib.Omega.{arith}
 use Prim.Native.Nat.{_≤_, _+_, _-_}
 use mathlib.Core.Bool.{true}
 use lib.ListN.{length, take, drop}
 use Rattle.chip.specs.Steps.{due, goes, inRange, inRoom, onRoom, run, updates, updateStep}
-use Rattle.chip.proofs.Laws.{idle-run, closing-going, closing-stopped}
 use Rattle.chip.proofs.Lists.{every-take, every-inner, inner-update, turn, end}
 use Rattle.chip.proofs.write_all.Statement.{statement}
 use Rattle.chip.proofs.write_all.Tie as tie
-use Rattle.chip.proofs.write_all.Reads as reads
-use Rattle.chip.proofs.write_all.Lts as lts
-use Rattle.chip.proofs.close_repeater.Reads as close-repeater-reads
-use Rattle.chip.proofs.write_update.Reads as write-update-reads
 
 abbrev Inv-loop : tie.InvT-loop
 Inv-loop n outcomes room₀ us f₀ i₀ room f i = (i ≤ n) × ((length room ≡ length room₀) × ((length us ≡ 16) × ((f .count + due (f .held) ≤ f₀ .count + i + due (f₀ .held)) × ((goes (f .went) ≡ true) × (run inRoom outcomes (updates (drop i (take n us))) (onRoom f room) ≡ run inRoom outcomes (updates (take n us)) (onRoom f₀ room₀))))))
@@ -25,74 +20,57 @@ abbrev μ-loop : tie.MeasureT-loop
 enum-told : tie.Need-enum-told Inv-loop μ-loop
 enum-told c = search needs
 
--- src/lib.rt:330:44
 enum-told-2 : tie.Need-enum-told-2 Inv-loop μ-loop
 enum-told-2 c = search needs
 
--- src/lib.rt:330:9
 close-repeater-requires : tie.Need-close-repeater-requires Inv-loop μ-loop
 close-repeater-requires c κs = search needs
 
--- src/lib.rt:330:9
 same-length : tie.Need-same-length Inv-loop μ-loop
 same-length c = search needs
 
--- src/lib.rt:330:9
 returns : tie.Need-returns Inv-loop μ-loop
 returns c = (c .before .before .close-repeater .ensures .0 ∙ stop inRoom _ (updates (take (c .before .before .before .before .before .before .before .before .args .n) (c .before .before .before .before .before .before .before .before .args .t2))) _ _ (ap goes (c .before .before .before .before .enum-told2 .given .1)) (every-inner updateStep inner-update (take (c .before .before .before .before .before .before .before .before .args .n) (c .before .before .before .before .before .before .before .before .args .t2))) refl, search needs)
 
--- src/lib.rt:333:5
 loop-holds : tie.Need-loop-holds Inv-loop μ-loop
 loop-holds c = (search needs, (refl, (search needs, (search needs, (ap goes (c .enum-told .given .1), refl)))))
 
--- src/lib.rt:334:29
 mul-write-update : tie.Need-mul-write-update Inv-loop μ-loop
 mul-write-update c = search needs
 
--- src/lib.rt:334:29
 array-copy-out-write-update : tie.Need-array-copy-out-write-update Inv-loop μ-loop
 array-copy-out-write-update c = search needs
 
--- src/lib.rt:334:9
 write-update-requires : tie.Need-write-update-requires Inv-loop μ-loop
 write-update-requires c κs = (every-take inRange (c .before .before .before .before .before .before .before .before .args .t2) (c .before .before .before .before .before .before .before .before .args .n) (c .before .before .before .loop .i) _ (search needs) (search needs) (c .before .before .before .before .before .before .before .before .pre .1), search needs, search needs)
 
 enum-told-3 : tie.Need-enum-told-3 Inv-loop μ-loop
 enum-told-3 c = search needs
 
--- src/lib.rt:337:48
 enum-told-4 : tie.Need-enum-told-4 Inv-loop μ-loop
 enum-told-4 c = search needs
 
--- src/lib.rt:337:13
 close-repeater-requires-2 : tie.Need-close-repeater-requires-2 Inv-loop μ-loop
 close-repeater-requires-2 c κs = search needs
 
--- src/lib.rt:337:13
 same-length-2 : tie.Need-same-length-2 Inv-loop μ-loop
 same-length-2 c = search needs
 
--- src/lib.rt:337:13
 returns-2 : tie.Need-returns-2 Inv-loop μ-loop
 returns-2 c = (c .before .before .close-repeater2 .ensures .0 ∙ stop inRoom _ (updates (drop (c .before .before .before .before .before .before .before .before .before .before .before .before .loop .i + 1) (take (c .before .before .before .before .before .before .before .before .before .before .before .before .before .before .before .before .before .args .n) (c .before .before .before .before .before .before .before .before .before .before .before .before .before .before .before .before .before .args .t2)))) _ _ (ap goes (c .before .before .before .before .enum-told4 .given .1)) (every-inner updateStep inner-update (drop (c .before .before .before .before .before .before .before .before .before .before .before .before .loop .i + 1) (take (c .before .before .before .before .before .before .before .before .before .before .before .before .before .before .before .before .before .args .n) (c .before .before .before .before .before .before .before .before .before .before .before .before .before .before .before .before .before .args .t2)))) (ap (run inRoom _ (updates (drop (c .before .before .before .before .before .before .before .before .before .before .before .before .loop .i + 1) (take (c .before .before .before .before .before .before .before .before .before .before .before .before .before .before .before .before .before .args .n) (c .before .before .before .before .before .before .before .before .before .before .before .before .before .before .before .before .before .args .t2))))) (c .before .before .before .before .before .before .before .before .write-update .ensures .0) ∙ turn inRoom _ updateStep (c .before .before .before .before .before .before .before .before .before .before .before .before .before .before .before .before .before .args .t2) (c .before .before .before .before .before .before .before .before .before .before .before .before .before .before .before .before .before .args .n) (c .before .before .before .before .before .before .before .before .before .before .before .before .loop .i) _ _ (search needs) (omega (arith, c .before .before .before .before .before .before .before .before .before .before .before .before .before .before .before .before .before .pre .0)) ∙ c .before .before .before .before .before .before .before .before .before .before .before .before .loop .inv .1 .1 .1 .1 .1), omega (arith, c .before .before .close-repeater2 .ensures .1, c .before .before .before .before .before .before .before .before .write-update .ensures .1, c .before .before .before .before .before .before .before .before .before .before .before .before .loop .inv, c .before .before .before .before .before .before .before .before .before .before .before .loop-test .taken))
 
--- src/lib.rt:339:9
 add-i : tie.Need-add-i Inv-loop μ-loop
 add-i c = search needs
 
--- src/lib.rt:333:5
 loop-less : tie.Need-loop-less Inv-loop μ-loop
 loop-less c = search needs
 
--- src/lib.rt:333:5
 loop-again : tie.Need-loop-again Inv-loop μ-loop
 loop-again c = (search needs, (search needs, (search needs, (search needs, (ap goes (c .enum-told3 .given .1), ap (run inRoom _ (updates (drop (c .before .before .before .before .before .before .before .before .loop .i + 1) (take (c .before .before .before .before .before .before .before .before .before .before .before .before .before .args .n) (c .before .before .before .before .before .before .before .before .before .before .before .before .before .args .t2))))) (c .before .before .before .before .write-update .ensures .0) ∙ turn inRoom _ updateStep (c .before .before .before .before .before .before .before .before .before .before .before .before .before .args .t2) (c .before .before .before .before .before .before .before .before .before .before .before .before .before .args .n) (c .before .before .before .before .before .before .before .before .loop .i) _ _ (search needs) (search needs) ∙ c .before .before .before .before .before .before .before .before .loop .inv .1 .1 .1 .1 .1)))))
 
--- src/lib.rt:320:1
 same-length-3 : tie.Need-same-length-3 Inv-loop μ-loop
 same-length-3 c = search needs
 
--- src/lib.rt:320:1
 returns-3 : tie.Need-returns-3 Inv-loop μ-loop
 returns-3 c = (keep inRoom _ _ _ (end inRoom _ updateStep (c .before .before .before .before .before .before .args .t2) (c .before .before .before .before .before .before .args .n) (c .before .loop .i) _ (search needs) ∙ c .before .loop .inv .1 .1 .1 .1 .1) (c .before .loop .inv .1 .1 .1 .1 .0), search needs)
 

@@ -1,22 +1,17 @@
-use mathlib.Core.Path.{_≡_, refl, sym, ap, _∙_}
-use Rattle.chip.specs.Steps.{closing, due, every, goes, inRange, inRoom, onRoom, run, updates}
+-- `tuning::after_lock` meets its contract. Each return is one law of the definition, with what the calls before it ensure. Assumes nothing.
+use mathlib.Core.Path.{refl}
+use Rattle.chip.specs.Steps.{every}
 use borrow.Author.Needs.{needs}
 use Rattle.tuning.proofs.after_lock.Statement.{statement}
 use Rattle.tuning.proofs.after_lock.Tie as tie
-use Rattle.tuning.proofs.after_lock.Reads as reads
-use Rattle.tuning.proofs.after_lock.Lts as lts
-use Rattle.chip.proofs.write_all.Reads as write-all-reads
 
--- src/lib.rt:372:5
 write-all-requires : tie.Need-write-all-requires
 unfolding every
 write-all-requires c κs = (search needs, refl, search needs, search needs)
 
--- src/lib.rt:360:1
 same-length : tie.Need-same-length
 same-length c = search needs
 
--- src/lib.rt:360:1
 returns : tie.Need-returns
 returns c = search needs
 

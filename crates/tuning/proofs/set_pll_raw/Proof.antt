@@ -1,43 +1,31 @@
-use mathlib.Core.Path.{_≡_, refl, sym, ap, _∙_}
+-- `tuning::set_pll_raw` meets its contract. Each return is one law of the definition, with what the calls before it ensure. Assumes nothing.
+use mathlib.Core.Path.{_≡_, ap}
 use native.Mathlib.Omega.{arith}
-use Prim.Native.Nat.{_+_, _*_, _-_, _≤_, _<_, min}
-use Rattle.chip.specs.Steps.{closing, due, every, goes, inRange, inRoom, onRoom, run, updates}
-use Rattle.chip.proofs.Laws.{bracketed, closing-closing, closing-going, parts, stop}
-use Rattle.tuning.specs.Tries.{afterTry, again, locked, locksAt, repairUpdates, statusSteps, triesFrom, tryRead}
-use Rattle.tuning.proofs.Turns.{cut-try, end-try, lock-try, next-try, once-in, once-list, repair-down, repair-none, repair-up, status-made, swap, try-made}
-use Rattle.tuning.proofs.Programs.{eight-inner, every-app, inner-after, inner-pll, inner-tries, inner-updates}
+use Prim.Native.Nat.{_+_, _*_, _≤_}
+use Rattle.chip.specs.Steps.{due, inRoom, updates, inner}
+use Rattle.chip.proofs.Laws.{parts}
+use Rattle.tuning.specs.Tries.{repairUpdates, statusSteps, triesFrom}
+use Rattle.tuning.proofs.Turns.{swap}
+use Rattle.tuning.proofs.Programs.{every-app, inner-tries, inner-updates}
 use denote.Ref.{now}
-use lib.ListN.{length, take, getD}
-use mathlib.Core.List.{List, [], _∷_, _++_}
-use mathlib.Core.Bool.{true}
-use Rattle.chip.specs.Steps.{inner}
+use lib.ListN.{length, getD}
+use mathlib.Core.List.{_++_}
 use borrow.Author.Needs.{needs}
 use Rattle.tuning.proofs.set_pll_raw.Statement.{statement}
 use Rattle.tuning.proofs.set_pll_raw.Tie as tie
-use Rattle.tuning.proofs.set_pll_raw.Reads as reads
-use Rattle.tuning.proofs.set_pll_raw.Lts as lts
-use Rattle.chip.proofs.write_all.Reads as write-all-reads
-use Rattle.tuning.proofs.read_status_raw.Reads as read-status-raw-reads
-use Rattle.tuning.proofs.repair.Reads as repair-reads
-use Rattle.tuning.proofs.wait_pll_lock_raw.Reads as wait-pll-lock-raw-reads
 
--- src/lib.rt:450:36
 shared-slice-read-repair : tie.Need-shared-slice-read-repair
 shared-slice-read-repair c = search needs
 
--- src/lib.rt:450:9
 repair-requires : tie.Need-repair-requires
 repair-requires c κs = search needs
 
--- src/lib.rt:453:9
 read-status-raw-requires : tie.Need-read-status-raw-requires
 read-status-raw-requires c κs = search needs
 
--- src/lib.rt:454:9
 write-all-requires : tie.Need-write-all-requires
 write-all-requires c κs = search needs
 
--- src/lib.rt:455:5
 wait-pll-lock-raw-requires : tie.Need-wait-pll-lock-raw-requires
 wait-pll-lock-raw-requires c κs = let n : c .before .before .before .before .before .before .before .before .before .before .repair .result .n ≤ 1 = c .before .before .before .before .before .before .before .before .before .before .repair .ensures .2 in
     let a : c .before .before .before .before .before .before .before .read-status-raw .result .count + due (c .before .before .before .before .before .before .before .read-status-raw .result .held) ≤ c .before .before .before .before .before .before .before .before .before .before .before .before .before .before .before .args .f .count + 3 + due (c .before .before .before .before .before .before .before .before .before .before .before .before .before .before .before .args .f .held) = c .before .before .before .before .before .before .before .read-status-raw .ensures .1 in
@@ -47,11 +35,9 @@ wait-pll-lock-raw-requires c κs = let n : c .before .before .before .before .be
     let g : (35 ≤ length (now (c .before .before .before .before .before .before .before .before .before .before .before .before .before .before .before .args .replies))) × (c .before .before .before .write-all .result .count + 31 + due (c .before .before .before .write-all .result .held) ≤ length (now (c .before .before .before .before .before .before .before .before .before .before .before .before .before .before .before .args .outcomes))) × (16 * (c .before .before .before .write-all .result .count + 31 + due (c .before .before .before .write-all .result .held)) ≤ length (c .before .before .before .write-all .last .1 .1 .1 .1 .0)) = omega (arith, c .before .before .before .before .before .before .before .before .before .before .before .before .before .before .before .pre) in
     g
 
--- src/lib.rt:434:1
 same-length : tie.Need-same-length
 same-length c = search needs
 
--- src/lib.rt:434:1
 returns : tie.Need-returns
 returns c = let n : c .before .before .before .before .before .before .before .before .before .before .before .before .before .repair .result .n ≤ 1 = c .before .before .before .before .before .before .before .before .before .before .before .before .before .repair .ensures .2 in
     let a : c .before .before .before .before .before .before .before .before .before .before .read-status-raw .result .count + due (c .before .before .before .before .before .before .before .before .before .before .read-status-raw .result .held) ≤ c .before .before .before .before .before .before .before .before .before .before .before .before .before .before .before .before .before .before .args .f .count + 3 + due (c .before .before .before .before .before .before .before .before .before .before .before .before .before .before .before .before .before .before .args .f .held) = c .before .before .before .before .before .before .before .before .before .before .read-status-raw .ensures .1 in

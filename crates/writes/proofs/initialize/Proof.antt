@@ -1,7 +1,8 @@
-use mathlib.Core.Path.{_≡_, refl, sym, ap, _∙_}
+-- `writes::initialize` meets its contract. Each return is one law of the definition, with what the calls before it ensure. Assumes nothing.
+use mathlib.Core.Path.{ap}
 use native.Mathlib.Omega.{arith}
-use Prim.Native.Nat.{_+_, _*_, _-_, _≤_, _<_}
-use Rattle.chip.specs.Steps.{behind, due, inRoom, tunerWrite, updates}
+use Prim.Native.Nat.{_+_, _≤_}
+use Rattle.chip.specs.Steps.{behind, due, inRoom, updates}
 use Rattle.writes.proofs.Chains.{from, then}
 use mathlib.Core.List.{List, _++_}
 use Rattle.chip.specs.declared.Update.{Update}
@@ -10,38 +11,25 @@ use Rattle.writes.specs.Programs.{sendAll}
 use borrow.Author.Needs.{needs}
 use Rattle.writes.proofs.initialize.Statement.{statement}
 use Rattle.writes.proofs.initialize.Tie as tie
-use Rattle.writes.proofs.initialize.Reads as reads
-use Rattle.writes.proofs.initialize.Lts as lts
-use Rattle.chip.proofs.with_repeater.Reads as with-repeater-reads
-use Rattle.writes.proofs.if_updates.Reads as if-updates-reads
-use Rattle.writes.proofs.init_updates.Reads as init-updates-reads
-use Rattle.writes.proofs.send_all.Reads as send-all-reads
 
--- src/lib.rt:124:9
 send-all-requires : tie.Need-send-all-requires
 send-all-requires c κs = search needs
 
--- src/lib.rt:125:41
 init-updates-requires : tie.Need-init-updates-requires
 init-updates-requires c κs = search needs
 
--- src/lib.rt:125:9
 with-repeater-requires : tie.Need-with-repeater-requires
 with-repeater-requires c κs = search needs
 
--- src/lib.rt:126:30
 if-updates-requires : tie.Need-if-updates-requires
 if-updates-requires c κs = search needs
 
--- src/lib.rt:126:5
 with-repeater-requires-2 : tie.Need-with-repeater-requires-2
 with-repeater-requires-2 c κs = search needs
 
--- src/lib.rt:119:1
 same-length : tie.Need-same-length
 same-length c = search needs
 
--- src/lib.rt:119:1
 returns : tie.Need-returns
 returns c = let a : c .before .before .before .before .before .before .before .before .before .before .before .before .send-all .result .count + due (c .before .before .before .before .before .before .before .before .before .before .before .before .send-all .result .held) ≤ c .before .before .before .before .before .before .before .before .before .before .before .before .before .before .before .before .args .f .count + 9 = c .before .before .before .before .before .before .before .before .before .before .before .before .send-all .ensures .1 in
     let b : c .before .before .before .before .before .before .before .with-repeater .result .count + due (c .before .before .before .before .before .before .before .with-repeater .result .held) ≤ c .before .before .before .before .before .before .before .before .before .before .before .before .send-all .result .count + 4 + 2 = c .before .before .before .before .before .before .before .with-repeater .ensures .1 in
