@@ -13,7 +13,7 @@ use mathlib.Core.List.{List, [], _++_}
 use mathlib.Core.Logic.{_↔_}
 use native.Mathlib.Omega.{arith}
 use lib.Dec.{eqb, leb}
-use lib.ListN.{getD, length, replicate, take}
+use lib.ListN.{getD, length, take}
 use Rattle.transcript.specs.declared.Entry.{Entry}
 use Rattle.transcript.specs.Sections.{AllFit, Parted}
 use Rattle.attempts.specs.Attempts.{Played, Regs, byteIn, doubtIn, lastIn}
@@ -25,27 +25,26 @@ use Rattle.chip.specs.declared.Chip.{Chip}
 use Rattle.chip.specs.declared.Went.{Went}
 use Rattle.chip.specs.declared.Went.the-variants.{Going, Failed}
 use Rattle.chip.specs.Calls.{Called, answerOf}
-use Rattle.chip.specs.Steps.{Step, Trace, trace}
+use Rattle.chip.specs.Steps.{Trace, trace}
 use Rattle.device.specs.Calls.{noChip}
 use Rattle.writes.specs.Lists.{initArray}
 use Rattle.writes.specs.Programs.{sendAll}
-use Rattle.r82xx.specs.declared.Made.{Made}
 use Rattle.r82xx.specs.declared.Tuner.{Tuner}
-use Rattle.r82xx.specs.Record.{freshChip, freshTuner, madeOf, pick, reloaded, withChip}
+use Rattle.r82xx.specs.Record.{freshChip, madeOf, reloaded, withChip}
 use Rattle.r82xx.specs.Calls.{refusalOf, reloadCall}
 use Rattle.history.specs.Programs.{shadowBy}
-use Rattle.history.specs.Histories.{Cut, Fresh, History, Restored, callEntries, wentIn}
+use Rattle.history.specs.Histories.{Cut, Fresh, History, Restored, wentIn}
 use Rattle.history.specs.Histories.History.{made}
 use Rattle.history.proofs.Calls.{call-performed, call-refused}
 use Rattle.history.proofs.Demand as demand
-use Rattle.sequences.specs.Calls.{Call, after, asked, call, entries, given, result, uncut}
+use Rattle.sequences.specs.Calls.{Asked, Call, after, asked, call, entries, given, result, uncut}
 use Rattle.sequences.specs.Calls.Order.{Reload}
-use Rattle.sequences.specs.Asides.{Aside, asideAsked, asideEntries, asideGiven, asideResult}
+use Rattle.sequences.specs.Asides.{Aside, asideAsked, asideEntries, asideGiven, asideResult, asideUncut}
 use Rattle.sequences.specs.Sequences.{Sequence}
 use Rattle.sequences.specs.Sequences.Sequence.{fresh, next, between}
-use Rattle.sequences.proofs.Views.{View, view}
+use Rattle.sequences.proofs.Views.{Stepping, View, view}
 use Rattle.sequences.proofs.Ties.{step-count, step-cut, step-index, step-read, uncut-entries, view-count, view-cut, view-history, view-index, view-read}
-use Rattle.sequences.proofs.Asides.{aside-history, aside-stepping}
+use Rattle.sequences.proofs.Asides.{aside-history, aside-stepping, aside-uncut}
 
 -- ---- a sequence is a history
 
@@ -205,11 +204,20 @@ module _ (a : Aside) (g : asideGiven (a .other) ≡ true) where
   abbrev x : Called (Unit {0})
   x = asideResult (a .other) (a .outcomes) (a .room)
 
+  abbrev what : Asked
+  what = asideAsked (a .other) (a .outcomes) (a .room)
+
+  stepped : Stepping (Unit {0}) noChip tt x what (a .outcomes) (a .room)
+  stepped = aside-stepping (a .other) (a .outcomes) (a .room) g
+
   pub aside-count : x .count ≡ length (asideEntries a)
-  aside-count = step-count (Unit {0}) noChip tt x (asideAsked (a .other) (a .outcomes) (a .room)) (a .outcomes) (a .room) (aside-stepping (a .other) (a .outcomes) (a .room) g)
+  aside-count = step-count (Unit {0}) noChip tt x what (a .outcomes) (a .room) stepped
 
   pub aside-read : 0 < x .count → Parted (take (16 * x .count + 8) (x .room)) [] (asideEntries a)
-  aside-read = step-read (Unit {0}) noChip tt x (asideAsked (a .other) (a .outcomes) (a .room)) (a .outcomes) (a .room) (aside-stepping (a .other) (a .outcomes) (a .room) g) (omega arith)
+  aside-read = step-read (Unit {0}) noChip tt x what (a .outcomes) (a .room) stepped (omega arith)
 
   pub aside-index : (i : ℕ) → x .answer ≡ Stopped i → wentIn (asideEntries a) ≡ Failed i
-  aside-index = step-index (Unit {0}) noChip tt x (asideAsked (a .other) (a .outcomes) (a .room)) (a .outcomes) (a .room) (aside-stepping (a .other) (a .outcomes) (a .room) g)
+  aside-index = step-index (Unit {0}) noChip tt x what (a .outcomes) (a .room) stepped
+
+  pub aside-cut : (i : ℕ) → x .answer ≡ Stopped i → Cut i (asideEntries a) (asideEntries (asideUncut i a))
+  aside-cut i h = subst (Cut i (asideEntries a)) (aside-uncut i a) (step-cut (Unit {0}) noChip tt x what (a .outcomes) (a .room) stepped i h)

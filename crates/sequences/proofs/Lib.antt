@@ -1,3 +1,4 @@
+pub mod Beside
 pub mod Programs
 pub mod Views
 pub mod Ties

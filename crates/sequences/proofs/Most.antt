@@ -2,23 +2,23 @@
 -- Assumes nothing.
 use Prim.Native.Nat.{ℕ, _+_, _*_, _≤_}
 use mathlib.Core.Path.{_≡_, refl}
-use mathlib.Core.Bool.{Bool, true}
-use mathlib.Core.List.{List, [], _∷_}
+use mathlib.Core.List.{List, []}
 use native.Mathlib.Omega.{arith}
 use lib.Ieee.{binary32, ofBits}
+use lib.IntN.{pos}
 use lib.ListN.{length, replicate}
 use Rattle.board.specs.declared.PathRead.{PathRead}
 use Rattle.board.specs.declared.PathRead.the-variants as path-read
+use Rattle.board.specs.declared.Board.the-variants.{Generic}
 use Rattle.board.specs.Numbers.{pathOf}
+use Rattle.board.specs.Plans.{planOf}
 use Rattle.chip.specs.Calls.{lentOf}
 use Rattle.chip.specs.Steps.{run, step, trace}
-use Rattle.gain.specs.Product.{tenthsOf}
-use Rattle.gain.specs.Steps.{chosenOf, nearestIn, nearestOf}
 use Rattle.pll.specs.declared.Kind.{Kind}
 use Rattle.pll.specs.declared.Kind.the-variants.{R820T, R828D}
 use Rattle.pll.specs.Divide.{firstOf, inVco}
 use Rattle.pll.specs.Fraction.{turnOf, turnsOf}
-use Rattle.pll.specs.Plan.{planOf, planWith}
+use Rattle.pll.specs.Plan.{planOf as pllOf, planWith}
 use Rattle.pll.specs.Setting.{settingOf}
 use Rattle.status.specs.Reversal.{reversed}
 use Rattle.tuning.specs.Program.{innerSteps}
@@ -26,12 +26,20 @@ use Rattle.tuning.specs.Tries.{repairUpdates, triesFrom}
 use Rattle.r82xx.specs.declared.Tuner.{Tuner}
 use Rattle.r82xx.specs.Record.{freshTuner}
 use Rattle.r82xx.specs.Calls.{planFor}
+use Rattle.driver.specs.Record.{driver, xtalBy, xtalOf}
+use Rattle.driver.proofs.Lengths.{sample-rate-length}
+use Rattle.driver.specs.Programs.{ifFor}
 use Rattle.history.specs.Histories.{callEntries}
-use Rattle.sequences.specs.Calls.{Call, Order, askedOf, call, entries, most, pathAsked}
-use Rattle.sequences.specs.Calls.Order.{Initialize, Reload, Bandwidth, Middle, Gain, Index, Input, Tune, Quietly}
-use Rattle.sequences.specs.Asides.{Aside, asideAsked, asideEntries, asideMost}
+use Rattle.sequences.specs.Calls.{Call, Order, askedOf, boardAsked, call, entries, most, pathAsked}
+use Rattle.sequences.specs.Calls.Order.{Initialize, Reload, Bandwidth, IfFreq, Gain, GainIndex, InputPath, Tune, SampleRate, BoardPath, Quietly}
+use Rattle.sequences.specs.Asides.{Aside, Other, aside, asideAsked, asideEntries, asideMost}
+use Rattle.sequences.specs.Asides.Other.{Output, Bit, Baseband}
+use Rattle.reference.specs.Correct.{correctedOf}
 use Rattle.device.specs.Calls.{noChip}
-use Rattle.sequences.proofs.Programs.{path-length, tune-length}
+use Rattle.device.specs.Gpio.{bitSteps, outputSteps}
+use Rattle.fir.specs.Packing.{packOf}
+use Rattle.demod.specs.Programs.{ddcSteps, firSteps, ifSteps, initSteps, modeSteps, powerSteps, rateSteps, resetSteps, upward}
+use Rattle.sequences.proofs.Programs.{board-length, path-length, tune-length}
 use Rattle.sequences.proofs.Ties.{entries-most, none-entries}
 use Rattle.sequences.proofs.Asides.{aside-length}
 
@@ -40,18 +48,25 @@ path-most path-read.Refused kind t os room = omega arith
 path-most (path-read.Is path) R820T t os room = omega arith
 path-most (path-read.Is path) R828D t os room = omega (arith, path-length path)
 
+board-most : (p : PathRead) (rs : List ℕ) (t : Tuner) (os room : List ℕ) → length (boardAsked p rs t os room .steps) ≤ 10
+board-most path-read.Refused rs t os room = omega arith
+board-most (path-read.Is path) rs t os room = board-length (t .kind) path rs
+
 most-steps : (o : Order) (os room : List ℕ) (t : Tuner) → length (askedOf o os room t .steps) ≤ most o
 most-steps Initialize os room t = omega arith
 most-steps Reload os room t = omega arith
 most-steps (Bandwidth hz) os room t = omega arith
-most-steps (Middle hz) os room t = omega arith
+most-steps (IfFreq hz) os room t = omega arith
 most-steps (Gain db) os room t = omega arith
-most-steps (Index k) os room t = omega arith
-most-steps (Input path) os room t = path-most (pathOf path) (t .kind) t os room
+most-steps (GainIndex k) os room t = omega arith
+most-steps (InputPath path) os room t = path-most (pathOf path) (t .kind) t os room
 most-steps (Tune hz rs) os room t = tune-length (t .chip .address) (t .kind) (t .notch) (planFor t hz) hz rs
+most-steps (SampleRate rate d) os room t =
+    omega (arith, sample-rate-length (ifFor (t .ifreq) rate) rate (xtalOf d) (planOf (d .board) (d .frequency) .inverted))
+most-steps (BoardPath path rs) os room t = board-most (pathOf path) rs t os room
 most-steps (Quietly q) os room t = omega arith
 
--- "initialise 19, 0; tune 53, 35; gain 7, 0; bandwidth 3, 0; IF 4, 0; input path 4, 0; reload 9, 0; .. `set_ppm`, notch, `update_shadow` 0, 0"
+-- "initialise 19, 0; tune 53, 35; gain 7, 0; bandwidth 3, 0; IF 4, 0; input path 4, 0; reload 9, 0; .. sample rate 17, 0; board path 10, 3; .. `set_ppm`, notch, `update_shadow` 0, 0"
 pub most-entries : (k : Call) (t : Tuner) → length (entries k t) ≤ most (k .order)
 most-entries k t = entries-most (most (k .order)) (k .outcomes) (askedOf (k .order) (k .outcomes) (k .room) t) (t .chip) (most-steps (k .order) (k .outcomes) (k .room) t)
 
@@ -62,7 +77,7 @@ most-aside a =
     (omega (arith, aside-length (a .other) (a .outcomes) (a .room)))
 
 -- "(R820T: 0, 0)": whatever the path's number and whatever is lent
-pub most-plain : (path : ℕ) (os room : List ℕ) (t : Tuner) → t .kind ≡ R820T → entries (call (Input path) os room) t ≡ []
+pub most-plain : (path : ℕ) (os room : List ℕ) (t : Tuner) → t .kind ≡ R820T → entries (call (InputPath path) os room) t ≡ []
 most-plain path os room t h = go (pathOf path) (t .kind) h
   where
     go : (p : PathRead) (kind : Kind) → kind ≡ R820T → callEntries (pathAsked p kind t os room .number) os (pathAsked p kind t os room .steps) (t .chip) ≡ []
@@ -90,7 +105,7 @@ pub bandwidth-reached : length (entries (lent (Bandwidth 2_048_000)) fresh) ≡ 
 unfolding trace run step lentOf
 bandwidth-reached = refl
 
-pub if-reached : length (entries (lent (Middle 3_570_000)) fresh) ≡ most (Middle 3_570_000)
+pub if-reached : length (entries (lent (IfFreq 3_570_000)) fresh) ≡ most (IfFreq 3_570_000)
 unfolding trace run step lentOf
 if-reached = refl
 
@@ -98,15 +113,39 @@ pub gain-reached : length (entries (lent (Gain (ofBits binary32 0))) fresh) ≡ 
 unfolding trace run step lentOf
 gain-reached = refl
 
-pub index-reached : length (entries (lent (Index 28)) fresh) ≡ most (Index 28)
+pub index-reached : length (entries (lent (GainIndex 28)) fresh) ≡ most (GainIndex 28)
 unfolding trace run step lentOf
 index-reached = refl
 
-pub path-reached : length (entries (lent (Input 0)) fresh) ≡ most (Input 0)
+pub path-reached : length (entries (lent (InputPath 0)) fresh) ≡ most (InputPath 0)
 unfolding trace run step lentOf
 path-reached = refl
 
 -- no lock in ten tries, and the divider repaired: all replies are zero
 pub tune-reached : length (entries (lent (Tune 100_000_000 (replicate 35 0))) fresh) ≡ most (Tune 100_000_000 (replicate 35 0))
-unfolding trace run step lentOf inVco firstOf settingOf turnOf turnsOf planWith planOf innerSteps repairUpdates triesFrom reversed
+unfolding trace run step lentOf inVco firstOf settingOf turnOf turnsOf planWith pllOf innerSteps repairUpdates triesFrom reversed
 tune-reached = refl
+
+pub rate-reached : length (entries (lent (SampleRate 2_048_000 (driver Generic 28_800_000 (pos 0) 0 0))) fresh) ≡ most (SampleRate 2_048_000 (driver Generic 28_800_000 (pos 0) 0 0))
+unfolding trace run step lentOf xtalBy correctedOf resetSteps rateSteps ifSteps ddcSteps
+rate-reached = refl
+
+pub board-reached : length (entries (lent (BoardPath 0 (replicate 3 0))) fresh) ≡ most (BoardPath 0 (replicate 3 0))
+unfolding trace run step lentOf outputSteps bitSteps
+board-reached = refl
+
+-- and of those that touch no record
+abbrev lentAside : Other → Aside
+lentAside o = aside o (replicate (asideMost o) 0) (replicate (16 * asideMost o + 8) 0)
+
+pub baseband-reached : length (asideEntries (lentAside Baseband)) ≡ asideMost Baseband
+unfolding trace run step lentOf initSteps powerSteps upward firSteps packOf modeSteps
+baseband-reached = refl
+
+pub direction-reached : length (asideEntries (lentAside (Output 5 (replicate 2 0)))) ≡ asideMost (Output 5 (replicate 2 0))
+unfolding trace run step lentOf outputSteps
+direction-reached = refl
+
+pub bit-reached : length (asideEntries (lentAside (Bit 5 1 (replicate 1 0)))) ≡ asideMost (Bit 5 1 (replicate 1 0))
+unfolding trace run step lentOf bitSteps
+bit-reached = refl

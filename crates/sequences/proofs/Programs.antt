@@ -1,22 +1,23 @@
 -- The programs of the calls: every step of them passes crate `history`'s test, and how many steps they have. Assumes nothing.
 use Prim.Native.Nat.{ℕ, zero, suc, _+_, _-_, _*_, _≤_}
-use mathlib.Core.Path.{_≡_, refl, ap, _∙_}
-use mathlib.Core.Bool.{Bool, true, false, _&&_}
+use mathlib.Core.Path.{_≡_, refl}
+use mathlib.Core.Bool.{Bool, true, false}
 use mathlib.Core.List.{List, [], _∷_, _++_}
 use native.Mathlib.Omega.{arith}
 use borrow.Author.Tests.{leb-true, ne-eqb}
-use lib.Dec.{eqb, leb, ltb}
-use lib.ListN.{length, getD, take, drop, length-append, length-map}
+use lib.Dec.{eqb, ltb}
+use lib.ListN.{length, getD, take, drop, length-append}
 use lib.Seq.{sets, length-sets}
 use Rattle.transcript.specs.Entries.{zeros}
 use Rattle.board.specs.declared.Path.{Path}
 use Rattle.board.specs.declared.Path.the-variants.{Hf, Vhf, Uhf}
 use Rattle.chip.specs.declared.Update.{Update}
-use Rattle.chip.specs.Entries.{pointer, readEntry, wait, zeros8}
-use Rattle.chip.specs.Steps.{Step, allIn, behind, every, updateStep, updates}
+use Rattle.chip.specs.Entries.{wait, zeros8}
+use Rattle.chip.specs.Steps.{Step, allIn, behind, every, updates}
 use Rattle.chip.specs.Steps.Step.{Close, Plain}
 use Rattle.chip.proofs.Laws.{and-left}
 use Rattle.pll.specs.declared.Kind.{Kind}
+use Rattle.pll.specs.declared.Kind.the-variants.{R820T, R828D}
 use Rattle.pll.specs.declared.Plan.{Plan}
 use Rattle.pll.specs.declared.Pll.{Pll}
 use Rattle.pll.specs.declared.Pll.the-variants.{Planned, Refused}
@@ -25,12 +26,14 @@ use Rattle.tuning.specs.Tries.{afterTry, again, fineOf, locked, locksAt, powerO
 use Rattle.tuning.specs.Program.{innerSteps, pllSteps, tuneSteps}
 use Rattle.writes.specs.Lists.{bandwidthUpdates, gainUpdates, ifUpdates, initArray, initUpdates, pathUpdates}
 use Rattle.writes.specs.Programs.{initSteps, sendAll}
+use Rattle.device.specs.Gpio.{bitSteps, outputSteps}
+use Rattle.demod.specs.Programs.{ddcSteps, ifSteps, rateSteps, resetSteps}
+use Rattle.driver.specs.Programs.{anewSteps, boardPathSteps, filterSteps, levelFor, sampleRateSteps, tunerPath}
+use Rattle.driver.proofs.Lengths.{path-length-r820t, path-length-r828d}
 use Rattle.history.specs.Programs.{fine}
 use Rattle.history.proofs.Fine.{every-append, every-drop, fine-behind, fine-pointer, fine-read, fine-reload, fine-updates, fine-wait}
 use Rattle.sequences.specs.Calls.{isByte}
-
-and-in : (a b : Bool) → a ≡ true → b ≡ true → (a && b) ≡ true
-and-in a b h k = rw (h, k)
+use Rattle.sequences.proofs.Beside.{beside-bit, beside-ddc, beside-if, beside-output, beside-rate, beside-reset, fines}
 
 -- ---- masked writes, behind an open repeater
 
@@ -172,6 +175,30 @@ module _ (address : ℕ) (rs : List ℕ) (small : address ≤ 255) (bytes : ever
   pub fine-tune : (kind : Kind) (notch : Bool) (plan : Pll) (hz : ℕ) → every fine (tuneSteps address kind notch plan hz rs) ≡ true
   fine-tune kind notch plan hz = fine-behind (innerSteps address kind notch plan hz rs) (fine-inner kind notch plan hz)
 
+-- ---- the driver's two
+
+pub fine-rate : (hz rate xtal : ℕ) (inverted : Bool) → every fine (sampleRateSteps hz rate xtal inverted) ≡ true
+fine-rate hz rate xtal inverted =
+    every-append fine (filterSteps hz rate) (anewSteps hz rate xtal ++ ddcSteps inverted)
+    (every-append fine (behind (updates (ifUpdates hz))) (behind (updates (bandwidthUpdates rate))) (fine-bracket (ifUpdates hz) (if-in hz))
+    (fine-bracket (bandwidthUpdates rate) (bandwidth-in rate)))
+    (every-append fine (anewSteps hz rate xtal) (ddcSteps inverted)
+    (every-append fine resetSteps (rateSteps rate xtal ++ ifSteps hz xtal) (fines resetSteps beside-reset)
+    (every-append fine (rateSteps rate xtal) (ifSteps hz xtal) (fines (rateSteps rate xtal) (beside-rate rate xtal)) (fines (ifSteps hz xtal) (beside-if hz xtal))))
+    (fines (ddcSteps inverted) (beside-ddc inverted)))
+
+own-path : (kind : Kind) (path : Path) → every fine (tunerPath kind path) ≡ true
+unfolding every
+own-path R820T path = refl
+own-path R828D path = fine-bracket (pathUpdates path) (path-in path)
+
+pub fine-board : (kind : Kind) (path : Path) (rs : List ℕ) → every fine (boardPathSteps kind path rs) ≡ true
+fine-board kind path rs =
+    every-append fine (outputSteps 5 (getD rs 0 0) (getD rs 1 0)) (bitSteps 5 (levelFor path) (getD rs 2 0) ++ tunerPath kind path)
+    (fines (outputSteps 5 (getD rs 0 0) (getD rs 1 0)) (beside-output 5 (getD rs 0 0) (getD rs 1 0)))
+    (every-append fine (bitSteps 5 (levelFor path) (getD rs 2 0)) (tunerPath kind path)
+    (fines (bitSteps 5 (levelFor path) (getD rs 2 0)) (beside-bit 5 (levelFor path) (getD rs 2 0))) (own-path kind path))
+
 -- ---- how many steps
 
 again-length : (i : ℕ) → length (updates (again i)) ≤ 1 - i
@@ -221,3 +248,8 @@ pub path-length : (path : Path) → length (behind (updates (pathUpdates path)))
 path-length Hf = refl
 path-length Vhf = refl
 path-length Uhf = refl
+
+-- "board path 10"; on R820T 6
+pub board-length : (kind : Kind) (path : Path) (rs : List ℕ) → length (boardPathSteps kind path rs) ≤ 10
+board-length R820T path rs = omega (arith, path-length-r820t path rs)
+board-length R828D path rs = omega (arith, path-length-r828d path rs)

@@ -1,11 +1,11 @@
 -- A call by its contract is either a call of crate `chip` over the very program that its entries come of (`Stepping`), or takes no step (`Silent`). One case
 -- for each call; what follows goes by these two alone. Assumes nothing.
 use Prim.Native.Nat.{ℕ, _+_, _*_, _≤_}
-use mathlib.Core.Path.{_≡_, refl, ap, _∙_}
+use mathlib.Core.Path.{_≡_, refl}
 use mathlib.Core.Bool.{Bool, true, false, _&&_}
 use mathlib.Core.List.{List, [], _∷_}
 use native.Mathlib.Omega.{arith}
-use borrow.Author.Tests.{eqb-true}
+use borrow.Author.Tests.{eqb-false}
 use lib.Dec.{eqb, leb}
 use lib.Ieee.{binary32, toBits}
 use lib.IntN.{ℤ}
@@ -20,9 +20,9 @@ use Rattle.chip.specs.declared.Chip.{Chip}
 use Rattle.chip.specs.declared.Update.{Update}
 use Rattle.chip.specs.declared.Went.{Went}
 use Rattle.chip.specs.declared.Went.the-variants.{Going, Failed}
-use Rattle.chip.specs.Calls.{Called, callOf, called, lockedIn, pickCalled, triesIn}
+use Rattle.chip.specs.Calls.{Called, callOf, called, lentOf, lockedIn, performed, pickCalled, pickN, triesIn}
 use Rattle.chip.specs.Chips.{maskedByte, shadowed}
-use Rattle.chip.specs.Steps.{Step, Trace, allIn, behind, every, updateStep, updates}
+use Rattle.chip.specs.Steps.{Step, Trace, allIn, behind, every, trace, updateStep, updates}
 use Rattle.chip.specs.Steps.Step.{Close}
 use Rattle.gain.specs.Product.{gainOf}
 use Rattle.gain.specs.Steps.{chosenOf, clamped, stepAt}
@@ -38,15 +38,21 @@ use Rattle.writes.specs.Lists.{bandwidthUpdates, gainUpdates, ifUpdates, pathUp
 use Rattle.writes.specs.Programs.{initSteps, sendAll}
 use Rattle.r82xx.specs.declared.Tuner.{Tuner}
 use Rattle.r82xx.specs.Record.{endedBy, lockBy, pick, reloaded, sound, soundBy, withChip, withGain, withIf, withLock}
-use Rattle.r82xx.specs.Calls.{bandwidthCall, bracketCall, hzRefusal, ifCall, initCall, pathWith, planFor, ppmAnswer, refusalOf, reloadCall, shadowCall, soundAnswer, stepCall, tableOf, toldBy, tuneCall, wholeOf}
-use Rattle.r82xx.proofs.Refusals.{taken-by}
+use Rattle.r82xx.specs.Calls.{bandwidthCall, bracketCall, hzRefusal, ifCall, initCall, pathWith, planFor, ppmAnswer, reloadCall, shadowCall, soundAnswer, stepCall, tableOf, toldBy, tuneCall, wholeOf}
+use Rattle.board.specs.Plans.{planOf}
+use Rattle.driver.specs.declared.Driver.{Driver}
+use Rattle.driver.specs.Record.{soundDriver, xtalOf}
+use Rattle.driver.proofs.Lengths.{sample-rate-length}
+use Rattle.driver.specs.Programs.{boardPathSteps, ifFor, sampleRateSteps}
+use Rattle.driver.specs.Calls.{Both, boardPathWith, both, rateRefusal, ratedBy, refusalWith, retuned, sampleRateCall}
 use Rattle.history.specs.Programs.{fine}
 use Rattle.history.specs.Histories.{Alike, stops}
+use Rattle.history.proofs.Calls.{lent-room}
 use Rattle.history.proofs.Fine.{fine-reload}
-use Rattle.sequences.specs.Calls.{Asked, Order, Quiet, ask, askedOf, bracket, given, none, pathAsked, quietResult, resultOf}
-use Rattle.sequences.specs.Calls.Order.{Initialize, Reload, Bandwidth, Middle, Gain, Index, Input, Tune, Quietly}
-use Rattle.sequences.specs.Calls.Quiet.{Shadow, Ppm, Notch, GainTold, MiddleTold, TableTold}
-use Rattle.sequences.proofs.Programs.{bandwidth-in, fine-bracket, fine-init, fine-tune, gain-in, if-in, path-in, path-length, tune-length}
+use Rattle.sequences.specs.Calls.{Asked, Order, Quiet, askedOf, boardAsked, bracket, given, none, pathAsked, quietResult, resultOf, tunerOf}
+use Rattle.sequences.specs.Calls.Order.{Initialize, Reload, Bandwidth, IfFreq, Gain, GainIndex, InputPath, Tune, SampleRate, BoardPath, Quietly}
+use Rattle.sequences.specs.Calls.Quiet.{Shadow, Ppm, Notch, GainTold, IfTold, TableTold}
+use Rattle.sequences.proofs.Programs.{bandwidth-in, board-length, fine-board, fine-bracket, fine-init, fine-rate, fine-tune, gain-in, if-in, path-in, path-length, tune-length}
 
 pub record Stepping (R : Type 0) (c : Chip) (old : R) (x : Called R) (a : Asked) (os room : List ℕ) : Type 0 where
   pub whole : Answer
@@ -77,11 +83,17 @@ as-it-was c = record { chip = refl; attempted = refl; doubtful = refl }
 
 -- ---- calls with steps
 
--- a call that is not refused for what was lent has the room of its most entries, so that of its steps
-suffices : (t : Tuner) (argument n m : ℕ) (os rs room : List ℕ) (ss : List Step) → length ss ≤ n
-    → refusalOf t argument n m (length room) (length os) (length rs) ≡ 0 → 16 * length ss + 8 ≤ length room
-suffices t argument n m os rs room ss l e =
-    omega (arith, l, taken-by t argument n m (length room) (length os) (length rs) e .lent .rooms)
+-- a call that is not refused has the room of its most entries, so that of its steps
+suffices : (whole : Bool) (argument n m : ℕ) (os rs room : List ℕ) (ss : List Step) → length ss ≤ n
+    → refusalWith whole argument n m (length room) (length os) (length rs) ≡ 0 → 16 * length ss + 8 ≤ length room
+suffices whole argument n m os rs room ss l e =
+    omega (arith, l, lent-room n m (length room) (length os) (length rs) (go whole (eqb argument 0) refl e))
+  where
+    go : (w z : Bool) → eqb argument 0 ≡ z → pickN w (pickN z (lentOf n m (length room) (length os) (length rs)) argument) 1 ≡ 0
+        → lentOf n m (length room) (length os) (length rs) ≡ 0
+    go true true q h = h
+    go true false q h = absurd (eqb-false argument 0 q h)
+    go false z q h = absurd (omega arith)
 
 bracket-steps : (us : List Update) → length (behind (updates us)) ≡ length us + 2
 bracket-steps us = omega (arith, length-append (updates us) (Close ∷ []), length-map us updateStep)
@@ -100,7 +112,7 @@ module _ (t : Tuner) (os room : List ℕ) where
               named = s;
               good = fine-bracket us h;
               few = omega (arith, bracket-steps us);
-              roomy = suffices t 0 (n + 2) 0 os [] room (behind (updates us)) (omega (arith, bracket-steps us));
+              roomy = suffices (sound t) 0 (n + 2) 0 os [] room (behind (updates us)) (omega (arith, bracket-steps us));
             };
         alike = λ tr. as-it-was (tr .chip);
       }
@@ -117,7 +129,7 @@ module _ (t : Tuner) (os room : List ℕ) where
               named = refl;
               good = fine-init;
               few = omega arith;
-              roomy = suffices t 0 19 0 os [] room initSteps (omega arith);
+              roomy = suffices (sound t) 0 19 0 os [] room initSteps (omega arith);
             };
         alike = λ tr. as-it-was (tr .chip);
       }
@@ -138,7 +150,7 @@ module _ (t : Tuner) (os room : List ℕ) where
               named = refl;
               good = fine-reload (t .chip .attempted);
               few = omega arith;
-              roomy = suffices t 0 9 0 os [] room (sendAll (t .chip .attempted)) (omega arith);
+              roomy = suffices (sound t) 0 9 0 os [] room (sendAll (t .chip .attempted)) (omega arith);
             };
         alike = λ tr. reload-alike (tr .went) (tr .chip);
       }
@@ -163,7 +175,43 @@ module _ (t : Tuner) (os room : List ℕ) where
               good = fine-tune (t .chip .address) rs small g (t .kind) (t .notch) (planFor t hz) hz;
               few = omega (arith, few);
               roomy =
-                  suffices t (hzRefusal hz (t .ifreq)) 53 35 os rs room (tuneSteps (t .chip .address) (t .kind) (t .notch) (planFor t hz) hz rs) few;
+                  suffices (sound t) (hzRefusal hz (t .ifreq)) 53 35 os rs room (tuneSteps (t .chip .address) (t .kind) (t .notch) (planFor t hz) hz rs) few;
+            };
+        alike = λ tr. as-it-was (tr .chip);
+      }
+
+  -- of a call on both records, the tuner's part is a call on the tuner's
+  tuner-part : (number : ℕ) (whole : Answer) (ss : List Step) (keep : Trace → Both) (d : Driver)
+      → tunerOf (callOf number whole os ss (t .chip) keep (both t d) room) ≡ callOf number whole os ss (t .chip) (λ tr. keep tr .tuner) t room
+  unfolding callOf
+  tuner-part number whole ss keep d = go (eqb number 0)
+    where
+      go : (b : Bool)
+          → tunerOf (pickCalled b (performed whole keep room (trace os ss (t .chip))) (called (both t d) room 0 (Refused number)))
+          ≡ pickCalled b (performed whole (λ tr. keep tr .tuner) room (trace os ss (t .chip))) (called t room 0 (Refused number))
+      go true = refl
+      go false = refl
+
+  rate-view : (rate : ℕ) (d : Driver) → Moving t (tunerOf (sampleRateCall os rate t d room)) (askedOf (SampleRate rate d) os room t) os room
+  unfolding sampleRateCall
+  rate-view rate d =
+      let hz : ℕ = ifFor (t .ifreq) rate in
+      let inverted : Bool = planOf (d .board) (d .frequency) .inverted in
+      let long : length (sampleRateSteps hz rate (xtalOf d) inverted) ≡ 17 = sample-rate-length hz rate (xtalOf d) inverted in
+      record {
+        steps =
+            record {
+              whole = Done 0;
+              keep = λ tr. retuned t (ifFor (t .ifreq) rate) (tr .chip);
+              same =
+                  tuner-part (askedOf (SampleRate rate d) os room t .number) (Done 0) (askedOf (SampleRate rate d) os room t .steps)
+                  (λ tr. both (retuned t (ifFor (t .ifreq) rate) (tr .chip)) (ratedBy d rate (tr .went))) d;
+              named = refl;
+              good = fine-rate hz rate (xtalOf d) inverted;
+              few = omega (arith, long);
+              roomy =
+                  suffices (sound t && soundDriver d) (rateRefusal rate) 17 0 os [] room (sampleRateSteps hz rate (xtalOf d) inverted)
+                  (omega (arith, long));
             };
         alike = λ tr. as-it-was (tr .chip);
       }
@@ -202,9 +250,6 @@ shadow-silent : (register value mask : ℕ) (t : Tuner) → Silent t (shadowCall
 unfolding shadowCall
 shadow-silent register value mask t = go (sound t) (leb 5 register && leb register 31)
   where
-    byte : ℕ
-    byte = maskedByte (t .chip) register value mask
-
     go : (s r : Bool)
         → Silent t
         (pickCalled s
@@ -223,7 +268,7 @@ quiet-silent (Notch on) t =
     record { nothing = refl; count = refl; named = sound-named (t .nominal) (t .corrected) 0; alike = as-it-was (t .chip) }
 quiet-silent GainTold t =
     kept-silent t [] (soundAnswer (t .nominal) (t .corrected) (toBits binary32 (t .gain))) (sound-named (t .nominal) (t .corrected) (toBits binary32 (t .gain)))
-quiet-silent MiddleTold t =
+quiet-silent IfTold t =
     kept-silent t [] (soundAnswer (t .nominal) (t .corrected) (t .ifreq)) (sound-named (t .nominal) (t .corrected) (t .ifreq))
 quiet-silent TableTold t = kept-silent t [] (tableOf (t .nominal) (t .corrected) .answer) (table-named (t .nominal) (t .corrected))
 
@@ -239,6 +284,25 @@ path-view (path-read.Is path) R820T os room t = silent (kept-silent t room (pick
 path-view (path-read.Is path) R828D os room t =
     moving (bracket-view t os room t t (Done 0) (pathUpdates path) 2 refl (path-in path) (path-two path) (omega arith))
 
+board-view : (p : PathRead) (rs os room : List ℕ) (t : Tuner) → View t (boardPathWith p os rs t room) (boardAsked p rs t os room) os room
+unfolding boardPathWith
+board-view path-read.Refused rs os room t = silent (kept-silent t room (Refused 1) refl)
+board-view (path-read.Is path) rs os room t =
+    moving
+    record {
+      steps =
+          record {
+            whole = Done 0;
+            keep = λ tr. withChip t (tr .chip);
+            same = refl;
+            named = refl;
+            good = fine-board (t .kind) path rs;
+            few = omega (arith, board-length (t .kind) path rs);
+            roomy = suffices (sound t) 0 10 3 os rs room (boardPathSteps (t .kind) path rs) (board-length (t .kind) path rs);
+          };
+      alike = λ tr. as-it-was (tr .chip);
+    }
+
 step-view : (k : ℕ) (os room : List ℕ) (t : Tuner) → Moving t (stepCall os k t room) (bracket 5 (gainUpdates k) t os room) os room
 unfolding stepCall
 step-view k os room t =
@@ -250,10 +314,12 @@ view Initialize os room t g small = moving (init-view t os room)
 view Reload os room t g small = moving (reload-view t os room)
 view (Bandwidth hz) os room t g small =
     moving (bracket-view t os room t t (Done 0) (bandwidthUpdates hz) 1 refl (bandwidth-in hz) refl (omega arith))
-view (Middle hz) os room t g small =
+view (IfFreq hz) os room t g small =
     moving (bracket-view t os room (withIf t hz) (withIf t hz) (Done 0) (ifUpdates hz) 2 refl (if-in hz) refl (omega arith))
 view (Gain db) os room t g small = moving (step-view (chosenOf db) os room t)
-view (Index k) os room t g small = moving (step-view (clamped k) os room t)
-view (Input path) os room t g small = path-view (pathOf path) (t .kind) os room t
+view (GainIndex k) os room t g small = moving (step-view (clamped k) os room t)
+view (InputPath path) os room t g small = path-view (pathOf path) (t .kind) os room t
 view (Tune hz rs) os room t g small = moving (tune-view t os room hz rs g small)
+view (SampleRate rate d) os room t g small = moving (rate-view t os room rate d)
+view (BoardPath path rs) os room t g small = board-view (pathOf path) rs os room t
 view (Quietly q) os room t g small = silent (quiet-silent q t)

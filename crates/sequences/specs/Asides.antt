@@ -26,8 +26,8 @@ pub data Other : Type 0 where
   Direct : (page register value : ℕ) → Other
   Start : Other
   Stop : Other
-  Offset : (hz xtal : ℕ) → Other
-  Ratio : (rate xtal : ℕ) → Other
+  IfXtal : (hz xtal : ℕ) → Other
+  RateXtal : (rate xtal : ℕ) → Other
 
 pub record Aside : Type 0 where
   pub other : Other
@@ -48,8 +48,8 @@ asideResult Reset os room = demod-call.resetCall os room
 asideResult (Direct page register value) os room = demod-call.directCall page register value os room
 asideResult Start os room = demod-call.startCall os room
 asideResult Stop os room = demod-call.stopCall os room
-asideResult (Offset hz xtal) os room = demod-call.ifCall hz xtal os room
-asideResult (Ratio rate xtal) os room = demod-call.rateCall rate xtal os room
+asideResult (IfXtal hz xtal) os room = demod-call.ifCall hz xtal os room
+asideResult (RateXtal rate xtal) os room = demod-call.rateCall rate xtal os room
 
 -- the number that refuses it before any step, and its program
 abbrev pub plainly : ℕ → List Step → List ℕ → List ℕ → Asked
@@ -67,9 +67,9 @@ asideAsked Reset os room = plainly 2 demod.resetSteps os room
 asideAsked (Direct page register value) os room = plainly 1 (demod.directSteps page register value) os room
 asideAsked Start os room = plainly 2 demod.startSteps os room
 asideAsked Stop os room = plainly 2 demod.stopSteps os room
-asideAsked (Offset hz xtal) os room =
+asideAsked (IfXtal hz xtal) os room =
     ask (pickN (eqb xtal 0) 4 (lentOf 3 0 (length room) (length os) 0)) (demod.ifSteps hz xtal)
-asideAsked (Ratio rate xtal) os room =
+asideAsked (RateXtal rate xtal) os room =
     ask (pickN (eqb rate 0) 3 (pickN (eqb xtal 0) 4 (lentOf 4 0 (length room) (length os) 0))) (demod.rateSteps rate xtal)
 
 abbrev pub asideEntriesOf : Asked → List ℕ → List Entry
@@ -77,6 +77,10 @@ asideEntriesOf a os = callEntries (a .number) os (a .steps) noChip
 
 abbrev pub asideEntries : Aside → List Entry
 asideEntries a = asideEntriesOf (asideAsked (a .other) (a .outcomes) (a .room)) (a .outcomes)
+
+-- "the uncut call is the one with the failing step done and all other outcomes and replies equal"
+abbrev pub asideUncut : ℕ → Aside → Aside
+asideUncut i a = aside (a .other) (set (a .outcomes) i 0) (a .room)
 
 -- "baseband 45, 0", "GPIO direction 4, 2; GPIO bit 2, 1"; "Other `src/demod.rs` calls need as many entries as they make interface calls"
 abbrev pub asideMost : Other → ℕ
@@ -89,8 +93,8 @@ asideMost Reset = 2
 asideMost (Direct page register value) = 1
 asideMost Start = 2
 asideMost Stop = 2
-asideMost (Offset hz xtal) = 3
-asideMost (Ratio rate xtal) = 4
+asideMost (IfXtal hz xtal) = 3
+asideMost (RateXtal rate xtal) = 4
 
 -- what is asked of their numbers: a page is a byte and a register a u16
 abbrev pub asideGiven : Other → Bool
@@ -103,5 +107,5 @@ asideGiven Reset = true
 asideGiven (Direct page register value) = leb page 255 && leb register 65535
 asideGiven Start = true
 asideGiven Stop = true
-asideGiven (Offset hz xtal) = true
-asideGiven (Ratio rate xtal) = true
+asideGiven (IfXtal hz xtal) = true
+asideGiven (RateXtal rate xtal) = true

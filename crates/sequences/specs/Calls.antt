@@ -1,8 +1,8 @@
 -- Every call that takes or hands back a tuner record, with any arguments, outcomes, replies and room: what it leaves is its contract's definition of
--- crate `r82xx`, and its entries are those of the program in that definition. Document 01, "Transcript and script", "The record".
+-- crate `r82xx` or `driver`, and its entries are those of the program in that definition. Document 01, "Transcript and script", "The record".
 -- Assumes nothing.
 use Prim.Native.Nat.{ℕ, _+_}
-use mathlib.Core.Bool.{Bool, true}
+use mathlib.Core.Bool.{Bool, true, _&&_}
 use mathlib.Core.List.{List, []}
 use lib.Dec.{leb}
 use lib.Ieee.{Float, binary32, toBits}
@@ -12,7 +12,7 @@ use Rattle.transcript.specs.declared.Entry.{Entry}
 use Rattle.board.specs.declared.PathRead.{PathRead}
 use Rattle.board.specs.declared.PathRead.the-variants as path-read
 use Rattle.board.specs.Numbers.{pathOf}
-use Rattle.chip.specs.declared.Chip.{Chip}
+use Rattle.board.specs.Plans.{planOf}
 use Rattle.chip.specs.declared.Update.{Update}
 use Rattle.chip.specs.Calls.{Called, called}
 use Rattle.chip.specs.Steps.{Step, behind, every, updates}
@@ -23,8 +23,12 @@ use Rattle.tuning.specs.Program.{tuneSteps}
 use Rattle.writes.specs.Lists.{bandwidthUpdates, gainUpdates, ifUpdates, pathUpdates}
 use Rattle.writes.specs.Programs.{initSteps, sendAll}
 use Rattle.r82xx.specs.declared.Tuner.{Tuner}
-use Rattle.r82xx.specs.Record.{withCorrected, withNotch}
+use Rattle.r82xx.specs.Record.{sound, withCorrected, withNotch}
 use Rattle.r82xx.specs.Calls.{bandwidthCall, gainCall, hzRefusal, ifCall, indexCall, initCall, keptNotch, keptPpm, pathCall, planFor, ppmAnswer, refusalOf, reloadCall, shadowCall, soundAnswer, tableOf, tuneCall}
+use Rattle.driver.specs.declared.Driver.{Driver}
+use Rattle.driver.specs.Record.{soundDriver, xtalOf}
+use Rattle.driver.specs.Programs.{boardPathSteps, ifFor, sampleRateSteps}
+use Rattle.driver.specs.Calls.{Both, boardPathCall, rateRefusal, refusalWith, sampleRateCall}
 use Rattle.history.specs.Histories.{callEntries}
 
 -- calls that take no step: "`set_ppm`, notch, `update_shadow` 0, 0 (0 entries: no lent memory, no section)", and the three that only tell
@@ -33,19 +37,22 @@ pub data Quiet : Type 0 where
   Ppm : (ppm : ℤ) → Quiet
   Notch : (on : Bool) → Quiet
   GainTold : Quiet
-  MiddleTold : Quiet
+  IfTold : Quiet
   TableTold : Quiet
 
--- what is called, with its arguments; rs are a tuning's replies
+-- what is called, with its arguments; rs are the replies. `set_sample_rate` takes a driver's record too: any, so that nothing hangs on where it
+-- comes from
 pub data Order : Type 0 where
   Initialize : Order
   Reload : Order
   Bandwidth : (hz : ℕ) → Order
-  Middle : (hz : ℕ) → Order
+  IfFreq : (hz : ℕ) → Order
   Gain : (db : Float) → Order
-  Index : (k : ℕ) → Order
-  Input : (path : ℕ) → Order
+  GainIndex : (k : ℕ) → Order
+  InputPath : (path : ℕ) → Order
   Tune : (hz : ℕ) (rs : List ℕ) → Order
+  SampleRate : (rate : ℕ) (d : Driver) → Order
+  BoardPath : (path : ℕ) (rs : List ℕ) → Order
   Quietly : (q : Quiet) → Order
 
 -- a call: what is called, and the outcomes and the room that are lent to it (a quiet one looks at neither)
@@ -66,18 +73,24 @@ quietResult (Ppm ppm) t =
 quietResult (Notch on) t =
     called (withNotch t (keptNotch (t .nominal) (t .corrected) (t .notch) on)) [] 0 (soundAnswer (t .nominal) (t .corrected) 0)
 quietResult GainTold t = called t [] 0 (soundAnswer (t .nominal) (t .corrected) (toBits binary32 (t .gain)))
-quietResult MiddleTold t = called t [] 0 (soundAnswer (t .nominal) (t .corrected) (t .ifreq))
+quietResult IfTold t = called t [] 0 (soundAnswer (t .nominal) (t .corrected) (t .ifreq))
 quietResult TableTold t = called t [] 0 (tableOf (t .nominal) (t .corrected) .answer)
+
+-- "`set_sample_rate` takes both records": what it leaves of the tuner's
+abbrev pub tunerOf : Called Both → Called Tuner
+tunerOf x = called (x .next .tuner) (x .room) (x .count) (x .answer)
 
 abbrev pub resultOf : Order → List ℕ → List ℕ → Tuner → Called Tuner
 resultOf Initialize os room t = initCall os t room
 resultOf Reload os room t = reloadCall os t room
 resultOf (Bandwidth hz) os room t = bandwidthCall os hz t room
-resultOf (Middle hz) os room t = ifCall os hz t room
+resultOf (IfFreq hz) os room t = ifCall os hz t room
 resultOf (Gain db) os room t = gainCall os db t room
-resultOf (Index k) os room t = indexCall os k t room
-resultOf (Input path) os room t = pathCall os path t room
+resultOf (GainIndex k) os room t = indexCall os k t room
+resultOf (InputPath path) os room t = pathCall os path t room
 resultOf (Tune hz rs) os room t = tuneCall os rs hz t room
+resultOf (SampleRate rate d) os room t = tunerOf (sampleRateCall os rate t d room)
+resultOf (BoardPath path rs) os room t = boardPathCall os rs path t room
 resultOf (Quietly q) os room t = quietResult q t
 
 abbrev pub result : Call → Tuner → Called Tuner
@@ -111,17 +124,27 @@ pathAsked path-read.Refused kind t os room = none
 pathAsked (path-read.Is path) R820T t os room = none
 pathAsked (path-read.Is path) R828D t os room = bracket 2 (pathUpdates path) t os room
 
+-- "board path 10, 3", on R820T too
+abbrev pub boardAsked : PathRead → List ℕ → Tuner → List ℕ → List ℕ → Asked
+boardAsked path-read.Refused rs t os room = none
+boardAsked (path-read.Is path) rs t os room =
+    ask (refusalWith (sound t) 0 10 3 (length room) (length os) (length rs)) (boardPathSteps (t .kind) path rs)
+
 abbrev pub askedOf : Order → List ℕ → List ℕ → Tuner → Asked
 askedOf Initialize os room t = ask (refusalOf t 0 19 0 (length room) (length os) 0) initSteps
 askedOf Reload os room t = ask (refusalOf t 0 9 0 (length room) (length os) 0) (sendAll (t .chip .attempted))
 askedOf (Bandwidth hz) os room t = bracket 1 (bandwidthUpdates hz) t os room
-askedOf (Middle hz) os room t = bracket 2 (ifUpdates hz) t os room
+askedOf (IfFreq hz) os room t = bracket 2 (ifUpdates hz) t os room
 askedOf (Gain db) os room t = bracket 5 (gainUpdates (chosenOf db)) t os room
-askedOf (Index k) os room t = bracket 5 (gainUpdates (clamped k)) t os room
-askedOf (Input path) os room t = pathAsked (pathOf path) (t .kind) t os room
+askedOf (GainIndex k) os room t = bracket 5 (gainUpdates (clamped k)) t os room
+askedOf (InputPath path) os room t = pathAsked (pathOf path) (t .kind) t os room
 askedOf (Tune hz rs) os room t =
     ask (refusalOf t (hzRefusal hz (t .ifreq)) 53 35 (length room) (length os) (length rs))
     (tuneSteps (t .chip .address) (t .kind) (t .notch) (planFor t hz) hz rs)
+askedOf (SampleRate rate d) os room t =
+    ask (refusalWith (sound t && soundDriver d) (rateRefusal rate) 17 0 (length room) (length os) 0)
+    (sampleRateSteps (ifFor (t .ifreq) rate) rate (xtalOf d) (planOf (d .board) (d .frequency) .inverted))
+askedOf (BoardPath path rs) os room t = boardAsked (pathOf path) rs t os room
 askedOf (Quietly q) os room t = none
 
 abbrev pub asked : Call → Tuner → Asked
@@ -140,24 +163,28 @@ abbrev pub most : Order → ℕ
 most Initialize = 19
 most Reload = 9
 most (Bandwidth hz) = 3
-most (Middle hz) = 4
+most (IfFreq hz) = 4
 most (Gain db) = 7
-most (Index k) = 7
-most (Input path) = 4
+most (GainIndex k) = 7
+most (InputPath path) = 4
 most (Tune hz rs) = 53
+most (SampleRate rate d) = 17
+most (BoardPath path rs) = 10
 most (Quietly q) = 0
 
 abbrev pub isByte : ℕ → Bool
 isByte b = leb b 255
 
--- what is asked of a call's numbers: replies are bytes. Nothing else, so that any numbers of the code's types are among them
+-- what is asked of a call's numbers: a tuning's replies are bytes. Nothing else, so that any numbers of the code's types are among them
 abbrev pub given : Order → Bool
 given Initialize = true
 given Reload = true
 given (Bandwidth hz) = true
-given (Middle hz) = true
+given (IfFreq hz) = true
 given (Gain db) = true
-given (Index k) = true
-given (Input path) = true
+given (GainIndex k) = true
+given (InputPath path) = true
 given (Tune hz rs) = every isByte rs
+given (SampleRate rate d) = true
+given (BoardPath path rs) = true
 given (Quietly q) = true
