@@ -165,3 +165,19 @@ module _ {L : Type 0} (put : L → ℕ → Entry → L) (os : List ℕ) where
   -- a write whose bytes were worked out apart
   pub by-bytes : (n : ℕ) (xs ys : List ℕ) (w v : Line L) → xs ≡ ys → v ≡ step put os (Send n xs) w → v ≡ step put os (Send n ys) w
   by-bytes n xs ys w v e h = h ∙ ap (λ (l : List ℕ). step put os (Send n l) w) e
+
+  pub closing-closing : (w : Line L) → closing put os (closing put os w) ≡ closing put os w
+  closing-closing w = go (goes (w .went)) refl
+    where
+      go : (g : Bool) → goes (w .went) ≡ g → closing put os (closing put os w) ≡ closing put os w
+      go true e = ap (closing put os) (closing-going w e)
+      go false e =
+          ap (closing put os) (closing-stopped w e)
+          ∙ closing-stopped (step put os Close w) (ap goes (close-went w) ∙ e)
+          ∙ close-close w
+          ∙ sym (closing-stopped w e)
+
+  -- the same part law, from what two pieces of code have done
+  pub parts : (xs ys : List Step) (w x y : Line L) → every inner ys ≡ true → x ≡ closing put os (run put os xs w) → y ≡ closing put os (run put os ys x)
+      → y ≡ closing put os (run put os (xs ++ ys) w)
+  parts xs ys w x y i p q = q ∙ ap (λ (v : Line L). closing put os (run put os ys v)) p ∙ part xs ys w i

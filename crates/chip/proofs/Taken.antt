@@ -6,7 +6,7 @@ use mathlib.Core.Bool.{Bool, true, false, not, _&&_, _||_, or-false}
 use mathlib.Core.List.{List, [], _∷_, _++_}
 use native.Mathlib.Omega.{arith}
 use native.Mathlib.Numerals.{add-one}
-use borrow.Author.Tests.{eqb-true}
+use borrow.Author.Tests.{eq-eqb, eqb-true, ne-eqb}
 use lib.Dec.{eqb}
 use lib.ListN.{length, length-append}
 use lib.Seq.{sets}
@@ -15,6 +15,7 @@ use Rattle.transcript.specs.Entries.{Eight, Eights, entryBytes}
 use Rattle.transcript.specs.Sections.{entriesBytes, sectionBytes, trailerBytes}
 use Rattle.transcript.proofs.Laid.{eights-append, entry-next, section-laid}
 use Rattle.chip.specs.declared.Answer.{Answer}
+use Rattle.chip.specs.declared.Answer.the-variants.{Refused}
 use Rattle.chip.specs.declared.Chip.{Chip}
 use Rattle.chip.specs.declared.Flow.{Flow}
 use Rattle.chip.specs.declared.Seen.{Seen}
@@ -23,7 +24,7 @@ use Rattle.chip.specs.declared.Went.the-variants.{Going, Failed}
 use Rattle.chip.specs.Entries.{isTry, lockBit, look, pickBytes, pickSeen, settled, unseen, zeros8}
 use Rattle.chip.specs.Steps.{Step, Line, Logged, Trace, acts, after, eight, emit, every, heldFor, inList, inRoom, line, logged, okFor, onRoom, run, step, taken, trace, wentFor}
 use Rattle.chip.specs.Steps.Step.{Open, Close, Send, Mask, Plain}
-use Rattle.chip.specs.Calls.{Called, answerOf, called, laidOut, lockedIn, pickN, performed, sealed, seenFrom, triesIn}
+use Rattle.chip.specs.Calls.{Called, answerOf, callOf, called, laidOut, lockedIn, pickN, performed, sealed, seenFrom, triesIn}
 use Rattle.chip.proofs.Laws.{active, and-left, and-right, idle}
 
 or-assoc : (a b c : Bool) → ((a || b) || c) ≡ (a || (b || c))
@@ -142,6 +143,17 @@ module _ (os : List ℕ) where
         p ∙ (λ i. sealed (out i) (count i)) ∙ section-laid room (t .log) (kept-trace ss c h .eights) in
         let told : answer ≡ answerOf whole (t .went) = q ∙ ap (answerOf whole) went in
         λ i. called (same i) (full i) (count i) (told i)
+
+-- a call refused by a number other than 0; a call that is performed
+pub refuses : {R : Type 0} (number : ℕ) (whole : Answer) (os : List ℕ) (ss : List Step) (c : Chip) (keep : Trace → R) (old : R) (room : List ℕ)
+    → (number ≡ 0 → ⊥) → called old room 0 (Refused number) ≡ callOf number whole os ss c keep old room
+unfolding callOf
+refuses number whole os ss c keep old room h = rw (ne-eqb number 0 h)
+
+pub performs : {R : Type 0} (number : ℕ) (whole : Answer) (os : List ℕ) (ss : List Step) (c : Chip) (keep : Trace → R) (old : R) (room : List ℕ)
+    → number ≡ 0 → performed whole keep room (trace os ss c) ≡ callOf number whole os ss c keep old room
+unfolding callOf
+performs number whole os ss c keep old room h = rw (eq-eqb number 0 h)
 
 -- one entry of the count below: it is a try or not
 counted-one : (s : Seen) (e : Entry) (es : List Entry) (b : Bool) → isTry e ≡ b → s .tries + suc (length es) < 2 ^ 64

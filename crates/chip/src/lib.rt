@@ -478,6 +478,30 @@ pub fn plain_all(f: Flow, es: [Entry; 10], n: usize, outcomes: &[u8], room: &mut
     f
 }
 
+// The same behind an open repeater: a failed step closes it.
+pub fn plain_part(f: Flow, es: [Entry; 3], n: usize, outcomes: &[u8], room: &mut [u8]) -> Flow
+    requires { ⌜ (n ≤ 3) × (f .count + n + due (f .held) ≤ length (now outcomes)) × (16 * (f .count + n + due (f .held)) ≤ length (now room)) ⌝ }
+    ensures { λ r. ⌜ onRoom r (now (room .exit))
+        ≡ closing inRoom (now (outcomes .entry)) (run inRoom (now (outcomes .entry)) (map Plain (take n es)) (onRoom f (now (room .entry)))) ⌝ }
+    ensures bounds { λ r. ⌜ r .count + due (r .held) ≤ f .count + n + due (f .held) ⌝ }
+{
+    let mut f = f;
+    let went = f.went;
+    let Went::Going = went else {
+        return close_repeater(f, outcomes, room);
+    };
+    let mut i = 0;
+    while i < n {
+        f = plain(f, es[i], outcomes, room);
+        let went = f.went;
+        let Went::Going = went else {
+            return close_repeater(f, outcomes, room);
+        };
+        i += 1;
+    }
+    f
+}
+
 // Which lent slice is too short for a call of at most n entries and m replies: 8, 9, 10, or 0 where all suffice.
 pub fn lent(n: usize, m: usize, room: usize, outcomes: usize, replies: usize) -> u8
     requires { ⌜ n ≤ 4096 ⌝ }

@@ -1,0 +1,4 @@
+pub mod Named
+pub mod Played
+pub mod Doubt
+pub mod Worked

@@ -1,0 +1,5 @@
+pub mod Upward
+pub mod Baseband
+pub mod Lengths
+pub mod Worked
+pub mod Fits

@@ -1,0 +1,28 @@
+-- Document 01's worked numbers, as the entries that carry them: "IF 3,570,000 at 28,800,000: 38 11 12", "Rate 2,048,000: 0x03840000. Rate
+-- 225,000: 0", and `FIR_DEFAULT`'s twenty bytes. Assumes nothing.
+use mathlib.Core.Path.{_≡_, refl}
+use mathlib.Core.List.{List, [], _∷_}
+use Rattle.chip.specs.Steps.Step.{Plain}
+use Rattle.device.specs.Accesses.{demodWrite, demodWrite16}
+use Rattle.fir.specs.Packing.{packOf}
+use Rattle.registers.specs.Rates.{sentOf}
+use Rattle.demod.specs.Programs.{firSteps, ifSteps, rateSteps, upward}
+
+pub if-worked : ifSteps 3_570_000 28_800_000 ≡ Plain (demodWrite 1 0x19 0x38) ∷ Plain (demodWrite 1 0x1a 0x11) ∷ Plain (demodWrite 1 0x1b 0x12) ∷ []
+unfolding ifSteps
+if-worked = refl
+
+pub rate-worked : rateSteps 2_048_000 28_800_000
+    ≡ Plain (demodWrite16 1 0x9f 0x0384) ∷ Plain (demodWrite16 1 0xa1 0x0000) ∷ Plain (demodWrite 1 0x3f 0) ∷ Plain (demodWrite 1 0x3e 0) ∷ []
+unfolding rateSteps sentOf
+rate-worked = refl
+
+pub rate-cut : rateSteps 225_000 28_800_000
+    ≡ Plain (demodWrite16 1 0x9f 0) ∷ Plain (demodWrite16 1 0xa1 0) ∷ Plain (demodWrite 1 0x3f 0) ∷ Plain (demodWrite 1 0x3e 0) ∷ []
+unfolding rateSteps sentOf
+rate-cut = refl
+
+pub fir-worked : firSteps
+    ≡ upward 0x1c (0xca ∷ 0xdc ∷ 0xd7 ∷ 0xd8 ∷ 0xe0 ∷ 0xf2 ∷ 0x0e ∷ 0x35 ∷ 0x06 ∷ 0x50 ∷ 0x9c ∷ 0x0d ∷ 0x71 ∷ 0x11 ∷ 0x14 ∷ 0x71 ∷ 0x74 ∷ 0x19 ∷ 0x41 ∷ 0xa5 ∷ [])
+unfolding firSteps packOf
+fir-worked = refl

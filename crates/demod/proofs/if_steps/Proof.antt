@@ -1,0 +1,25 @@
+-- `demod::if_steps` meets its contract. Assumes nothing.
+use Rattle.chip.specs.Steps.{inRoom}
+use Rattle.device.proofs.Programs.{by-program}
+use borrow.Author.Needs.{needs}
+use Rattle.demod.proofs.if_steps.Statement.{statement}
+use Rattle.demod.proofs.if_steps.Tie as tie
+use Rattle.demod.proofs.if_steps.Reads as reads
+use Rattle.demod.proofs.if_steps.Lts as lts
+use Rattle.demod.proofs.if_rows.Reads as if-rows-reads
+use Rattle.device.proofs.access_all.Reads as access-all-reads
+
+if-rows-requires : tie.Need-if-rows-requires
+if-rows-requires c κs = search needs
+
+access-all-requires : tie.Need-access-all-requires
+access-all-requires c κs = search needs
+
+same-length : tie.Need-same-length
+same-length c = search needs
+
+returns : tie.Need-returns
+returns c = (by-program inRoom _ _ _ _ _ (c .before .before .before .before .if-rows .ensures) (c .before .before .access-all .ensures .0), search needs)
+
+pub if-steps-spec : {M : Type 1} → statement M
+if-steps-spec = tie.close (tie.spec if-rows-requires access-all-requires same-length returns)

@@ -1,0 +1,33 @@
+-- `demod::set_if_freq_xtal` meets its contract: refused for reference 0, or the call. Assumes nothing.
+use native.Mathlib.Omega.{arith}
+use borrow.Author.Tests.{eq-eqb, ne-eqb}
+use Rattle.device.proofs.Free.{argument-bad, argument-good}
+use Rattle.demod.specs.Calls.{ifCall}
+use borrow.Author.Needs.{needs}
+use Rattle.demod.proofs.set_if_freq_xtal.Statement.{statement}
+use Rattle.demod.proofs.set_if_freq_xtal.Tie as tie
+use Rattle.demod.proofs.set_if_freq_xtal.Reads as reads
+use Rattle.demod.proofs.set_if_freq_xtal.Lts as lts
+use Rattle.demod.proofs.if_rows.Reads as if-rows-reads
+use Rattle.device.proofs.perform.Reads as perform-reads
+
+returns : tie.Need-returns
+unfolding ifCall
+returns c = argument-bad _ _ _ _ _ _ (eq-eqb _ _ (c .if1 .taken)) (λ e. omega arith)
+
+if-rows-requires : tie.Need-if-rows-requires
+if-rows-requires c κs = search needs
+
+perform-requires : tie.Need-perform-requires
+perform-requires c κs = search needs
+
+same-length : tie.Need-same-length
+same-length c = search needs
+
+returns-2 : tie.Need-returns-2
+unfolding ifCall
+returns-2 c = argument-good _ _ _ _ _ _ _ _ (ne-eqb _ _ (c .before .before .before .before .before .if1 .left)) (c .before .before .before .before .if-rows .ensures) (c .before .before .perform .ensures)
+
+pub set-if-freq-xtal-spec : {M : Type 1} → statement M
+set-if-freq-xtal-spec =
+    tie.close (tie.spec returns if-rows-requires perform-requires same-length returns-2)

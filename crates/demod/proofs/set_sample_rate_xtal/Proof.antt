@@ -1,0 +1,43 @@
+-- `demod::set_sample_rate_xtal` meets its contract: refused for rate 0, then for reference 0, or the call. Assumes nothing.
+use mathlib.Core.Path.{refl}
+use native.Mathlib.Omega.{arith}
+use borrow.Author.Tests.{eq-eqb, ne-eqb}
+use Rattle.device.proofs.Free.{argument-bad, argument-good}
+use Rattle.demod.specs.Calls.{rateCall}
+use borrow.Author.Needs.{needs}
+use Rattle.demod.proofs.set_sample_rate_xtal.Statement.{statement}
+use Rattle.demod.proofs.set_sample_rate_xtal.Tie as tie
+use Rattle.demod.proofs.set_sample_rate_xtal.Reads as reads
+use Rattle.demod.proofs.set_sample_rate_xtal.Lts as lts
+use Rattle.demod.proofs.rate_rows.Reads as rate-rows-reads
+use Rattle.device.proofs.perform.Reads as perform-reads
+
+returns : tie.Need-returns
+unfolding rateCall
+returns c = argument-bad _ _ _ _ _ _ (eq-eqb _ _ (c .if1 .taken)) (λ e. omega arith)
+
+returns-2 : tie.Need-returns-2
+unfolding rateCall
+returns-2 c =
+    argument-good _ _ _ _ _ _ _ _ (ne-eqb _ _ (c .before .if1 .left)) refl
+    (argument-bad _ _ _ _ _ _ (eq-eqb _ _ (c .if2 .taken)) (λ e. omega arith))
+
+rate-rows-requires : tie.Need-rate-rows-requires
+rate-rows-requires c κs = search needs
+
+perform-requires : tie.Need-perform-requires
+perform-requires c κs = search needs
+
+same-length : tie.Need-same-length
+same-length c = search needs
+
+returns-3 : tie.Need-returns-3
+unfolding rateCall
+returns-3 c =
+    argument-good _ _ _ _ _ _ _ _ (ne-eqb _ _ (c .before .before .before .before .before .before .if1 .left)) refl
+    (argument-good _ _ _ _ _ _ _ _ (ne-eqb _ _ (c .before .before .before .before .before .if2 .left)) (c .before .before .before .before .rate-rows .ensures) (c .before .before .perform .ensures))
+
+pub set-sample-rate-xtal-spec : {M : Type 1} → statement M
+set-sample-rate-xtal-spec =
+    tie.close
+    (tie.spec returns returns-2 rate-rows-requires perform-requires same-length returns-3)

@@ -1,0 +1,23 @@
+-- `demod::stop_streaming` meets its contract: its accesses are the program. Assumes nothing.
+use Rattle.device.specs.Accesses.{accessStep}
+use Rattle.demod.specs.Programs.{stopSteps}
+use Rattle.demod.specs.Calls.{stopCall}
+use borrow.Author.Needs.{needs}
+use Rattle.demod.proofs.stop_streaming.Statement.{statement}
+use Rattle.demod.proofs.stop_streaming.Tie as tie
+use Rattle.demod.proofs.stop_streaming.Reads as reads
+use Rattle.demod.proofs.stop_streaming.Lts as lts
+use Rattle.device.proofs.perform.Reads as perform-reads
+
+perform-requires : tie.Need-perform-requires
+perform-requires c κs = search needs
+
+same-length : tie.Need-same-length
+same-length c = search needs
+
+returns : tie.Need-returns
+unfolding stopCall accessStep stopSteps
+returns c = c .before .before .perform .ensures
+
+pub stop-streaming-spec : {M : Type 1} → statement M
+stop-streaming-spec = tie.close (tie.spec perform-requires same-length returns)

@@ -1,0 +1,395 @@
+// The demodulator's calls, from src/demod.rs, over a script of outcomes and a room for the entries. Document 01, "Demodulator",
+// and "Refusal numbers" for 3 and 4. They touch no record and read nothing; a call is a list of accesses, and the definitions of
+// specs/Programs.antt have the same lists. `X_steps` and `ddc` are what a larger call holds.
+ghost use mathlib.Core.List.{map, _++_};
+ghost use mathlib.Core.Path.{_≡_};
+ghost use Prim.Native.Nat.{_+_, _*_, _≤_, _<_};
+ghost use lib.ListN.{length, replicate, take};
+ghost use Rattle.chip.specs.Steps.{due, run, inRoom, onRoom};
+ghost use Rattle.device.specs.Accesses.{accessStep};
+ghost use Rattle.device.specs.Calls.{back};
+ghost use Rattle.demod.specs.Programs.{ddcByte, ddcSteps, firSteps, ifSteps, initSteps, powerSteps, rateSteps, resetSteps, upward};
+ghost use Rattle.demod.specs.Calls.{directCall, ifCall, initCall, lowIfCall, rateCall, resetCall, startCall, stopCall, zeroIfCall};
+use chip::Answer;
+use chip::Chip;
+use chip::Flow;
+use chip::Seen;
+use chip::Went;
+use device::Access;
+use device::BLOCK;
+use device::BLOCK16;
+use device::DEMOD;
+use device::DEMOD16;
+use device::Handed;
+use device::NONE;
+use device::WAIT;
+use registers::block;
+use registers::demod::P0_PAGE;
+use registers::demod::P1_DDC_SYNC;
+use registers::demod::P1_DDC_SYNC_INVERT;
+use registers::demod::P1_DDC_SYNC_NORMAL;
+use registers::demod::P1_IF_FREQ_H;
+use registers::demod::P1_IF_FREQ_L;
+use registers::demod::P1_IF_FREQ_M;
+use registers::demod::P1_PAGE;
+use registers::demod::P1_SOFT_RESET;
+use registers::demod::P1_SOFT_RESET_OFF;
+use registers::demod::P1_SOFT_RESET_ON;
+use registers::sys;
+use registers::usb;
+
+// `reset_demod`'s accesses.
+const RESET: [Access; 10] = [
+    Access(DEMOD, P1_PAGE, P1_SOFT_RESET, P1_SOFT_RESET_ON as u16),
+    Access(DEMOD, P1_PAGE, P1_SOFT_RESET, P1_SOFT_RESET_OFF as u16),
+    NONE,
+    NONE,
+    NONE,
+    NONE,
+    NONE,
+    NONE,
+    NONE,
+    NONE,
+];
+
+// Low-IF mode, and the in-phase ADC input on.
+const LOW_IF: [Access; 10] = [
+    Access(DEMOD, P1_PAGE, 0xb1, 0x1a),
+    Access(DEMOD, P0_PAGE, 0x08, 0x4d),
+    NONE,
+    NONE,
+    NONE,
+    NONE,
+    NONE,
+    NONE,
+    NONE,
+    NONE,
+];
+
+// Zero-IF mode, and the in-phase ADC input off.
+const ZERO_IF: [Access; 10] = [
+    Access(DEMOD, P1_PAGE, 0xb1, 0x1b),
+    Access(DEMOD, P0_PAGE, 0x08, 0x4c),
+    NONE,
+    NONE,
+    NONE,
+    NONE,
+    NONE,
+    NONE,
+    NONE,
+    NONE,
+];
+
+const START: [Access; 10] = [
+    Access(BLOCK16, block::USB, usb::EPA_CTL, 0x1002),
+    Access(BLOCK16, block::USB, usb::EPA_CTL, 0x0000),
+    NONE,
+    NONE,
+    NONE,
+    NONE,
+    NONE,
+    NONE,
+    NONE,
+    NONE,
+];
+
+const STOP: [Access; 10] = [
+    Access(BLOCK16, block::USB, usb::EPA_CTL, 0x1002),
+    Access(
+        BLOCK,
+        block::SYS,
+        sys::DEMOD_CTL,
+        sys::DEMOD_CTL_POWER_OFF as u16,
+    ),
+    NONE,
+    NONE,
+    NONE,
+    NONE,
+    NONE,
+    NONE,
+    NONE,
+    NONE,
+];
+
+// `init_baseband` up to the zeros of 0x16: USB, system, the wait of 100 ms, the reset, DDC off.
+const POWER: [Access; 10] = [
+    Access(BLOCK, block::USB, usb::SYSCTL, 0x09),
+    Access(BLOCK16, block::USB, usb::EPA_MAXPKT, 0x0002),
+    Access(BLOCK16, block::USB, usb::EPA_CTL, 0x1002),
+    Access(BLOCK, block::SYS, sys::DEMOD_CTL1, 0x22),
+    Access(
+        BLOCK,
+        block::SYS,
+        sys::DEMOD_CTL,
+        sys::DEMOD_CTL_POWER_ON as u16,
+    ),
+    Access(WAIT, 0, 100, 0),
+    Access(DEMOD, P1_PAGE, P1_SOFT_RESET, P1_SOFT_RESET_ON as u16),
+    Access(DEMOD, P1_PAGE, P1_SOFT_RESET, P1_SOFT_RESET_OFF as u16),
+    Access(DEMOD, P1_PAGE, P1_DDC_SYNC, 0x00),
+    Access(DEMOD16, P1_PAGE, 0x16, 0x0000),
+];
+
+// `init_baseband` behind the FIR.
+const MODE: [Access; 10] = [
+    Access(DEMOD, P0_PAGE, 0x19, 0x05),
+    Access(DEMOD, P1_PAGE, 0x93, 0xf0),
+    Access(DEMOD, P1_PAGE, 0x94, 0x0f),
+    Access(DEMOD, P1_PAGE, 0x11, 0x00),
+    Access(DEMOD, P1_PAGE, 0x04, 0x00),
+    Access(DEMOD, P0_PAGE, 0x61, 0x60),
+    Access(DEMOD, P0_PAGE, 0x06, 0x80),
+    Access(DEMOD, P1_PAGE, 0xb1, 0x1b),
+    Access(DEMOD, P0_PAGE, 0x0d, 0x83),
+    NONE,
+];
+
+pub fn reset_steps(f: Flow, outcomes: &[u8], room: &mut [u8]) -> Flow
+    requires { ⌜ (f .count + 2 + due (f .held) ≤ length (now outcomes)) × (16 * (f .count + 2 + due (f .held)) ≤ length (now room)) ⌝ }
+    ensures { λ r. ⌜ onRoom r (now (room .exit)) ≡ run inRoom (now (outcomes .entry)) resetSteps (onRoom f (now (room .entry))) ⌝ }
+    ensures bounds { λ r. ⌜ r .count + due (r .held) ≤ f .count + 2 + due (f .held) ⌝ }
+{
+    device::access_all(f, RESET, 2, outcomes, room)
+}
+
+pub fn reset_demod(outcomes: &[u8], room: &mut [u8]) -> Handed
+    ensures { λ r. ⌜ back r (now (room .exit)) ≡ resetCall (now (outcomes .entry)) (now (room .entry)) ⌝ }
+{
+    device::perform(RESET, 2, 0, 0, outcomes, room)
+}
+
+pub fn set_tuner_low_if(outcomes: &[u8], room: &mut [u8]) -> Handed
+    ensures { λ r. ⌜ back r (now (room .exit)) ≡ lowIfCall (now (outcomes .entry)) (now (room .entry)) ⌝ }
+{
+    device::perform(LOW_IF, 2, 0, 0, outcomes, room)
+}
+
+pub fn set_tuner_zero_if(outcomes: &[u8], room: &mut [u8]) -> Handed
+    ensures { λ r. ⌜ back r (now (room .exit)) ≡ zeroIfCall (now (outcomes .entry)) (now (room .entry)) ⌝ }
+{
+    device::perform(ZERO_IF, 2, 0, 0, outcomes, room)
+}
+
+pub fn start_streaming(outcomes: &[u8], room: &mut [u8]) -> Handed
+    ensures { λ r. ⌜ back r (now (room .exit)) ≡ startCall (now (outcomes .entry)) (now (room .entry)) ⌝ }
+{
+    device::perform(START, 2, 0, 0, outcomes, room)
+}
+
+pub fn stop_streaming(outcomes: &[u8], room: &mut [u8]) -> Handed
+    ensures { λ r. ⌜ back r (now (room .exit)) ≡ stopCall (now (outcomes .entry)) (now (room .entry)) ⌝ }
+{
+    device::perform(STOP, 2, 0, 0, outcomes, room)
+}
+
+pub fn write_reg_direct(
+    page: u8,
+    register: u16,
+    value: u8,
+    outcomes: &[u8],
+    room: &mut [u8],
+) -> Handed
+    ensures { λ r. ⌜ back r (now (room .exit)) ≡ directCall page register value (now (outcomes .entry)) (now (room .entry)) ⌝ }
+{
+    let mut rows = [NONE; 10];
+    rows[0] = Access(DEMOD, page, register, value as u16);
+    device::perform(rows, 1, 0, 0, outcomes, room)
+}
+
+fn ddc_byte(inverted: bool) -> u8
+    ensures { λ r. ⌜ r ≡ ddcByte inverted ⌝ }
+{
+    if inverted {
+        P1_DDC_SYNC_INVERT
+    } else {
+        P1_DDC_SYNC_NORMAL
+    }
+}
+
+// The DDC byte, by whether the spectrum is inverted.
+pub fn ddc(f: Flow, inverted: bool, outcomes: &[u8], room: &mut [u8]) -> Flow
+    requires { ⌜ (f .count + 1 + due (f .held) ≤ length (now outcomes)) × (16 * (f .count + 1 + due (f .held)) ≤ length (now room)) ⌝ }
+    ensures { λ r. ⌜ onRoom r (now (room .exit)) ≡ run inRoom (now (outcomes .entry)) (ddcSteps inverted) (onRoom f (now (room .entry))) ⌝ }
+    ensures bounds { λ r. ⌜ r .count + due (r .held) ≤ f .count + 1 + due (f .held) ⌝ }
+{
+    let byte = ddc_byte(inverted);
+    device::one_access(
+        f,
+        Access(DEMOD, P1_PAGE, P1_DDC_SYNC, byte as u16),
+        outcomes,
+        room,
+    )
+}
+
+// 22 bits, high first.
+fn if_rows(hz: u32, xtal: u32) -> [Access; 10]
+    requires { ⌜ 0 < xtal ⌝ }
+    ensures { λ r. ⌜ map accessStep (take 3 r) ≡ ifSteps hz xtal ⌝ }
+{
+    let value = registers::if_value(hz, xtal);
+    let mut rows = [NONE; 10];
+    rows[0] = Access(DEMOD, P1_PAGE, P1_IF_FREQ_H, (value >> 16) as u16);
+    rows[1] = Access(DEMOD, P1_PAGE, P1_IF_FREQ_M, ((value >> 8) % 256) as u16);
+    rows[2] = Access(DEMOD, P1_PAGE, P1_IF_FREQ_L, (value % 256) as u16);
+    rows
+}
+
+pub fn if_steps(f: Flow, hz: u32, xtal: u32, outcomes: &[u8], room: &mut [u8]) -> Flow
+    requires { ⌜ (0 < xtal) × (f .count + 3 + due (f .held) ≤ length (now outcomes)) × (16 * (f .count + 3 + due (f .held)) ≤ length (now room)) ⌝ }
+    ensures { λ r. ⌜ onRoom r (now (room .exit)) ≡ run inRoom (now (outcomes .entry)) (ifSteps hz xtal) (onRoom f (now (room .entry))) ⌝ }
+    ensures bounds { λ r. ⌜ r .count + due (r .held) ≤ f .count + 3 + due (f .held) ⌝ }
+{
+    let rows = if_rows(hz, xtal);
+    device::access_all(f, rows, 3, outcomes, room)
+}
+
+pub fn set_if_freq_xtal(hz: u32, xtal: u32, outcomes: &[u8], room: &mut [u8]) -> Handed
+    ensures { λ r. ⌜ back r (now (room .exit)) ≡ ifCall hz xtal (now (outcomes .entry)) (now (room .entry)) ⌝ }
+{
+    if xtal == 0 {
+        return Handed {
+            answer: Answer::Refused(chip::CORRECTION),
+            count: 0,
+        };
+    }
+    let rows = if_rows(hz, xtal);
+    device::perform(rows, 3, 0, 0, outcomes, room)
+}
+
+// The ratio's high and low 16 bits, and two zeros.
+fn rate_rows(rate: u32, xtal: u32) -> [Access; 10]
+    requires { ⌜ 0 < rate ⌝ }
+    ensures { λ r. ⌜ map accessStep (take 4 r) ≡ rateSteps rate xtal ⌝ }
+{
+    let ratio = registers::ratio(rate, xtal);
+    let sent = registers::sent(ratio);
+    let mut rows = [NONE; 10];
+    rows[0] = Access(DEMOD16, P1_PAGE, 0x9f, (sent >> 16) as u16);
+    rows[1] = Access(DEMOD16, P1_PAGE, 0xa1, (sent % 65536) as u16);
+    rows[2] = Access(DEMOD, P1_PAGE, 0x3f, 0x00);
+    rows[3] = Access(DEMOD, P1_PAGE, 0x3e, 0x00);
+    rows
+}
+
+pub fn rate_steps(f: Flow, rate: u32, xtal: u32, outcomes: &[u8], room: &mut [u8]) -> Flow
+    requires { ⌜ (0 < rate) × (f .count + 4 + due (f .held) ≤ length (now outcomes)) × (16 * (f .count + 4 + due (f .held)) ≤ length (now room)) ⌝ }
+    ensures { λ r. ⌜ onRoom r (now (room .exit)) ≡ run inRoom (now (outcomes .entry)) (rateSteps rate xtal) (onRoom f (now (room .entry))) ⌝ }
+    ensures bounds { λ r. ⌜ r .count + due (r .held) ≤ f .count + 4 + due (f .held) ⌝ }
+{
+    let rows = rate_rows(rate, xtal);
+    device::access_all(f, rows, 4, outcomes, room)
+}
+
+pub fn set_sample_rate_xtal(rate: u32, xtal: u32, outcomes: &[u8], room: &mut [u8]) -> Handed
+    ensures { λ r. ⌜ back r (now (room .exit)) ≡ rateCall rate xtal (now (outcomes .entry)) (now (room .entry)) ⌝ }
+{
+    if rate == 0 {
+        return Handed {
+            answer: Answer::Refused(chip::RATE),
+            count: 0,
+        };
+    }
+    if xtal == 0 {
+        return Handed {
+            answer: Answer::Refused(chip::CORRECTION),
+            count: 0,
+        };
+    }
+    let rows = rate_rows(rate, xtal);
+    device::perform(rows, 4, 0, 0, outcomes, room)
+}
+
+// The first n bytes, to the registers of page 1 from one upward.
+fn write_upward(
+    f: Flow,
+    register: u16,
+    bytes: [u8; 20],
+    n: usize,
+    outcomes: &[u8],
+    room: &mut [u8],
+) -> Flow
+    requires { ⌜ (n ≤ 20) × (register ≤ 255) × (f .count + n + due (f .held) ≤ length (now outcomes)) × (16 * (f .count + n + due (f .held)) ≤ length (now room)) ⌝ }
+    ensures { λ r. ⌜ onRoom r (now (room .exit)) ≡ run inRoom (now (outcomes .entry)) (upward register (take n bytes)) (onRoom f (now (room .entry))) ⌝ }
+    ensures bounds { λ r. ⌜ r .count + due (r .held) ≤ f .count + n + due (f .held) ⌝ }
+{
+    let mut f = f;
+    let mut i = 0;
+    while i < n {
+        let at = register + i as u16;
+        let byte = bytes[i];
+        f = device::one_access(f, Access(DEMOD, P1_PAGE, at, byte as u16), outcomes, room);
+        i += 1;
+    }
+    f
+}
+
+fn power_steps(f: Flow, outcomes: &[u8], room: &mut [u8]) -> Flow
+    requires { ⌜ (f .count + 16 + due (f .held) ≤ length (now outcomes)) × (16 * (f .count + 16 + due (f .held)) ≤ length (now room)) ⌝ }
+    ensures { λ r. ⌜ onRoom r (now (room .exit)) ≡ run inRoom (now (outcomes .entry)) (powerSteps ++ upward 0x16 (replicate 6 0)) (onRoom f (now (room .entry))) ⌝ }
+    ensures bounds { λ r. ⌜ r .count + due (r .held) ≤ f .count + 16 + due (f .held) ⌝ }
+{
+    let zeros = [0u8; 20];
+    let on = device::access_all(f, POWER, 10, outcomes, room);
+    write_upward(on, 0x16, zeros, 6, outcomes, room)
+}
+
+fn set_fir(f: Flow, outcomes: &[u8], room: &mut [u8]) -> Flow
+    requires { ⌜ (f .count + 20 + due (f .held) ≤ length (now outcomes)) × (16 * (f .count + 20 + due (f .held)) ≤ length (now room)) ⌝ }
+    ensures { λ r. ⌜ onRoom r (now (room .exit)) ≡ run inRoom (now (outcomes .entry)) firSteps (onRoom f (now (room .entry))) ⌝ }
+    ensures bounds { λ r. ⌜ r .count + due (r .held) ≤ f .count + 20 + due (f .held) ⌝ }
+{
+    let bytes = fir::default_bytes();
+    write_upward(f, 0x1c, bytes, 20, outcomes, room)
+}
+
+pub fn init_steps(f: Flow, outcomes: &[u8], room: &mut [u8]) -> Flow
+    requires { ⌜ (f .count + 45 + due (f .held) ≤ length (now outcomes)) × (16 * (f .count + 45 + due (f .held)) ≤ length (now room)) ⌝ }
+    ensures { λ r. ⌜ onRoom r (now (room .exit)) ≡ run inRoom (now (outcomes .entry)) initSteps (onRoom f (now (room .entry))) ⌝ }
+    ensures bounds { λ r. ⌜ r .count + due (r .held) ≤ f .count + 45 + due (f .held) ⌝ }
+{
+    let on = power_steps(f, outcomes, room);
+    let filtered = set_fir(on, outcomes, room);
+    device::access_all(filtered, MODE, 9, outcomes, room)
+}
+
+pub fn init_baseband(outcomes: &[u8], room: &mut [u8]) -> Handed
+    ensures { λ r. ⌜ back r (now (room .exit)) ≡ initCall (now (outcomes .entry)) (now (room .entry)) ⌝ }
+{
+    let number = chip::lent(45, 0, room.len(), outcomes.len(), 0);
+    if number != 0 {
+        return Handed {
+            answer: Answer::Refused(number),
+            count: 0,
+        };
+    }
+    let zeros = [0u8; 27];
+    let marks = [false; 27];
+    let start = Flow {
+        chip: Chip {
+            address: 0,
+            shadow: zeros,
+            attempted: zeros,
+            doubtful: marks,
+        },
+        count: 0,
+        went: Went::Going,
+        held: false,
+        seen: Seen {
+            tries: 0,
+            locked: false,
+        },
+    };
+    let f = init_steps(start, outcomes, room);
+    let count = f.count;
+    let answer = chip::finish(f, Answer::Done(0), room);
+    Handed {
+        answer: answer,
+        count: count,
+    }
+}
+
+pub fn power_on(outcomes: &[u8], room: &mut [u8]) -> Handed
+    ensures { λ r. ⌜ back r (now (room .exit)) ≡ initCall (now (outcomes .entry)) (now (room .entry)) ⌝ }
+{
+    init_baseband(outcomes, room)
+}

@@ -1,0 +1,4 @@
+pub mod Programs
+pub mod Free
+pub mod Lengths
+pub mod Fits

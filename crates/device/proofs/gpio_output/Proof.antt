@@ -1,0 +1,26 @@
+-- `device::gpio_output` meets its contract. Assumes nothing.
+use Rattle.chip.specs.Steps.{inRoom}
+use Rattle.device.proofs.Programs.{by-program}
+use borrow.Author.Needs.{needs}
+use Rattle.device.proofs.gpio_output.Statement.{statement}
+use Rattle.device.proofs.gpio_output.Tie as tie
+use Rattle.device.proofs.gpio_output.Reads as reads
+use Rattle.device.proofs.gpio_output.Lts as lts
+use Rattle.device.proofs.access_all.Reads as access-all-reads
+use Rattle.device.proofs.output_rows.Reads as output-rows-reads
+
+output-rows-requires : tie.Need-output-rows-requires
+output-rows-requires c κs = search needs
+
+access-all-requires : tie.Need-access-all-requires
+access-all-requires c κs = search needs
+
+same-length : tie.Need-same-length
+same-length c = search needs
+
+returns : tie.Need-returns
+returns c = (by-program inRoom _ _ _ _ _ (c .before .before .before .before .output-rows .ensures) (c .before .before .access-all .ensures .0), search needs)
+
+pub gpio-output-spec : {M : Type 1} → statement M
+gpio-output-spec =
+    tie.close (tie.spec output-rows-requires access-all-requires same-length returns)

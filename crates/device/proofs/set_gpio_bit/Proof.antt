@@ -1,0 +1,41 @@
+-- `device::set_gpio_bit` meets its contract: a pin that is refused, or the call. Assumes nothing.
+use mathlib.Core.Path.{ap, _∙_}
+use native.Mathlib.Omega.{arith}
+use borrow.Author.Tests.{lt-ltb, le-ltb}
+use Rattle.device.specs.Gpio.{bitCall, bitSteps}
+use Rattle.device.proofs.Free.{argument-bad, argument-good}
+use borrow.Author.Needs.{needs}
+use Rattle.device.proofs.set_gpio_bit.Statement.{statement}
+use Rattle.device.proofs.set_gpio_bit.Tie as tie
+use Rattle.device.proofs.set_gpio_bit.Reads as reads
+use Rattle.device.proofs.set_gpio_bit.Lts as lts
+use Rattle.device.proofs.bit_rows.Reads as bit-rows-reads
+use Rattle.device.proofs.perform.Reads as perform-reads
+use Rattle.device.proofs.reply.Reads as reply-reads
+
+returns : tie.Need-returns
+unfolding bitCall
+returns c = argument-bad _ _ _ _ _ _ (lt-ltb _ _ (c .if1 .taken)) (λ e. omega arith)
+
+reply-requires : tie.Need-reply-requires
+reply-requires c κs = search needs
+
+bit-rows-requires : tie.Need-bit-rows-requires
+bit-rows-requires c κs = search needs
+
+perform-requires : tie.Need-perform-requires
+perform-requires c κs = search needs
+
+same-length : tie.Need-same-length
+same-length c = search needs
+
+returns-2 : tie.Need-returns-2
+unfolding bitCall
+returns-2 c =
+    argument-good _ _ _ _ _ _ _ _ (le-ltb _ _ (c .before .before .before .before .before .before .if1 .left))
+    (c .before .before .before .before .bit-rows .ensures ∙ ap (bitSteps (c .before .before .before .before .before .before .before .before .before .before .args .gpio) (c .before .before .before .before .before .before .before .before .before .before .args .value)) (c .before .before .before .before .before .reply .ensures)) (c .before .before .perform .ensures)
+
+pub set-gpio-bit-spec : {M : Type 1} → statement M
+set-gpio-bit-spec =
+    tie.close
+    (tie.spec returns reply-requires bit-rows-requires perform-requires same-length returns-2)

@@ -1,0 +1,51 @@
+-- `device::set_gpio_output` meets its contract: a pin that is refused, or the call. Assumes nothing.
+use mathlib.Core.Path.{_∙_}
+use native.Mathlib.Omega.{arith}
+use borrow.Author.Tests.{lt-ltb, le-ltb}
+use Rattle.device.specs.Gpio.{outputCall, outputSteps}
+use Rattle.device.proofs.Free.{argument-bad, argument-good}
+use borrow.Author.Needs.{needs}
+use Rattle.device.proofs.set_gpio_output.Statement.{statement}
+use Rattle.device.proofs.set_gpio_output.Tie as tie
+use Rattle.device.proofs.set_gpio_output.Reads as reads
+use Rattle.device.proofs.set_gpio_output.Lts as lts
+use Rattle.device.proofs.output_rows.Reads as output-rows-reads
+use Rattle.device.proofs.perform.Reads as perform-reads
+use Rattle.device.proofs.reply.Reads as reply-reads
+
+returns : tie.Need-returns
+unfolding outputCall
+returns c = argument-bad _ _ _ _ _ _ (lt-ltb _ _ (c .if1 .taken)) (λ e. omega arith)
+
+reply-requires : tie.Need-reply-requires
+reply-requires c κs = search needs
+
+reply-requires-2 : tie.Need-reply-requires-2
+reply-requires-2 c κs = search needs
+
+output-rows-requires : tie.Need-output-rows-requires
+output-rows-requires c κs = search needs
+
+perform-requires : tie.Need-perform-requires
+perform-requires c κs = search needs
+
+same-length : tie.Need-same-length
+same-length c = search needs
+
+returns-2 : tie.Need-returns-2
+unfolding outputCall
+returns-2 c =
+    argument-good _ _ _ _ _ _ _ _ (le-ltb _ _ (c .before .before .before .before .before .before .before .if1 .left))
+    (c .before .before .before .before .output-rows .ensures ∙ (λ i. outputSteps (c .before .before .before .before .before .before .before .before .before .before .before .args .gpio) (c .before .before .before .before .before .before .reply .ensures i) (c .before .before .before .before .before .reply2 .ensures i))) (c .before .before .perform .ensures)
+
+pub set-gpio-output-spec : {M : Type 1} → statement M
+set-gpio-output-spec =
+    tie.close
+    (tie.spec
+    returns
+    reply-requires
+    reply-requires-2
+    output-rows-requires
+    perform-requires
+    same-length
+    returns-2)

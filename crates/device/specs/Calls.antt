@@ -1,0 +1,23 @@
+-- Calls that touch no record: they are performed over a chip of zeros, and nothing of it is handed back.
+-- Document 01, "Refusal numbers": "`set_gpio_*` touch no record"; src/demod.rs' calls have none either.
+-- Assumes nothing.
+use Prim.Native.Nat.{ℕ}
+use mathlib.Core.Bool.{Bool, false}
+use mathlib.Core.List.{List}
+use lib.ListN.{replicate}
+use Rattle.chip.specs.declared.Answer.the-variants.{Done}
+use Rattle.chip.specs.declared.Chip.{Chip}
+use Rattle.chip.specs.Calls.{Called, callOf, called}
+use Rattle.chip.specs.Steps.{Step}
+use Rattle.device.specs.declared.Handed.{Handed}
+
+abbrev pub noChip : Chip
+noChip = record { address = 0; shadow = replicate 27 0; attempted = replicate 27 0; doubtful = replicate 27 false }
+
+-- refused by a number before any step, or performed; value 0
+abbrev pub freeCall : ℕ → List ℕ → List Step → List ℕ → Called (Unit {0})
+freeCall number os ss room = callOf number (Done 0) os ss noChip (λ t. tt) tt room
+
+-- what the code hands back, with the room
+abbrev pub back : Handed → List ℕ → Called (Unit {0})
+back r room = called tt room (r .count) (r .answer)

@@ -1,0 +1,51 @@
+-- The two GPIO calls. Document 01, "Transcript and script": "GPIO direction 4, 2; GPIO bit 2, 1"; "Refusal numbers": "6 pin | GPIO above 7".
+-- src/device.rs: `set_gpio_output` and `set_gpio_bit` read a register of block SYS and write it back with the pin's bit changed.
+-- Assumes nothing.
+use Prim.Native.Nat.{ℕ, _-_, _^_}
+use mathlib.Core.List.{List, [], _∷_}
+use lib.Bits.{bitAnd, bitOr}
+use lib.Dec.{eqb, ltb}
+use lib.ListN.{length, getD}
+use Rattle.chip.specs.Calls.{Called, lentOf, pickN}
+use Rattle.chip.specs.Steps.{Step}
+use Rattle.chip.specs.Steps.Step.{Plain}
+use Rattle.device.specs.Accesses.{blockRead, blockWrite}
+use Rattle.device.specs.Calls.{freeCall}
+
+-- a byte with the pin's bit set, or cleared
+abbrev pub withBit : ℕ → ℕ → ℕ
+withBit byte pin = bitOr byte (2 ^ pin)
+
+abbrev pub withoutBit : ℕ → ℕ → ℕ
+withoutBit byte pin = bitAnd byte (255 - 2 ^ pin)
+
+-- GPOE (0x3003) gets the bit, GPD (0x3004) loses it; a and b are the two replies
+unfoldable pub outputSteps : ℕ → ℕ → ℕ → List Step
+outputSteps pin a b =
+    Plain (blockRead 2 0x3003 a)
+    ∷ Plain (blockWrite 2 0x3003 (withBit a pin))
+    ∷ Plain (blockRead 2 0x3004 b)
+    ∷ Plain (blockWrite 2 0x3004 (withoutBit b pin))
+    ∷ []
+
+-- set, or cleared where the value is 0
+abbrev pub changedOf : ℕ → ℕ → ℕ → ℕ
+changedOf pin value a = pickN (eqb value 0) (withoutBit a pin) (withBit a pin)
+
+-- GPO (0x3001) gets the bit, or loses it
+unfoldable pub bitSteps : ℕ → ℕ → ℕ → List Step
+bitSteps pin value a =
+    Plain (blockRead 2 0x3001 a)
+    ∷ Plain (blockWrite 2 0x3001 (changedOf pin value a))
+    ∷ []
+
+-- "Order: arguments (1 to 7, and 2 for hz), then 8, 9, 10, then steps"
+unfoldable pub outputCall : ℕ → List ℕ → List ℕ → List ℕ → Called (Unit {0})
+outputCall pin os rs room =
+    freeCall (pickN (ltb 7 pin) 6 (lentOf 4 2 (length room) (length os) (length rs))) os
+    (outputSteps pin (getD rs 0 0) (getD rs 1 0)) room
+
+unfoldable pub bitCall : ℕ → ℕ → List ℕ → List ℕ → List ℕ → Called (Unit {0})
+bitCall pin value os rs room =
+    freeCall (pickN (ltb 7 pin) 6 (lentOf 2 1 (length room) (length os) (length rs))) os
+    (bitSteps pin value (getD rs 0 0)) room

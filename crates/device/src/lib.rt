@@ -1,0 +1,265 @@
+// The interface's register accesses and the GPIO calls of src/device.rs, over a script of outcomes and replies and a room for the
+// entries. Document 01, "Transcript and script" (kinds 4 to 9), "Refusal numbers" ("`set_gpio_*` touch no record").
+// What touches no record is run by chip's interpreter over a chip of zeros, of which nothing is handed back.
+ghost use mathlib.Core.List.{map};
+ghost use mathlib.Core.Path.{_≡_};
+ghost use Prim.Native.Nat.{_+_, _*_, _^_, _≤_, _<_};
+ghost use lib.ListN.{length, getD, take};
+ghost use Rattle.chip.specs.Steps.{due, step, run, inRoom, onRoom};
+ghost use Rattle.chip.specs.Calls.{lentOf};
+ghost use Rattle.device.specs.Accesses.{accessEntry, accessStep};
+ghost use Rattle.device.specs.Calls.{back, freeCall};
+ghost use Rattle.device.specs.Gpio.{bitCall, bitSteps, changedOf, outputCall, outputSteps, withBit, withoutBit};
+use chip::Answer;
+use chip::Chip;
+use chip::Flow;
+use chip::Seen;
+use chip::Went;
+use registers::block;
+use registers::sys;
+use transcript::Entry;
+
+// Kinds of document 01's table.
+pub const DEMOD: u8 = 4;
+
+pub const DEMOD16: u8 = 5;
+
+pub const BLOCK: u8 = 6;
+
+pub const BLOCK16: u8 = 7;
+
+pub const READ: u8 = 8;
+
+pub const WAIT: u8 = 9;
+
+// One access of the interface: its kind, target (page or block), register, and value. A write of 8 or 16 bits, a read with the
+// reply as its value, or a wait of `register` milliseconds.
+pub struct Access(pub u8, pub u8, pub u16, pub u16);
+
+// What fills an array behind the accesses of a call; it is never taken.
+pub const NONE: Access = Access(9, 0, 0, 0);
+
+// What a call that touches no record hands back.
+pub struct Handed {
+    pub answer: Answer,
+    pub count: usize,
+}
+
+// An access as its entry, when it is done.
+fn entry(a: Access) -> Entry
+    ensures { λ r. ⌜ r ≡ accessEntry a ⌝ }
+{
+    let kind = a.0;
+    let high = (a.3 / 256) as u8;
+    let low = (a.3 % 256) as u8;
+    if (kind == 5) | (kind == 7) {
+        return Entry {
+            kind: kind,
+            outcome: 0,
+            target: a.1,
+            n: 2,
+            address: a.2,
+            bytes: [high, low, 0, 0, 0, 0, 0, 0],
+        };
+    }
+    let n = if kind == 9 { 0 } else { 1 };
+    Entry {
+        kind: kind,
+        outcome: 0,
+        target: a.1,
+        n: n,
+        address: a.2,
+        bytes: [low, 0, 0, 0, 0, 0, 0, 0],
+    }
+}
+
+pub fn one_access(f: Flow, a: Access, outcomes: &[u8], room: &mut [u8]) -> Flow
+    requires { ⌜ (f .count < length (now outcomes)) × (16 * f .count + 16 ≤ length (now room)) ⌝ }
+    ensures { λ r. ⌜ onRoom r (now (room .exit)) ≡ step inRoom (now (outcomes .entry)) (accessStep a) (onRoom f (now (room .entry))) ⌝ }
+    ensures bounds { λ r. ⌜ r .count + due (r .held) ≤ f .count + 1 + due (f .held) ⌝ }
+{
+    let e = entry(a);
+    chip::plain(f, e, outcomes, room)
+}
+
+// The first n of a list of accesses; those behind a failed one are not taken.
+pub fn access_all(f: Flow, rows: [Access; 10], n: usize, outcomes: &[u8], room: &mut [u8]) -> Flow
+    requires { ⌜ (n ≤ 10) × (f .count + n + due (f .held) ≤ length (now outcomes)) × (16 * (f .count + n + due (f .held)) ≤ length (now room)) ⌝ }
+    ensures { λ r. ⌜ onRoom r (now (room .exit))
+        ≡ run inRoom (now (outcomes .entry)) (map accessStep (take n rows)) (onRoom f (now (room .entry))) ⌝ }
+    ensures bounds { λ r. ⌜ r .count + due (r .held) ≤ f .count + n + due (f .held) ⌝ }
+{
+    let mut f = f;
+    let mut i = 0;
+    while i < n {
+        f = one_access(f, rows[i], outcomes, room);
+        i += 1;
+    }
+    f
+}
+
+// A whole call of n accesses and m replies that touches no record: 8, 9, 10, or its steps.
+pub fn perform(
+    rows: [Access; 10],
+    n: usize,
+    m: usize,
+    replies: usize,
+    outcomes: &[u8],
+    room: &mut [u8],
+) -> Handed
+    requires { ⌜ n ≤ 10 ⌝ }
+    ensures { λ r. ⌜ back r (now (room .exit))
+        ≡ freeCall (lentOf n m (length (now (room .entry))) (length (now (outcomes .entry))) replies) (now (outcomes .entry)) (map accessStep (take n rows)) (now (room .entry)) ⌝ }
+{
+    let number = chip::lent(n, m, room.len(), outcomes.len(), replies);
+    if number != 0 {
+        return Handed {
+            answer: Answer::Refused(number),
+            count: 0,
+        };
+    }
+    let zeros = [0u8; 27];
+    let marks = [false; 27];
+    let start = Flow {
+        chip: Chip {
+            address: 0,
+            shadow: zeros,
+            attempted: zeros,
+            doubtful: marks,
+        },
+        count: 0,
+        went: Went::Going,
+        held: false,
+        seen: Seen {
+            tries: 0,
+            locked: false,
+        },
+    };
+    let f = access_all(start, rows, n, outcomes, room);
+    let count = f.count;
+    let answer = chip::finish(f, Answer::Done(0), room);
+    Handed {
+        answer: answer,
+        count: count,
+    }
+}
+
+// The reply at an index, 0 where none was lent.
+fn reply(replies: &[u8], i: usize) -> u8
+    ensures { λ r. ⌜ r ≡ getD (now (replies .entry)) i 0 ⌝ }
+{
+    if i < replies.len() {
+        return replies[i];
+    }
+    0
+}
+
+fn bit_of(gpio: u8) -> u8
+    requires { ⌜ gpio < 8 ⌝ }
+    ensures { λ r. ⌜ r ≡ 2 ^ gpio ⌝ }
+{
+    1u8 << gpio
+}
+
+fn with_bit(byte: u8, gpio: u8) -> u8
+    requires { ⌜ gpio < 8 ⌝ }
+    ensures { λ r. ⌜ r ≡ withBit byte gpio ⌝ }
+{
+    let bit = bit_of(gpio);
+    byte | bit
+}
+
+fn without_bit(byte: u8, gpio: u8) -> u8
+    requires { ⌜ gpio < 8 ⌝ }
+    ensures { λ r. ⌜ r ≡ withoutBit byte gpio ⌝ }
+{
+    let bit = bit_of(gpio);
+    byte & !bit
+}
+
+// `set_gpio_output`'s accesses; a and b are the bytes read.
+fn output_rows(gpio: u8, a: u8, b: u8) -> [Access; 10]
+    requires { ⌜ gpio < 8 ⌝ }
+    ensures { λ r. ⌜ map accessStep (take 4 r) ≡ outputSteps gpio a b ⌝ }
+{
+    let out = with_bit(a, gpio);
+    let driven = without_bit(b, gpio);
+    let mut rows = [NONE; 10];
+    rows[0] = Access(READ, block::SYS, sys::GPOE, a as u16);
+    rows[1] = Access(BLOCK, block::SYS, sys::GPOE, out as u16);
+    rows[2] = Access(READ, block::SYS, sys::GPD, b as u16);
+    rows[3] = Access(BLOCK, block::SYS, sys::GPD, driven as u16);
+    rows
+}
+
+// The byte that `set_gpio_bit` writes back.
+fn changed(gpio: u8, value: u8, a: u8) -> u8
+    requires { ⌜ gpio < 8 ⌝ }
+    ensures { λ r. ⌜ r ≡ changedOf gpio value a ⌝ }
+{
+    if value == 0 {
+        return without_bit(a, gpio);
+    }
+    with_bit(a, gpio)
+}
+
+// `set_gpio_bit`'s accesses; a is the byte read.
+fn bit_rows(gpio: u8, value: u8, a: u8) -> [Access; 10]
+    requires { ⌜ gpio < 8 ⌝ }
+    ensures { λ r. ⌜ map accessStep (take 2 r) ≡ bitSteps gpio value a ⌝ }
+{
+    let new = changed(gpio, value, a);
+    let mut rows = [NONE; 10];
+    rows[0] = Access(READ, block::SYS, sys::GPO, a as u16);
+    rows[1] = Access(BLOCK, block::SYS, sys::GPO, new as u16);
+    rows
+}
+
+// What a larger call holds of the two: a failed read cuts it, so the write behind one never uses its zeros.
+pub fn gpio_output(f: Flow, gpio: u8, a: u8, b: u8, outcomes: &[u8], room: &mut [u8]) -> Flow
+    requires { ⌜ (gpio < 8) × (f .count + 4 + due (f .held) ≤ length (now outcomes)) × (16 * (f .count + 4 + due (f .held)) ≤ length (now room)) ⌝ }
+    ensures { λ r. ⌜ onRoom r (now (room .exit)) ≡ run inRoom (now (outcomes .entry)) (outputSteps gpio a b) (onRoom f (now (room .entry))) ⌝ }
+    ensures bounds { λ r. ⌜ r .count + due (r .held) ≤ f .count + 4 + due (f .held) ⌝ }
+{
+    let rows = output_rows(gpio, a, b);
+    access_all(f, rows, 4, outcomes, room)
+}
+
+pub fn gpio_bit(f: Flow, gpio: u8, value: u8, a: u8, outcomes: &[u8], room: &mut [u8]) -> Flow
+    requires { ⌜ (gpio < 8) × (f .count + 2 + due (f .held) ≤ length (now outcomes)) × (16 * (f .count + 2 + due (f .held)) ≤ length (now room)) ⌝ }
+    ensures { λ r. ⌜ onRoom r (now (room .exit)) ≡ run inRoom (now (outcomes .entry)) (bitSteps gpio value a) (onRoom f (now (room .entry))) ⌝ }
+    ensures bounds { λ r. ⌜ r .count + due (r .held) ≤ f .count + 2 + due (f .held) ⌝ }
+{
+    let rows = bit_rows(gpio, value, a);
+    access_all(f, rows, 2, outcomes, room)
+}
+
+pub fn set_gpio_output(gpio: u8, outcomes: &[u8], replies: &[u8], room: &mut [u8]) -> Handed
+    ensures { λ r. ⌜ back r (now (room .exit)) ≡ outputCall gpio (now (outcomes .entry)) (now (replies .entry)) (now (room .entry)) ⌝ }
+{
+    if gpio > 7 {
+        return Handed {
+            answer: Answer::Refused(chip::PIN),
+            count: 0,
+        };
+    }
+    let a = reply(replies, 0);
+    let b = reply(replies, 1);
+    let rows = output_rows(gpio, a, b);
+    perform(rows, 4, 2, replies.len(), outcomes, room)
+}
+
+// A value of 0 clears the bit, any other sets it.
+pub fn set_gpio_bit(gpio: u8, value: u8, outcomes: &[u8], replies: &[u8], room: &mut [u8]) -> Handed
+    ensures { λ r. ⌜ back r (now (room .exit)) ≡ bitCall gpio value (now (outcomes .entry)) (now (replies .entry)) (now (room .entry)) ⌝ }
+{
+    if gpio > 7 {
+        return Handed {
+            answer: Answer::Refused(chip::PIN),
+            count: 0,
+        };
+    }
+    let a = reply(replies, 0);
+    let rows = bit_rows(gpio, value, a);
+    perform(rows, 2, 1, replies.len(), outcomes, room)
+}

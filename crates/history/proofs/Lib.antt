@@ -1,0 +1,10 @@
+pub mod Runs
+pub mod Tracked
+pub mod Cuts
+pub mod Told
+pub mod Fitted
+pub mod Fine
+pub mod Reload
+pub mod Demand
+pub mod Calls
+pub mod Worked

@@ -1,0 +1,98 @@
+-- How a program went is read off its entries: the first one that failed and is no closing, by its place among them. Assumes nothing.
+use Prim.Native.Nat.{ℕ, suc, _+_}
+use mathlib.Core.Path.{_≡_, refl, sym, ap, _∙_}
+use mathlib.Core.Bool.{Bool, true, false, _||_, or-true, or-false, false≢true}
+use mathlib.Core.List.{List, [], _∷_, _++_}
+use native.Mathlib.Omega.{arith}
+use lib.ListN.{length}
+use Rattle.transcript.specs.declared.Entry.{Entry}
+use Rattle.attempts.specs.Attempts.{done}
+use Rattle.chip.specs.declared.Chip.{Chip}
+use Rattle.chip.specs.declared.Went.{Went}
+use Rattle.chip.specs.declared.Went.the-variants.{Going, Failed}
+use Rattle.chip.specs.Steps.{Step, Trace, acts, emit, every, goes, inList, inner, line, okFor, taken, toldOf, trace}
+use Rattle.chip.specs.Steps.Step.{Open, Close, Send, Mask, Plain}
+use Rattle.history.specs.Programs.{fine}
+use Rattle.history.specs.Histories.{isClosing, passable, pickWent, wentFrom, wentIn}
+use Rattle.history.proofs.Runs.{counted-taken, run-keeps}
+use Rattle.history.proofs.Tracked.{aside-of}
+use Rattle.history.proofs.Cuts.{emit-done, inner-went}
+
+-- one entry more: it counts only where none has failed before
+abbrev next : Went → Bool → ℕ → Went
+next Going b k = pickWent b Going (Failed k)
+next (Failed j) b k = Failed j
+
+went-snoc : (k : ℕ) (es : List Entry) (e : Entry) → wentFrom k (es ++ (e ∷ [])) ≡ next (wentFrom k es) (passable e) (k + length es)
+unfolding wentFrom
+went-snoc k [] e =
+    let here : k ≡ k + 0 = omega arith in
+    ap (λ (j : ℕ). pickWent (passable e) Going (Failed j)) here
+went-snoc k (x ∷ es) e = go (passable x) refl (went-snoc (k + 1) es e)
+  where
+    go : (b : Bool) → passable x ≡ b → wentFrom (k + 1) (es ++ (e ∷ [])) ≡ next (wentFrom (k + 1) es) (passable e) (k + 1 + length es)
+        → pickWent (passable x) (wentFrom (k + 1) (es ++ (e ∷ []))) (Failed k)
+        ≡ next (pickWent (passable x) (wentFrom (k + 1) es) (Failed k)) (passable e) (k + suc (length es))
+    go true h r =
+        let place : k + 1 + length es ≡ k + suc (length es) = omega arith in
+        rw h (r ∙ ap (next (wentFrom (k + 1) es) (passable e)) place)
+    go false h r = rw h
+
+-- a closing says nothing; any other entry that failed does
+next-closing : (went : Went) (k : ℕ) → next went true k ≡ went
+next-closing Going k = refl
+next-closing (Failed j) k = refl
+
+next-told : (ok : Bool) (k : ℕ) → next Going ok k ≡ toldOf ok k
+next-told true k = refl
+next-told false k = refl
+
+no-closing : (s : Step) (c : Chip) (ok : Bool) → fine s ≡ true → inner s ≡ true → isClosing (emit s c ok) ≡ false
+no-closing Open c ok f n = refl
+no-closing Close c ok f n = absurd (false≢true n)
+no-closing (Send m bytes) c ok f n = refl
+no-closing (Mask r v m) c ok f n = refl
+no-closing (Plain e) c ok f n = rw (aside-of e f .kind)
+
+goes-going : (went : Went) → goes went ≡ true → went ≡ Going
+goes-going Going h = refl
+goes-going (Failed k) h = absurd (false≢true h)
+
+-- how it went, and that the entries are counted
+record Read (t : Trace) : Type 0 where
+  counted : t .count ≡ length (t .log)
+  told : t .went ≡ wentIn (t .log)
+
+module _ (os : List ℕ) where
+  read-inner : (s : Step) (t : Trace) (ok : Bool) → fine s ≡ true → inner s ≡ true → goes (t .went) ≡ true → Read t → Read (taken inList os ok s t)
+  read-inner s t ok f n g r =
+      let e : Entry = emit s (t .chip) ok in
+      let test : passable e ≡ ok = ap (λ (b : Bool). done e || b) (no-closing s (t .chip) ok f n) ∙ or-false (done e) ∙ emit-done s (t .chip) ok in
+      let before : wentIn (t .log) ≡ Going = sym (r .told) ∙ goes-going (t .went) g in
+      let place : 0 + length (t .log) ≡ t .count = omega (arith, r .counted) in
+      record {
+        counted = counted-taken os s t ok (r .counted);
+        told =
+            inner-went s ok (t .count) (t .went) n ∙ sym (next-told ok (t .count)) ∙ sym (went-snoc 0 (t .log) e ∙ (λ i. next (before i) (test i) (place i)));
+      }
+
+  read-close : (t : Trace) (ok : Bool) → Read t → Read (taken inList os ok Close t)
+  read-close t ok r =
+      let e : Entry = emit Close (t .chip) ok in
+      record {
+        counted = counted-taken os Close t ok (r .counted);
+        told = r .told ∙ sym (next-closing (wentIn (t .log)) (0 + length (t .log))) ∙ sym (went-snoc 0 (t .log) e ∙ ap (λ (b : Bool). next (wentIn (t .log)) b (0 + length (t .log))) (or-true (done e)));
+      }
+
+  read-step : (s : Step) (t : Trace) → fine s ≡ true → acts s (t .went) (t .held) ≡ true → Read t → Read (taken inList os (okFor os (t .count) s) s t)
+  read-step Open t f a r = read-inner Open t (okFor os (t .count) Open) f refl a r
+  read-step Close t f a r = read-close t (okFor os (t .count) Close) r
+  read-step (Send n bytes) t f a r = read-inner (Send n bytes) t (okFor os (t .count) (Send n bytes)) f refl a r
+  read-step (Mask g v m) t f a r = read-inner (Mask g v m) t (okFor os (t .count) (Mask g v m)) f refl a r
+  read-step (Plain e) t f a r = read-inner (Plain e) t (okFor os (t .count) (Plain e)) f refl a r
+
+-- the answer's index is that of the first entry that failed and is no closing
+pub told-trace : (os : List ℕ) (ss : List Step) (c : Chip) → every fine ss ≡ true → trace os ss c .went ≡ wentIn (trace os ss c .log)
+unfolding trace wentFrom
+told-trace os ss c f =
+    run-keeps os Read fine (read-step os) ss (line c [] 0 Going false) f (record { counted = refl; told = refl }) .told

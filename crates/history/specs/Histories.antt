@@ -1,0 +1,131 @@
+-- What demand 3 states: a record that follows entries, a sequence of calls from a fresh record with its entries end to end, a cut call
+-- against the uncut one, and how a call went as its entries tell it.
+--
+-- The premises, in plain words, are those of crate `attempts`: nothing else writes the chip, a write reported done landed whole, a failed one
+-- may have left anything in the registers that it named. Nothing is said of real USB, of two hosts on one chip, or of the chip's own doings.
+-- Assumes nothing.
+use Prim.Native.Nat.{ℕ, _+_, _≤_, _<_}
+use mathlib.Core.Path.{_≡_}
+use mathlib.Core.Bool.{Bool, true, false, _&&_, _||_}
+use mathlib.Core.List.{List, [], _∷_, _++_}
+use lib.Dec.{eqb}
+use lib.ListN.{length, getD, replicate}
+use Rattle.transcript.specs.declared.Entry.{Entry}
+use Rattle.transcript.specs.Table.{isRead}
+use Rattle.attempts.specs.Attempts.{Regs, byteIn, done, doubtIn, firstOf, lastIn}
+use Rattle.chip.specs.declared.Answer.{Answer}
+use Rattle.chip.specs.declared.Answer.the-variants.{Done, Refused, Stopped}
+use Rattle.chip.specs.declared.Chip.{Chip}
+use Rattle.chip.specs.declared.Went.{Went}
+use Rattle.chip.specs.declared.Went.the-variants.{Going, Failed}
+use Rattle.chip.specs.Entries.{pickBytes, repeater, zeros8}
+use Rattle.chip.specs.Steps.{Step, every, trace}
+use Rattle.history.specs.Programs.{beside, fine}
+
+-- a record follows entries: "doubtful are exactly those never attempted or last attempted in vain", and the attempted byte is the last
+-- attempted in the entries, or the initial one where none was. Register 5 + i is the record's i.
+pub record Tracks (init : List ℕ) (c : Chip) (es : List Entry) : Type 0 where
+  pub chip : c .address ≤ 255
+  pub marks : length (c .doubtful) ≡ 27
+  pub bytes : length (c .attempted) ≡ 27
+  pub doubtful : (i : ℕ) → i < 27 → getD (c .doubtful) i true ≡ doubtIn (lastIn (c .address) es (5 + i))
+  pub attempted : (i : ℕ) → i < 27 → getD (c .attempted) i 0 ≡ byteIn (getD init i 0) (lastIn (c .address) es (5 + i))
+
+-- "per register the byte last attempted (fresh: `INIT_ARRAY`) and a doubtful mark (fresh: all)"
+pub record Fresh (init : List ℕ) (c : Chip) : Type 0 where
+  pub chip : c .address ≤ 255
+  pub long : length init ≡ 27
+  pub attempted : c .attempted ≡ init
+  pub doubtful : c .doubtful ≡ replicate 27 true
+
+-- two records of one chip whose attempt records are the same: they may differ in their shadow
+pub record Alike (c d : Chip) : Type 0 where
+  pub chip : d .address ≡ c .address
+  pub attempted : d .attempted ≡ c .attempted
+  pub doubtful : d .doubtful ≡ c .doubtful
+
+-- "any sequence of calls from a fresh record, each on the record the last handed back, with any outcomes": the record at its end, and the
+-- entries of all its calls end to end. A call runs a program of fine steps, and what it hands back differs from its trace's chip in the shadow at
+-- most (reload's); one without steps (refused, `set_ppm`, notch, `update_shadow`) likewise; one that touches no tuner record runs
+-- its program over any other chip's record.
+pub data History (init : List ℕ) : Chip → List Entry → Type 0 where
+  made : (c : Chip) → Fresh init c → History init c []
+  called : (c : Chip) (es : List Entry) → History init c es → (os : List ℕ) (ss : List Step) → every fine ss ≡ true
+      → (d : Chip) → Alike (trace os ss c .chip) d → History init d (es ++ trace os ss c .log)
+  still : (c : Chip) (es : List Entry) → History init c es → (d : Chip) → Alike c d → History init d es
+  aside : (c : Chip) (es : List Entry) → History init c es → (k : Chip) (os : List ℕ) (ss : List Step) → every beside ss ≡ true
+      → History init c (es ++ trace os ss k .log)
+
+-- an entry without its outcome, and without a read's data: the step that was tried
+abbrev pub bare : Entry → Entry
+bare e =
+    record {
+      kind = e .kind;
+      outcome = 0;
+      target = e .target;
+      n = e .n;
+      address = e .address;
+      bytes = pickBytes (isRead (e .kind)) zeros8 (e .bytes);
+    }
+
+-- "at most the repeater's closing"
+pub data Closing : List Entry → Type 0 where
+  nothing : Closing []
+  closed : (ok : Bool) → Closing (repeater 0 ok ∷ [])
+
+-- the entries of a call that failed at entry i, and those of the uncut call: the same up to the failing one, which is the same step; after it
+-- the cut call has at most a closing, and none after a failed opening
+pub record Cut (i : ℕ) (cut whole : List Entry) : Type 0 where
+  pub earlier : List Entry
+  pub last : Entry
+  pub there : Entry
+  pub closing : List Entry
+  pub later : List Entry
+  pub index : i ≡ length earlier
+  pub cuts : cut ≡ earlier ++ (last ∷ closing)
+  pub wholes : whole ≡ earlier ++ (there ∷ later)
+  pub same : bare last ≡ bare there
+  pub failed : done last ≡ false
+  pub met : done there ≡ true
+  pub closes : Closing closing
+  pub shut : eqb (last .kind) 1 ≡ true → closing ≡ []
+
+-- what a reload that was done leaves at register 5 + i: "all 27 registers and the shadow at the last attempted bytes", and no doubt
+pub record Restored (byte i : ℕ) (c : Chip) (chip : Regs) : Type 0 where
+  pub holds : chip (5 + i) ≡ byte
+  pub shadow : getD (c .shadow) i 0 ≡ byte
+  pub attempted : getD (c .attempted) i 0 ≡ byte
+  pub doubtful : getD (c .doubtful) i true ≡ false
+
+abbrev pub isClosing : Entry → Bool
+isClosing e = eqb (e .kind) 1 && eqb (firstOf e) 0
+
+abbrev pub pickWent : Bool → Went → Went → Went
+pickWent true a b = a
+pickWent false a b = b
+
+-- an entry after which a call goes on: it was done, or "A failed closing is recorded and otherwise ignored"
+abbrev pub passable : Entry → Bool
+passable e = done e || isClosing e
+
+-- how a call went, told by its entries: "a step other than a closing failed", the first one, by its index
+unfoldable pub wentFrom : ℕ → List Entry → Went
+wentFrom k [] = Going
+wentFrom k (e ∷ es) = pickWent (passable e) (wentFrom (k + 1) es) (Failed k)
+
+abbrev pub wentIn : List Entry → Went
+wentIn es = wentFrom 0 es
+
+abbrev pub pickEntries : Bool → List Entry → List Entry → List Entry
+pickEntries true a b = a
+pickEntries false a b = b
+
+-- the entries of a call as crate `chip` has it: those of its program's trace, and none where a number refuses it before any step
+abbrev pub callEntries : ℕ → List ℕ → List Step → Chip → List Entry
+callEntries number os ss c = pickEntries (eqb number 0) (trace os ss c .log) []
+
+-- an answer of a call whose steps are all done: a value or a refusal of its own, never a step's failing
+abbrev pub stops : Answer → Bool
+stops (Done value) = false
+stops (Refused number) = false
+stops (Stopped index) = true

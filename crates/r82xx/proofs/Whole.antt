@@ -1,0 +1,97 @@
+-- A whole call over the code: refused before any step, or performed. Assumes nothing.
+use Prim.Native.Nat.{ℕ, _+_, _^_, _<_}
+use native.Mathlib.Omega.{arith}
+use lib.Ieee.{Float, binary32, toBits}
+use mathlib.Core.Path.{_≡_, refl, sym, ap, _∙_}
+use mathlib.Core.Bool.{Bool, true, false, _&&_, _||_}
+use mathlib.Core.List.{List, [], _∷_, _++_}
+use borrow.Author.Tests.{eq-eqb}
+use lib.ListN.{length}
+use Rattle.transcript.specs.declared.Entry.{Entry}
+use Rattle.chip.specs.declared.Answer.{Answer}
+use Rattle.chip.specs.declared.Answer.the-variants.{Done, Refused}
+use Rattle.chip.specs.declared.Chip.{Chip}
+use Rattle.chip.specs.declared.Flow.{Flow}
+use Rattle.chip.specs.declared.Seen.{Seen}
+use Rattle.chip.specs.declared.Update.{Update}
+use Rattle.chip.specs.declared.Went.the-variants.{Going}
+use Rattle.chip.specs.Calls.{Called, answerOf, callOf, called, laidOut, lockedIn, sealed, seenFrom, triesIn}
+use Rattle.chip.specs.Entries.{unseen}
+use Rattle.chip.specs.Steps.{Line, Logged, Step, Trace, behind, eight, every, inRoom, line, logged, onRoom, run, trace, tunerWrite, updates}
+use Rattle.chip.specs.Steps.Step.{Open, Close, Plain}
+use Rattle.chip.proofs.Chunks.{chunk-eight}
+use Rattle.chip.proofs.Taken.{handed, performs, refuses, seen-counted, stands}
+use Rattle.tuning.proofs.Programs.{all-updates, eight-update, every-app}
+use Rattle.gain.specs.Product.{gainOf}
+use Rattle.gain.specs.Steps.{stepAt}
+use Rattle.writes.specs.Lists.{gainUpdates, ifUpdates, initArray, initUpdates}
+use Rattle.writes.specs.Programs.{initSteps, sendAll}
+use Rattle.r82xx.specs.declared.Tuner.{Tuner}
+use Rattle.r82xx.specs.Record.{lockBy, withGain}
+use Rattle.r82xx.specs.Calls.{bracketCall, stepCall}
+
+-- refused by a number that was worked out apart
+pub refuse-by : {R : Type 0} (number given : ℕ) (whole : Answer) (os : List ℕ) (ss : List Step) (c : Chip) (keep : Trace → R) (old : R) (room : List ℕ)
+    → given ≡ number → (given ≡ 0 → ⊥) → called old room 0 (Refused given) ≡ callOf number whole os ss c keep old room
+refuse-by number given whole os ss c keep old room e h =
+    ap (λ (k : ℕ). called old room 0 (Refused k)) e ∙ refuses number whole os ss c keep old room (λ z. h (e ∙ z))
+
+-- performed: the record is what `see` makes of where the code stands
+pub perform-by : {R : Type 0} (number given : ℕ) (whole : Answer) (os : List ℕ) (ss : List Step) (c : Chip) (keep : Trace → R) (see : Line Logged → R) (old r : R) (room : List ℕ)
+    (f : Flow) (mid after : List ℕ) (answer : Answer)
+    → given ≡ number → given ≡ 0 → every eight ss ≡ true
+    → onRoom f mid ≡ run inRoom os ss (line c (logged room unseen) 0 Going false)
+    → after ≡ sealed mid (f .count) → answer ≡ answerOf whole (f .went)
+    → r ≡ see (onRoom f mid) → see (laidOut room (trace os ss c)) ≡ keep (trace os ss c)
+    → called r after (f .count) answer ≡ callOf number whole os ss c keep old room
+perform-by number given whole os ss c keep see old r room f mid after answer e z h k p q l m =
+    handed os room ss c keep whole r f mid after answer h k p q (l ∙ ap see (stands os room ss c f mid h k) ∙ m)
+    ∙ performs number whole os ss c keep old room (sym e ∙ z)
+
+-- programs whose entries have their eight data bytes
+eight-plain : (e : Entry) → length (e .bytes) ≡ 8 → eight (Plain e) ≡ true
+eight-plain e h = eq-eqb (length (e .bytes)) 8 h
+
+close-eight : every eight (Close ∷ []) ≡ true
+unfolding every
+close-eight = refl
+
+pub behind-eight : (ss : List Step) → every eight ss ≡ true → every eight (behind ss) ≡ true
+unfolding every
+behind-eight ss h = every-app eight ss (Close ∷ []) h close-eight
+
+pub bracket-eight : (us : List Update) → every eight (behind (updates us)) ≡ true
+bracket-eight us = behind-eight (updates us) (all-updates eight eight-plain eight-update us)
+
+pub send-eight : (bs : List ℕ) → every eight (sendAll bs) ≡ true
+unfolding every
+send-eight bs =
+    rw (chunk-eight bs 0 7, chunk-eight bs 7 7, chunk-eight bs 14 2, chunk-eight bs 16 7, chunk-eight bs 23 4)
+
+pub init-eight : every eight initSteps ≡ true
+init-eight =
+    every-app eight (sendAll initArray) (behind (updates initUpdates) ++ behind (updates (ifUpdates 2_300_000))) (send-eight initArray)
+    (every-app eight (behind (updates initUpdates)) (behind (updates (ifUpdates 2_300_000))) (bracket-eight initUpdates) (bracket-eight (ifUpdates 2_300_000)))
+
+-- a call of one bracket, whose list was worked out apart, and whose record is known
+pub bracket-by : (cut whole : Tuner) (answer : Answer) (xs ys : List Update) (n : ℕ) (os : List ℕ) (t : Tuner) (room : List ℕ) (x : Called Tuner)
+    → xs ≡ ys → x ≡ bracketCall cut whole answer xs n os t room → x ≡ bracketCall cut whole answer ys n os t room
+bracket-by cut whole answer xs ys n os t room x e h = h ∙ ap (λ (us : List Update). bracketCall cut whole answer us n os t room) e
+
+-- a gain's call, whose step's gain and bits were worked out apart
+pub step-by : (k bits : ℕ) (actual : Float) (us : List Update) (os : List ℕ) (t : Tuner) (room : List ℕ) (x : Called Tuner)
+    → us ≡ gainUpdates k → actual ≡ gainOf (stepAt k) → bits ≡ toBits binary32 actual
+    → x ≡ bracketCall t (withGain t actual) (Done bits) us 5 os t room → x ≡ stepCall os k t room
+unfolding stepCall
+step-by k bits actual us os t room x e g b h =
+    h ∙ (λ i. bracketCall t (withGain t (g i)) (Done ((b ∙ ap (toBits binary32) g) i)) (e i) 5 os t room)
+
+-- the lock, by what the tries have said
+pub lock-by : (os room : List ℕ) (ss : List Step) (c : Chip) (old : Bool) → every eight ss ≡ true → length (trace os ss c .log) < 2 ^ 64
+    → lockBy (seenFrom unseen (trace os ss c .log) .locked) (seenFrom unseen (trace os ss c .log) .tries) old
+    ≡ lockBy (lockedIn (trace os ss c .log)) (triesIn (trace os ss c .log)) old
+lock-by os room ss c old h few =
+    let es = trace os ss c .log in
+    let said : seenFrom unseen es ≡ record { tries = 0 + triesIn es; locked = false || lockedIn es } = seen-counted unseen es (omega arith) in
+    let zero-more : 0 + triesIn es ≡ triesIn es = omega arith in
+    ap (λ (s : Seen). lockBy (s .locked) (s .tries) old) said ∙ ap (λ (n : ℕ). lockBy (lockedIn es) n old) zero-more

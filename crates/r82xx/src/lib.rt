@@ -1,0 +1,602 @@
+// The tuner's record and its calls: src/tuners/r82xx.rs but for logging, clocks and `get_filters`, with our reload.
+// Document 01, "The record": "Each operation hands the record back with its answer"; a method takes the record by value and returns the next one,
+// the answer and how many entries were made. A record out of its ranges is refused 1 first, by every call.
+ghost use mathlib.Core.Path.{_≡_};
+ghost use mathlib.Core.Bool.{true};
+ghost use mathlib.Core.List.{[]};
+ghost use lib.Ieee.{binary32, toBits};
+ghost use Prim.Native.Nat.{_+_, _≤_, _<_};
+ghost use lib.ListN.{length, take};
+ghost use Rattle.chip.specs.Calls.{called};
+ghost use Rattle.chip.specs.Steps.{allIn};
+ghost use Rattle.r82xx.specs.Record.{endedBy, freshTuner, lockBy, madeOf, reloaded, soundBy, withCorrected, withNotch};
+ghost use Rattle.r82xx.specs.Calls.{bandwidthCall, bracketCall, gainCall, hzRefusal, ifCall, indexCall, initCall, keptNotch, keptPpm, pathCall, ppmAnswer, refusalOf, reloadCall, shadowCall, soundAnswer, stepCall, tableOf, tuneCall, wholeOf};
+use board::PathRead;
+use chip::Answer;
+use chip::Chip;
+use chip::Flow;
+use chip::Seen;
+use chip::Update;
+use chip::Went;
+use pll::Kind;
+use pll::Pll;
+use reference::Corrected;
+use writes::IF_FREQ_NARROW;
+use writes::INIT_ARRAY;
+
+pub struct Tuner {
+    pub kind: Kind,
+    pub chip: Chip,
+    pub nominal: u32,
+    pub corrected: u32,
+    pub lock: bool,
+    pub gain: f32,
+    pub ifreq: u64,
+    pub notch: bool,
+}
+
+// A record that was asked for: made, or refused, and then nothing of it counts.
+pub struct Made {
+    pub answer: Answer,
+    pub tuner: Tuner,
+}
+
+// What a call hands back: the next record, its answer, how many entries it made.
+pub struct Told {
+    pub tuner: Tuner,
+    pub answer: Answer,
+    pub count: usize,
+}
+
+// The gain table behind an answer.
+pub struct Table {
+    pub answer: Answer,
+    pub steps: [i32; 29],
+}
+
+fn fresh(kind: Kind, address: u8, nominal: u32) -> Tuner
+    ensures { λ r. ⌜ r ≡ freshTuner kind address nominal ⌝ }
+{
+    let chip = Chip {
+        address: address,
+        shadow: INIT_ARRAY,
+        attempted: INIT_ARRAY,
+        doubtful: [true; 27],
+    };
+    Tuner {
+        kind: kind,
+        chip: chip,
+        nominal: nominal,
+        corrected: nominal,
+        lock: false,
+        gain: 0.0,
+        ifreq: IF_FREQ_NARROW,
+        notch: false,
+    }
+}
+
+fn sound(nominal: u32, corrected: u32) -> bool
+    ensures { λ r. ⌜ r ≡ soundBy nominal corrected ⌝ }
+{
+    (1 <= nominal) & (1 <= corrected)
+}
+
+// The record behind steps: as it is where one failed, or where all were done, with the chip's part as they left it.
+fn ended(cut: Tuner, whole: Tuner, went: Went, chip: Chip) -> Tuner
+    ensures { λ r. ⌜ r ≡ endedBy cut whole went chip ⌝ }
+{
+    let mut next = whole;
+    let Went::Going = went else {
+        let mut old = cut;
+        old.chip = chip;
+        return old;
+    };
+    next.chip = chip;
+    next
+}
+
+// "2 frequency | hz 0; hz + IF over u64".
+fn hz_refusal(hz: u64, ifreq: u64) -> u8
+    ensures { λ r. ⌜ r ≡ hzRefusal hz ifreq ⌝ }
+{
+    if hz == 0 {
+        return chip::FREQUENCY;
+    }
+    if 0xffff_ffff_ffff_ffff - ifreq < hz {
+        return chip::FREQUENCY;
+    }
+    0
+}
+
+// What a tuning answers where no step fails.
+fn whole_answer(plan: Pll, hz: u64) -> Answer
+    ensures { λ r. ⌜ r ≡ wholeOf plan hz ⌝ }
+{
+    match plan {
+        Pll::Refused => Answer::Refused(chip::FREQUENCY),
+        Pll::Planned(_) => Answer::Done(hz),
+    }
+}
+
+fn locked(seen: Seen, old: bool) -> bool
+    ensures { λ r. ⌜ r ≡ lockBy (seen .locked) (seen .tries) old ⌝ }
+{
+    if seen.locked {
+        return true;
+    }
+    if seen.tries == 10 {
+        return false;
+    }
+    old
+}
+
+// "sets the shadow to them when all are done".
+fn reload_chip(went: Went, c: Chip) -> Chip
+    ensures { λ r. ⌜ r ≡ reloaded went c ⌝ }
+{
+    let Went::Going = went else {
+        return c;
+    };
+    let bytes = c.attempted;
+    let mut next = c;
+    next.shadow = bytes;
+    next
+}
+
+fn sound_answer(nominal: u32, corrected: u32, value: u64) -> Answer
+    ensures { λ r. ⌜ r ≡ soundAnswer nominal corrected value ⌝ }
+{
+    if !sound(nominal, corrected) {
+        return Answer::Refused(chip::SETUP);
+    }
+    Answer::Done(value)
+}
+
+// The corrected reference that a correction leaves: the old one where it is refused.
+fn kept_ppm(nominal: u32, corrected: u32, ppm: i32) -> u32
+    ensures { λ r. ⌜ r ≡ keptPpm nominal corrected ppm ⌝ }
+{
+    if !sound(nominal, corrected) {
+        return corrected;
+    }
+    let Corrected::Is(v) = reference::correct(nominal, ppm) else {
+        return corrected;
+    };
+    v
+}
+
+fn ppm_answer(nominal: u32, corrected: u32, ppm: i32) -> Answer
+    ensures { λ r. ⌜ r ≡ ppmAnswer nominal corrected ppm ⌝ }
+{
+    if !sound(nominal, corrected) {
+        return Answer::Refused(chip::SETUP);
+    }
+    let Corrected::Is(_) = reference::correct(nominal, ppm) else {
+        return Answer::Refused(chip::CORRECTION);
+    };
+    Answer::Done(0)
+}
+
+fn kept_notch(nominal: u32, corrected: u32, old: bool, on: bool) -> bool
+    ensures { λ r. ⌜ r ≡ keptNotch nominal corrected old on ⌝ }
+{
+    if !sound(nominal, corrected) {
+        return old;
+    }
+    on
+}
+
+impl Tuner {
+    // kind: 0 R820T, 1 R828D.
+    pub fn new(kind: u64, address: u8, nominal: u64) -> Made
+        ensures { λ r. ⌜ r ≡ madeOf kind address nominal ⌝ }
+    {
+        let refused = Made {
+            answer: Answer::Refused(chip::SETUP),
+            tuner: fresh(Kind::R820T, 0, 1),
+        };
+        if nominal < 1 {
+            return refused;
+        }
+        if 4_294_967_295 < nominal {
+            return refused;
+        }
+        let small = nominal as u32;
+        if kind == 0 {
+            return Made {
+                answer: Answer::Done(0),
+                tuner: fresh(Kind::R820T, address, small),
+            };
+        }
+        if kind == 1 {
+            return Made {
+                answer: Answer::Done(0),
+                tuner: fresh(Kind::R828D, address, small),
+            };
+        }
+        refused
+    }
+
+    // 1 for the record, then an argument's refusal, then 8, 9, 10; 0 where none is given.
+    fn refusal(
+        self,
+        argument: u8,
+        n: usize,
+        m: usize,
+        room: usize,
+        outcomes: usize,
+        replies: usize,
+    ) -> u8
+        requires { ⌜ n ≤ 4096 ⌝ }
+        ensures { λ r. ⌜ r ≡ refusalOf self argument n m room outcomes replies ⌝ }
+    {
+        if !sound(self.nominal, self.corrected) {
+            return chip::SETUP;
+        }
+        if argument != 0 {
+            return argument;
+        }
+        chip::lent(n, m, room, outcomes, replies)
+    }
+
+    // A call of one bracket of masked writes.
+    fn operate(
+        self,
+        cut: Tuner,
+        whole: Tuner,
+        answer: Answer,
+        us: [Update; 16],
+        n: usize,
+        outcomes: &[u8],
+        room: &mut [u8],
+    ) -> Told
+        requires { ⌜ (n ≤ 14) × (allIn (take n us) ≡ true) ⌝ }
+        ensures { λ r. ⌜ called (r .tuner) (now (room .exit)) (r .count) (r .answer)
+            ≡ bracketCall cut whole answer (take n us) n (now (outcomes .entry)) self (now (room .entry)) ⌝ }
+    {
+        let number = self.refusal(0, n + 2, 0, room.len(), outcomes.len(), 0);
+        if number != 0 {
+            return Told {
+                tuner: self,
+                answer: Answer::Refused(number),
+                count: 0,
+            };
+        }
+        let chip = self.chip;
+        let start = Flow {
+            chip: chip,
+            count: 0,
+            went: Went::Going,
+            held: false,
+            seen: Seen {
+                tries: 0,
+                locked: false,
+            },
+        };
+        let f = chip::with_repeater(start, us, n, outcomes, room);
+        let answered = chip::finish(f, answer, room);
+        let went = f.went;
+        let left = f.chip;
+        Told {
+            tuner: ended(cut, whole, went, left),
+            answer: answered,
+            count: f.count,
+        }
+    }
+
+    pub fn set_bandwidth(self, hz: u32, outcomes: &[u8], room: &mut [u8]) -> Told
+        ensures { λ r. ⌜ called (r .tuner) (now (room .exit)) (r .count) (r .answer)
+            ≡ bandwidthCall (now (outcomes .entry)) hz self (now (room .entry)) ⌝ }
+    {
+        let us = writes::bandwidth_updates(hz);
+        self.operate(self, self, Answer::Done(0), us, 1, outcomes, room)
+    }
+
+    // The IF changes before its writes are tried.
+    pub fn set_if_freq(self, hz: u64, outcomes: &[u8], room: &mut [u8]) -> Told
+        ensures { λ r. ⌜ called (r .tuner) (now (room .exit)) (r .count) (r .answer)
+            ≡ ifCall (now (outcomes .entry)) hz self (now (room .entry)) ⌝ }
+    {
+        let us = writes::if_updates(hz);
+        let mut next = self;
+        next.ifreq = hz;
+        self.operate(next, next, Answer::Done(0), us, 2, outcomes, room)
+    }
+
+    // The gain changes only when all writes are done.
+    fn set_step(self, k: usize, outcomes: &[u8], room: &mut [u8]) -> Told
+        requires { ⌜ k < 29 ⌝ }
+        ensures { λ r. ⌜ called (r .tuner) (now (room .exit)) (r .count) (r .answer)
+            ≡ stepCall (now (outcomes .entry)) k self (now (room .entry)) ⌝ }
+    {
+        let us = writes::gain_updates(k);
+        let actual = gain::gain_at(k);
+        let mut whole = self;
+        whole.gain = actual;
+        let bits = wire::bits_of(actual);
+        self.operate(
+            self,
+            whole,
+            Answer::Done(bits as u64),
+            us,
+            5,
+            outcomes,
+            room,
+        )
+    }
+
+    pub fn set_gain(self, db: f32, outcomes: &[u8], room: &mut [u8]) -> Told
+        ensures { λ r. ⌜ called (r .tuner) (now (room .exit)) (r .count) (r .answer)
+            ≡ gainCall (now (outcomes .entry)) db self (now (room .entry)) ⌝ }
+    {
+        self.set_step(gain::choose(db), outcomes, room)
+    }
+
+    pub fn set_gain_by_index(self, index: usize, outcomes: &[u8], room: &mut [u8]) -> Told
+        ensures { λ r. ⌜ called (r .tuner) (now (room .exit)) (r .count) (r .answer)
+            ≡ indexCall (now (outcomes .entry)) index self (now (room .entry)) ⌝ }
+    {
+        self.set_step(gain::choose_index(index), outcomes, room)
+    }
+
+    // path: 0 HF, 1 VHF, 2 UHF. R820T has one input: nothing is written, and no lent memory is looked at.
+    pub fn set_input_path(self, path: u8, outcomes: &[u8], room: &mut [u8]) -> Told
+        ensures { λ r. ⌜ called (r .tuner) (now (room .exit)) (r .count) (r .answer)
+            ≡ pathCall (now (outcomes .entry)) path self (now (room .entry)) ⌝ }
+    {
+        let PathRead::Is(by) = board::path_of(path) else {
+            return Told {
+                tuner: self,
+                answer: Answer::Refused(chip::SETUP),
+                count: 0,
+            };
+        };
+        let kind = self.kind;
+        match kind {
+            Kind::R820T => Told {
+                tuner: self,
+                answer: sound_answer(self.nominal, self.corrected, 0),
+                count: 0,
+            },
+            Kind::R828D => self.operate(
+                self,
+                self,
+                Answer::Done(0),
+                writes::path_updates(by),
+                2,
+                outcomes,
+                room,
+            ),
+        }
+    }
+
+    pub fn initialize(self, outcomes: &[u8], room: &mut [u8]) -> Told
+        ensures { λ r. ⌜ called (r .tuner) (now (room .exit)) (r .count) (r .answer)
+            ≡ initCall (now (outcomes .entry)) self (now (room .entry)) ⌝ }
+    {
+        let number = self.refusal(0, 19, 0, room.len(), outcomes.len(), 0);
+        if number != 0 {
+            return Told {
+                tuner: self,
+                answer: Answer::Refused(number),
+                count: 0,
+            };
+        }
+        let chip = self.chip;
+        let start = Flow {
+            chip: chip,
+            count: 0,
+            went: Went::Going,
+            held: false,
+            seen: Seen {
+                tries: 0,
+                locked: false,
+            },
+        };
+        let f = writes::initialize(start, outcomes, room);
+        let answered = chip::finish(f, Answer::Done(0), room);
+        let mut next = self;
+        let left = f.chip;
+        next.chip = left;
+        Told {
+            tuner: next,
+            answer: answered,
+            count: f.count,
+        }
+    }
+
+    // "Reload sends the attempted bytes in `initialize`'s chunks .. and sets the shadow to them when all are done."
+    pub fn reload(self, outcomes: &[u8], room: &mut [u8]) -> Told
+        ensures { λ r. ⌜ called (r .tuner) (now (room .exit)) (r .count) (r .answer)
+            ≡ reloadCall (now (outcomes .entry)) self (now (room .entry)) ⌝ }
+    {
+        let number = self.refusal(0, 9, 0, room.len(), outcomes.len(), 0);
+        if number != 0 {
+            return Told {
+                tuner: self,
+                answer: Answer::Refused(number),
+                count: 0,
+            };
+        }
+        let chip = self.chip;
+        let bytes = chip.attempted;
+        let start = Flow {
+            chip: chip,
+            count: 0,
+            went: Went::Going,
+            held: false,
+            seen: Seen {
+                tries: 0,
+                locked: false,
+            },
+        };
+        let f = writes::send_all(start, bytes, outcomes, room);
+        let answered = chip::finish(f, Answer::Done(0), room);
+        let mut next = self;
+        let went = f.went;
+        let left = f.chip;
+        next.chip = reload_chip(went, left);
+        Told {
+            tuner: next,
+            answer: answered,
+            count: f.count,
+        }
+    }
+
+    pub fn set_frequency(self, hz: u64, replies: &[u8], outcomes: &[u8], room: &mut [u8]) -> Told
+        ensures { λ r. ⌜ called (r .tuner) (now (room .exit)) (r .count) (r .answer)
+            ≡ tuneCall (now (outcomes .entry)) (now (replies .entry)) hz self (now (room .entry)) ⌝ }
+    {
+        let ifreq = self.ifreq;
+        let number = self.refusal(
+            hz_refusal(hz, ifreq),
+            53,
+            35,
+            room.len(),
+            outcomes.len(),
+            replies.len(),
+        );
+        if number != 0 {
+            return Told {
+                tuner: self,
+                answer: Answer::Refused(number),
+                count: 0,
+            };
+        }
+        let kind = self.kind;
+        let chip = self.chip;
+        let plan = pll::plan_pll(kind, hz + ifreq, self.corrected);
+        let start = Flow {
+            chip: chip,
+            count: 0,
+            went: Went::Going,
+            held: false,
+            seen: Seen {
+                tries: 0,
+                locked: false,
+            },
+        };
+        let f = tuning::tune(
+            start,
+            chip.address,
+            kind,
+            self.notch,
+            plan,
+            hz,
+            replies,
+            outcomes,
+            room,
+        );
+        let answered = chip::finish(f, whole_answer(plan, hz), room);
+        let mut next = self;
+        let left = f.chip;
+        let seen = f.seen;
+        next.chip = left;
+        next.lock = locked(seen, self.lock);
+        Told {
+            tuner: next,
+            answer: answered,
+            count: f.count,
+        }
+    }
+
+    // The mask leaf called alone: the shadow is changed and nothing is sent.
+    pub fn update_shadow(self, register: u8, value: u8, mask: u8) -> Told
+        ensures { λ r. ⌜ called (r .tuner) [] (r .count) (r .answer) ≡ shadowCall register value mask self ⌝ }
+    {
+        if !sound(self.nominal, self.corrected) {
+            return Told {
+                tuner: self,
+                answer: Answer::Refused(chip::SETUP),
+                count: 0,
+            };
+        }
+        if register < chip::REG_SHADOW_START {
+            return Told {
+                tuner: self,
+                answer: Answer::Refused(chip::REGISTER),
+                count: 0,
+            };
+        }
+        if 0x1f < register {
+            return Told {
+                tuner: self,
+                answer: Answer::Refused(chip::REGISTER),
+                count: 0,
+            };
+        }
+        let index = (register - chip::REG_SHADOW_START) as usize;
+        let mut chip = self.chip;
+        let byte = chip::mask_into(chip.shadow[index], value, mask);
+        chip.shadow[index] = byte;
+        let mut next = self;
+        next.chip = chip;
+        Told {
+            tuner: next,
+            answer: Answer::Done(byte as u64),
+            count: 0,
+        }
+    }
+
+    pub fn get_gain(self) -> Answer
+        ensures { λ r. ⌜ r ≡ soundAnswer (self .nominal) (self .corrected) (toBits binary32 (self .gain)) ⌝ }
+    {
+        let bits = wire::bits_of(self.gain);
+        sound_answer(self.nominal, self.corrected, bits as u64)
+    }
+
+    pub fn get_if_freq(self) -> Answer
+        ensures { λ r. ⌜ r ≡ soundAnswer (self .nominal) (self .corrected) (self .ifreq) ⌝ }
+    {
+        sound_answer(self.nominal, self.corrected, self.ifreq)
+    }
+
+    // The 29 gain steps in tenths of a dB; zeros beside a refusal.
+    pub fn get_gain_table(self) -> Table
+        ensures { λ r. ⌜ r ≡ tableOf (self .nominal) (self .corrected) ⌝ }
+    {
+        let answer = sound_answer(self.nominal, self.corrected, 0);
+        if !sound(self.nominal, self.corrected) {
+            return Table {
+                answer: answer,
+                steps: [0; 29],
+            };
+        }
+        Table {
+            answer: answer,
+            steps: gain::get_gain_table(),
+        }
+    }
+
+    // `set_ppm` over a record by value, for callers that hold one so.
+    pub fn with_ppm(self, ppm: i32) -> Told
+        ensures { λ r. ⌜ called (r .tuner) [] (r .count) (r .answer)
+            ≡ called (withCorrected self (keptPpm (self .nominal) (self .corrected) ppm)) [] 0 (ppmAnswer (self .nominal) (self .corrected) ppm) ⌝ }
+    {
+        let n = self.nominal;
+        let c = self.corrected;
+        let mut next = self;
+        next.corrected = kept_ppm(n, c, ppm);
+        Told {
+            tuner: next,
+            answer: ppm_answer(n, c, ppm),
+            count: 0,
+        }
+    }
+
+    // `apply_notch` over a record by value.
+    pub fn with_notch(self, on: bool) -> Told
+        ensures { λ r. ⌜ called (r .tuner) [] (r .count) (r .answer)
+            ≡ called (withNotch self (keptNotch (self .nominal) (self .corrected) (self .notch) on)) [] 0 (soundAnswer (self .nominal) (self .corrected) 0) ⌝ }
+    {
+        let n = self.nominal;
+        let c = self.corrected;
+        let mut next = self;
+        next.notch = kept_notch(n, c, self.notch, on);
+        Told {
+            tuner: next,
+            answer: sound_answer(n, c, 0),
+            count: 0,
+        }
+    }
+}

@@ -1,0 +1,30 @@
+use mathlib.Core.Path.{_≡_, refl, sym, ap, _∙_}
+use Rattle.chip.specs.Steps.{closing, due, every, goes, inRange, inRoom, onRoom, run, updates}
+use Rattle.tuning.proofs.Turns.{cut-try, end-try, lock-try, next-try, once-in, once-list, repair-down, repair-none, repair-up, status-made, swap, try-made}
+use borrow.Author.Needs.{needs}
+use Rattle.tuning.proofs.read_status_raw.Statement.{statement}
+use Rattle.tuning.proofs.read_status_raw.Tie as tie
+use Rattle.tuning.proofs.read_status_raw.Reads as reads
+use Rattle.tuning.proofs.read_status_raw.Lts as lts
+use Rattle.chip.proofs.plain_part.Reads as plain-part-reads
+use Rattle.tuning.proofs.reply_bytes.Reads as reply-bytes-reads
+
+-- src/lib.rt:189:9
+reply-bytes-requires : tie.Need-reply-bytes-requires
+reply-bytes-requires c κs = search needs
+
+-- src/lib.rt:216:5
+plain-part-requires : tie.Need-plain-part-requires
+plain-part-requires c κs = search needs
+
+-- src/lib.rt:181:1
+same-length : tie.Need-same-length
+same-length c = search needs
+
+-- src/lib.rt:181:1
+returns : tie.Need-returns
+returns c = (swap inRoom _ _ _ _ _ (status-made _ _ _ (c .before .before .before .before .reply-bytes .ensures)) (c .before .before .plain-part .ensures .0), search needs)
+
+pub read-status-raw-spec : {M : Type 1} → statement M
+read-status-raw-spec =
+    tie.close (tie.spec reply-bytes-requires plain-part-requires same-length returns)

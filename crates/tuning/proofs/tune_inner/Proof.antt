@@ -1,0 +1,106 @@
+use Rattle.tuning.specs.Program.{innerSteps, pllSteps}
+use mathlib.Core.Path.{subst}
+use Rattle.chip.specs.declared.Update.{Update}
+use Rattle.pll.specs.declared.Pll.{Pll}
+use Rattle.tuning.specs.Program.{numberOf}
+use Rattle.tuning.proofs.Turns.{mux-made, plan-made}
+use mathlib.Core.Path.{_≡_, refl, sym, ap, _∙_}
+use native.Mathlib.Omega.{arith}
+use Prim.Native.Nat.{_+_, _*_, _-_, _≤_, _<_, min}
+use Rattle.chip.specs.Steps.{closing, due, every, goes, inRange, inRoom, onRoom, run, updates}
+use Rattle.chip.proofs.Laws.{bracketed, closing-closing, closing-going, parts, stop}
+use Rattle.tuning.specs.Tries.{afterTry, again, locked, locksAt, repairUpdates, statusSteps, triesFrom, tryRead}
+use Rattle.tuning.proofs.Turns.{cut-try, end-try, lock-try, next-try, once-in, once-list, repair-down, repair-none, repair-up, status-made, swap, try-made}
+use Rattle.tuning.proofs.Programs.{eight-inner, every-app, inner-after, inner-pll, inner-tries, inner-updates}
+use denote.Ref.{now}
+use lib.ListN.{length, take, getD}
+use mathlib.Core.List.{List, [], _∷_, _++_}
+use mathlib.Core.Bool.{true}
+use borrow.Author.Needs.{needs}
+use Rattle.tuning.proofs.tune_inner.Statement.{statement}
+use Rattle.tuning.proofs.tune_inner.Tie as tie
+use Rattle.tuning.proofs.tune_inner.Reads as reads
+use Rattle.tuning.proofs.tune_inner.Lts as lts
+use Rattle.chip.proofs.write_all.Reads as write-all-reads
+use Rattle.tuning.proofs.freq_range.Reads as freq-range-reads
+use Rattle.tuning.proofs.set_pll_raw.Reads as set-pll-raw-reads
+use Rattle.tuning.proofs.tune_updates.Reads as tune-updates-reads
+
+-- src/lib.rt:477:9
+freq-range-requires : tie.Need-freq-range-requires
+freq-range-requires c κs = search needs
+
+-- src/lib.rt:478:22
+enum-known-plan : tie.Need-enum-known-plan
+enum-known-plan c = search needs
+
+-- src/lib.rt:479:13
+enum-told : tie.Need-enum-told
+enum-told c = search needs
+
+-- src/lib.rt:488:13
+tune-updates-requires : tie.Need-tune-updates-requires
+tune-updates-requires c κs = search needs
+
+-- src/lib.rt:489:9
+write-all-requires : tie.Need-write-all-requires
+unfolding every
+write-all-requires c κs = (search needs, ap (λ (l : List Update). every inRange (take 11 l)) (c .before .tune-updates .ensures), search needs, search needs)
+
+-- src/lib.rt:489:9
+same-length : tie.Need-same-length
+same-length c = search needs
+
+-- src/lib.rt:489:9
+returns : tie.Need-returns
+returns c = let a : c .before .before .write-all .result .count + due (c .before .before .write-all .result .held) ≤ c .before .before .before .before .before .before .before .before .before .before .before .args .f .count + 11 + due (c .before .before .before .before .before .before .before .before .before .before .before .args .f .held) = c .before .before .write-all .ensures .1 in
+    let most : c .before .before .write-all .result .count + due (c .before .before .write-all .result .held) ≤ c .before .before .before .before .before .before .before .before .before .before .before .args .f .count + 51 + due (c .before .before .before .before .before .before .before .before .before .before .before .args .f .held) = omega arith in
+    (swap inRoom _ _ _ _ _ (mux-made (c .before .before .before .before .before .before .before .before .before .before .before .args .address) (c .before .before .before .before .before .before .before .before .before .before .before .args .kind) (c .before .before .before .before .before .before .before .before .before .before .before .args .notch) (c .before .before .before .before .before .before .before .before .before .before .before .args .plan) (c .before .before .before .before .before .before .before .before .before .before .before .args .hz) (now (c .before .before .before .before .before .before .before .before .before .before .before .args .replies)) _ _ (record { m = 0; number = 0; n = 0; setting = 0; fraction = 0; sum = 0; rest = 0 }) (c .before .before .before .before .before .before .before .freq-range .ensures) (c .before .before .before .before .tune-updates .ensures) (c .before .before .before .before .before .enum-told .given .1)) (c .before .before .write-all .ensures .0), most)
+
+-- src/lib.rt:491:9
+tune-updates-requires-2 : tie.Need-tune-updates-requires-2
+tune-updates-requires-2 c κs = subst (λ (q : Pll). numberOf q ≤ 5) (c .before .plan .given .1) (c .before .before .before .before .before .before .before .pre .0)
+
+-- src/lib.rt:492:9
+write-all-requires-2 : tie.Need-write-all-requires-2
+unfolding every
+write-all-requires-2 c κs = (search needs, ap (λ (l : List Update). every inRange (take 16 l)) (c .before .tune-updates2 .ensures), search needs, search needs)
+
+-- src/lib.rt:493:5
+set-pll-raw-requires : tie.Need-set-pll-raw-requires
+set-pll-raw-requires c κs = let n : c .before .before .before .before .before .before .before .plan .given .0 .0 .number ≤ 5 = subst (λ (q : Pll). numberOf q ≤ 5) (c .before .before .before .before .before .before .before .plan .given .1) (c .before .before .before .before .before .before .before .before .before .before .before .before .before .pre .0) in
+    let a : c .before .before .before .write-all2 .result .count + due (c .before .before .before .write-all2 .result .held) ≤ c .before .before .before .before .before .before .before .before .before .before .before .before .before .args .f .count + 16 + due (c .before .before .before .before .before .before .before .before .before .before .before .before .before .args .f .held) = c .before .before .before .write-all2 .ensures .1 in
+    let d : length (c .before .before .before .write-all2 .last .1 .1 .1 .1 .0) ≡ length (now (c .before .before .before .before .before .before .before .before .before .before .before .before .before .args .room)) = c .before .before .before .write-all2 .kept .1 .1 .1 .1 .0 in
+    let g : (35 ≤ length (now (c .before .before .before .before .before .before .before .before .before .before .before .before .before .args .replies))) × (c .before .before .before .write-all2 .result .count + 35 + due (c .before .before .before .write-all2 .result .held) ≤ length (now (c .before .before .before .before .before .before .before .before .before .before .before .before .before .args .outcomes))) × (16 * (c .before .before .before .write-all2 .result .count + 35 + due (c .before .before .before .write-all2 .result .held)) ≤ length (c .before .before .before .write-all2 .last .1 .1 .1 .1 .0)) = omega (arith, c .before .before .before .before .before .before .before .before .before .before .before .before .before .pre) in
+    (n, g .0, g .1, g .2)
+
+-- src/lib.rt:459:1
+same-length-2 : tie.Need-same-length-2
+same-length-2 c = search needs
+
+-- src/lib.rt:459:1
+returns-2 : tie.Need-returns-2
+returns-2 c = let a : c .before .before .before .before .before .before .write-all2 .result .count + due (c .before .before .before .before .before .before .write-all2 .result .held) ≤ c .before .before .before .before .before .before .before .before .before .before .before .before .before .before .before .before .args .f .count + 16 + due (c .before .before .before .before .before .before .before .before .before .before .before .before .before .before .before .before .args .f .held) = c .before .before .before .before .before .before .write-all2 .ensures .1 in
+    let b : c .before .before .set-pll-raw .result .count + due (c .before .before .set-pll-raw .result .held) ≤ c .before .before .before .before .before .before .write-all2 .result .count + 35 + due (c .before .before .before .before .before .before .write-all2 .result .held) = c .before .before .set-pll-raw .ensures .1 in
+    let most : c .before .before .set-pll-raw .result .count + due (c .before .before .set-pll-raw .result .held) ≤ c .before .before .before .before .before .before .before .before .before .before .before .before .before .before .before .before .args .f .count + 51 + due (c .before .before .before .before .before .before .before .before .before .before .before .before .before .before .before .before .args .f .held) = omega arith in (
+      swap inRoom _ _ _ _ _ (plan-made (c .before .before .before .before .before .before .before .before .before .before .before .before .before .before .before .before .args .address) (c .before .before .before .before .before .before .before .before .before .before .before .before .before .before .before .before .args .kind) (c .before .before .before .before .before .before .before .before .before .before .before .before .before .before .before .before .args .notch) (c .before .before .before .before .before .before .before .before .before .before .before .before .before .before .before .before .args .plan) (c .before .before .before .before .before .before .before .before .before .before .before .before .before .before .before .before .args .hz) (now (c .before .before .before .before .before .before .before .before .before .before .before .before .before .before .before .before .args .replies)) _ _ _ (c .before .before .before .before .before .before .before .before .before .before .before .before .freq-range .ensures) (c .before .before .before .before .before .before .before .before .tune-updates2 .ensures) (c .before .before .before .before .before .before .before .before .before .before .plan .given .1))
+          (parts inRoom _ (updates (take 16 (c .before .before .before .before .before .before .before .before .tune-updates2 .result))) (pllSteps (c .before .before .before .before .before .before .before .before .before .before .before .before .before .before .before .before .args .address) (c .before .before .before .before .before .before .before .before .before .before .before .before .before .before .before .before .args .kind) (c .before .before .before .before .before .before .before .before .before .before .plan .given .0 .0 .number) (now (c .before .before .before .before .before .before .before .before .before .before .before .before .before .before .before .before .args .replies))) _ _ _ (inner-pll (c .before .before .before .before .before .before .before .before .before .before .before .before .before .before .before .before .args .address) (c .before .before .before .before .before .before .before .before .before .before .before .before .before .before .before .before .args .kind) (c .before .before .before .before .before .before .before .before .before .before .plan .given .0 .0 .number) (now (c .before .before .before .before .before .before .before .before .before .before .before .before .before .before .before .before .args .replies))) (c .before .before .before .before .before .before .write-all2 .ensures .0) (c .before .before .set-pll-raw .ensures .0)),
+      most,
+    )
+
+pub tune-inner-spec : {M : Type 1} → statement M
+tune-inner-spec =
+    tie.close
+    (tie.spec
+    freq-range-requires
+    enum-known-plan
+    enum-told
+    tune-updates-requires
+    write-all-requires
+    same-length
+    returns
+    tune-updates-requires-2
+    write-all-requires-2
+    set-pll-raw-requires
+    same-length-2
+    returns-2)

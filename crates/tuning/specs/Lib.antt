@@ -1,0 +1,3 @@
+pub mod Mux
+pub mod Tries
+pub mod Program

@@ -1,0 +1,66 @@
+use mathlib.Core.Path.{_≡_, refl, sym, ap, _∙_}
+use native.Mathlib.Omega.{arith}
+use Prim.Native.Nat.{_+_, _*_, _-_, _≤_, _<_}
+use Rattle.chip.specs.Steps.{behind, due, inRoom, tunerWrite, updates}
+use Rattle.writes.proofs.Chains.{from, then}
+use mathlib.Core.List.{List, _++_}
+use Rattle.chip.specs.declared.Update.{Update}
+use Rattle.writes.specs.Lists.{ifUpdates, initArray, initUpdates}
+use Rattle.writes.specs.Programs.{sendAll}
+use borrow.Author.Needs.{needs}
+use Rattle.writes.proofs.initialize.Statement.{statement}
+use Rattle.writes.proofs.initialize.Tie as tie
+use Rattle.writes.proofs.initialize.Reads as reads
+use Rattle.writes.proofs.initialize.Lts as lts
+use Rattle.chip.proofs.with_repeater.Reads as with-repeater-reads
+use Rattle.writes.proofs.if_updates.Reads as if-updates-reads
+use Rattle.writes.proofs.init_updates.Reads as init-updates-reads
+use Rattle.writes.proofs.send_all.Reads as send-all-reads
+
+-- src/lib.rt:124:9
+send-all-requires : tie.Need-send-all-requires
+send-all-requires c κs = search needs
+
+-- src/lib.rt:125:41
+init-updates-requires : tie.Need-init-updates-requires
+init-updates-requires c κs = search needs
+
+-- src/lib.rt:125:9
+with-repeater-requires : tie.Need-with-repeater-requires
+with-repeater-requires c κs = search needs
+
+-- src/lib.rt:126:30
+if-updates-requires : tie.Need-if-updates-requires
+if-updates-requires c κs = search needs
+
+-- src/lib.rt:126:5
+with-repeater-requires-2 : tie.Need-with-repeater-requires-2
+with-repeater-requires-2 c κs = search needs
+
+-- src/lib.rt:119:1
+same-length : tie.Need-same-length
+same-length c = search needs
+
+-- src/lib.rt:119:1
+returns : tie.Need-returns
+returns c = let a : c .before .before .before .before .before .before .before .before .before .before .before .before .send-all .result .count + due (c .before .before .before .before .before .before .before .before .before .before .before .before .send-all .result .held) ≤ c .before .before .before .before .before .before .before .before .before .before .before .before .before .before .before .before .args .f .count + 9 = c .before .before .before .before .before .before .before .before .before .before .before .before .send-all .ensures .1 in
+    let b : c .before .before .before .before .before .before .before .with-repeater .result .count + due (c .before .before .before .before .before .before .before .with-repeater .result .held) ≤ c .before .before .before .before .before .before .before .before .before .before .before .before .send-all .result .count + 4 + 2 = c .before .before .before .before .before .before .before .with-repeater .ensures .1 in
+    let d : c .before .before .with-repeater2 .result .count + due (c .before .before .with-repeater2 .result .held) ≤ c .before .before .before .before .before .before .before .with-repeater .result .count + 2 + 2 = c .before .before .with-repeater2 .ensures .1 in
+    let most : c .before .before .with-repeater2 .result .count + due (c .before .before .with-repeater2 .result .held) ≤ c .before .before .before .before .before .before .before .before .before .before .before .before .before .before .before .before .args .f .count + 19 = omega arith in (
+      then inRoom _ (sendAll initArray) (behind (updates initUpdates) ++ behind (updates (ifUpdates 2_300_000))) _ _ _ (c .before .before .before .before .before .before .before .before .before .before .before .before .send-all .ensures .0)
+          (then inRoom _ (behind (updates initUpdates)) (behind (updates (ifUpdates 2_300_000))) _ _ _ (from inRoom _ _ _ _ _ (ap (λ (us : List Update). behind (updates us)) (c .before .before .before .before .before .before .before .before .before .init-updates .ensures .0)) (c .before .before .before .before .before .before .before .with-repeater .ensures .0))
+          (from inRoom _ _ _ _ _ (ap (λ (us : List Update). behind (updates us)) (c .before .before .before .before .if-updates .ensures .0)) (c .before .before .with-repeater2 .ensures .0))),
+      most,
+    )
+
+pub initialize-spec : {M : Type 1} → statement M
+initialize-spec =
+    tie.close
+    (tie.spec
+    send-all-requires
+    init-updates-requires
+    with-repeater-requires
+    if-updates-requires
+    with-repeater-requires-2
+    same-length
+    returns)
