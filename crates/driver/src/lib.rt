@@ -1,0 +1,430 @@
+// The driver's record and its calls: `corrected_xtal_hz`, `set_sample_rate` and `apply_input_path` of src/lib.rs, with our making and ppm call.
+// Document 01, "The record": "The driver's record holds board, nominal .., ppm, frequency and rate, all given at its making"; "`set_sample_rate` takes
+// both records". `sample_rate_steps` and `path_steps` are what a larger call holds: they look at no board.
+ghost use mathlib.Core.Path.{_≡_};
+ghost use mathlib.Core.List.{[]};
+ghost use mathlib.Core.Bool.{_&&_};
+ghost use Prim.Native.Nat.{_+_, _*_, _≤_, _<_};
+ghost use lib.ListN.{length};
+ghost use Rattle.board.specs.Numbers.{boardOf};
+ghost use Rattle.chip.specs.Calls.{called};
+ghost use Rattle.chip.specs.Steps.{due, inRoom, onRoom, run};
+ghost use Rattle.r82xx.specs.Record.{soundBy};
+ghost use Rattle.driver.specs.Record.{driverOf, nothingMade, xtalBy, xtalOf};
+ghost use Rattle.driver.specs.Programs.{anewSteps, boardPathSteps, filterSteps, ifFor, levelFor, sampleRateSteps, tunerPath};
+ghost use Rattle.driver.specs.Calls.{both, boardPathCall, driverPpmCall, rateRefusal, ratedBy, refusalWith, retuned, sampleRateCall, xtalAnswer};
+use board::Board;
+use board::BoardRead;
+use board::Path;
+use board::PathRead;
+use chip::Answer;
+use chip::Chip;
+use chip::Flow;
+use chip::Seen;
+use chip::Went;
+use pll::Kind;
+use r82xx::Tuner;
+use reference::Corrected;
+
+pub struct Driver {
+    pub board: Board,
+    pub nominal: u32,
+    pub ppm: i32,
+    pub frequency: u64,
+    pub rate: u32,
+}
+
+// A record that was asked for: made, or refused, and then nothing of it counts.
+pub struct Made {
+    pub answer: Answer,
+    pub driver: Driver,
+}
+
+// What the ppm call hands back: the next record, its answer, and that it made no entries.
+pub struct Told {
+    pub driver: Driver,
+    pub answer: Answer,
+    pub count: usize,
+}
+
+// What `set_sample_rate` hands back: both next records, its answer, how many entries it made.
+pub struct Rated {
+    pub tuner: Tuner,
+    pub driver: Driver,
+    pub answer: Answer,
+    pub count: usize,
+}
+
+// The pin that switches the V4's input.
+const INPUT_PIN: u8 = 5;
+
+// The corrected reference, 0 where it is out of its range.
+pub fn xtal_by(nominal: u32, ppm: i32) -> u32
+    ensures { λ r. ⌜ r ≡ xtalBy nominal ppm ⌝ }
+{
+    let Corrected::Is(v) = reference::correct(nominal, ppm) else {
+        return 0;
+    };
+    v
+}
+
+fn board_named(number: u64) -> BoardRead
+    ensures { λ r. ⌜ r ≡ boardOf number ⌝ }
+{
+    if 255 < number {
+        return BoardRead::Refused;
+    }
+    board::board_of(number as u8)
+}
+
+fn nothing(number: u8) -> Made
+    ensures { λ r. ⌜ r ≡ nothingMade number ⌝ }
+{
+    Made {
+        answer: Answer::Refused(number),
+        driver: Driver {
+            board: Board::Generic,
+            nominal: 1,
+            ppm: 0,
+            frequency: 0,
+            rate: 0,
+        },
+    }
+}
+
+fn sound(nominal: u32, corrected: u32) -> bool
+    ensures { λ r. ⌜ r ≡ soundBy nominal corrected ⌝ }
+{
+    (1 <= nominal) & (1 <= corrected)
+}
+
+// 1 unless the records are whole, then an argument's refusal, then 8, 9, 10; 0 where none is given.
+fn refusal(
+    whole: bool,
+    argument: u8,
+    n: usize,
+    m: usize,
+    room: usize,
+    outcomes: usize,
+    replies: usize,
+) -> u8
+    requires { ⌜ n ≤ 4096 ⌝ }
+    ensures { λ r. ⌜ r ≡ refusalWith whole argument n m room outcomes replies ⌝ }
+{
+    if !whole {
+        return chip::SETUP;
+    }
+    if argument != 0 {
+        return argument;
+    }
+    chip::lent(n, m, room, outcomes, replies)
+}
+
+fn rate_refusal(rate: u32) -> u8
+    ensures { λ r. ⌜ r ≡ rateRefusal rate ⌝ }
+{
+    if rate == 0 {
+        return chip::RATE;
+    }
+    0
+}
+
+// An IF of 0 stays 0; else by the rate, and none for narrow ones.
+fn if_for(current: u64, rate: u32) -> u32
+    ensures { λ r. ⌜ r ≡ ifFor current rate ⌝ }
+{
+    if current == 0 {
+        return 0;
+    }
+    if 2_500_000 <= rate {
+        return 3_570_000;
+    }
+    if 1_000_000 <= rate {
+        return 2_300_000;
+    }
+    0
+}
+
+// GPIO 5 is low for HF, and high for the other two.
+fn level(path: Path) -> u8
+    ensures { λ r. ⌜ r ≡ levelFor path ⌝ }
+{
+    match path {
+        Path::Hf => 0,
+        Path::Vhf => 1,
+        Path::Uhf => 1,
+    }
+}
+
+// The tuner's IF and its bandwidth.
+fn filter_steps(f: Flow, hz: u32, rate: u32, outcomes: &[u8], room: &mut [u8]) -> Flow
+    requires { ⌜ (f .count + 7 ≤ length (now outcomes)) × (16 * (f .count + 7) ≤ length (now room)) ⌝ }
+    ensures { λ r. ⌜ onRoom r (now (room .exit)) ≡ run inRoom (now (outcomes .entry)) (filterSteps hz rate) (onRoom f (now (room .entry))) ⌝ }
+    ensures bounds { λ r. ⌜ r .count + due (r .held) ≤ f .count + 7 ⌝ }
+{
+    let set = chip::with_repeater(f, writes::if_updates(hz as u64), 2, outcomes, room);
+    chip::with_repeater(set, writes::bandwidth_updates(rate), 1, outcomes, room)
+}
+
+// The demodulator anew: reset, rate, IF.
+fn anew_steps(f: Flow, hz: u32, rate: u32, xtal: u32, outcomes: &[u8], room: &mut [u8]) -> Flow
+    requires { ⌜ (0 < rate) × (0 < xtal) × (f .count + 9 + due (f .held) ≤ length (now outcomes)) × (16 * (f .count + 9 + due (f .held)) ≤ length (now room)) ⌝ }
+    ensures { λ r. ⌜ onRoom r (now (room .exit)) ≡ run inRoom (now (outcomes .entry)) (anewSteps hz rate xtal) (onRoom f (now (room .entry))) ⌝ }
+    ensures bounds { λ r. ⌜ r .count + due (r .held) ≤ f .count + 9 + due (f .held) ⌝ }
+{
+    let reset = demod::reset_steps(f, outcomes, room);
+    let rated = demod::rate_steps(reset, rate, xtal, outcomes, room);
+    demod::if_steps(rated, hz, xtal, outcomes, room)
+}
+
+// `set_sample_rate` behind its refusals, with the IF worked out and the spectrum inverted or not.
+pub fn sample_rate_steps(
+    f: Flow,
+    hz: u32,
+    rate: u32,
+    xtal: u32,
+    inverted: bool,
+    outcomes: &[u8],
+    room: &mut [u8],
+) -> Flow
+    requires { ⌜ (0 < rate) × (0 < xtal) × (f .count + 17 ≤ length (now outcomes)) × (16 * (f .count + 17) ≤ length (now room)) ⌝ }
+    ensures { λ r. ⌜ onRoom r (now (room .exit)) ≡ run inRoom (now (outcomes .entry)) (sampleRateSteps hz rate xtal inverted) (onRoom f (now (room .entry))) ⌝ }
+    ensures bounds { λ r. ⌜ r .count + due (r .held) ≤ f .count + 17 ⌝ }
+{
+    let tuned = filter_steps(f, hz, rate, outcomes, room);
+    let anew = anew_steps(tuned, hz, rate, xtal, outcomes, room);
+    demod::ddc(anew, inverted, outcomes, room)
+}
+
+// The tuner's own path, which R820T hasn't.
+fn tuner_path(f: Flow, kind: Kind, path: Path, outcomes: &[u8], room: &mut [u8]) -> Flow
+    requires { ⌜ (f .count + 4 + due (f .held) ≤ length (now outcomes)) × (16 * (f .count + 4 + due (f .held)) ≤ length (now room)) ⌝ }
+    ensures { λ r. ⌜ onRoom r (now (room .exit)) ≡ run inRoom (now (outcomes .entry)) (tunerPath kind path) (onRoom f (now (room .entry))) ⌝ }
+    ensures bounds { λ r. ⌜ r .count + due (r .held) ≤ f .count + 4 + due (f .held) ⌝ }
+{
+    match kind {
+        Kind::R820T => f,
+        Kind::R828D => chip::with_repeater(f, writes::path_updates(path), 2, outcomes, room),
+    }
+}
+
+// `apply_input_path` behind its refusals, over its own part of the replies.
+pub fn path_steps(
+    f: Flow,
+    kind: Kind,
+    path: Path,
+    replies: &[u8],
+    outcomes: &[u8],
+    room: &mut [u8],
+) -> Flow
+    requires { ⌜ (3 ≤ length (now replies)) × (f .count + 10 + due (f .held) ≤ length (now outcomes)) × (16 * (f .count + 10 + due (f .held)) ≤ length (now room)) ⌝ }
+    ensures { λ r. ⌜ onRoom r (now (room .exit)) ≡ run inRoom (now (outcomes .entry)) (boardPathSteps kind path (now (replies .entry))) (onRoom f (now (room .entry))) ⌝ }
+    ensures bounds { λ r. ⌜ r .count + due (r .held) ≤ f .count + 10 + due (f .held) ⌝ }
+{
+    let driven = device::gpio_output(f, INPUT_PIN, replies[0], replies[1], outcomes, room);
+    let switched = device::gpio_bit(driven, INPUT_PIN, level(path), replies[2], outcomes, room);
+    tuner_path(switched, kind, path, outcomes, room)
+}
+
+// The tuner's record behind a rate: the IF has changed whether or not its writes were done.
+fn retune(tuner: Tuner, hz: u32, chip: Chip) -> Tuner
+    ensures { λ r. ⌜ r ≡ retuned tuner hz chip ⌝ }
+{
+    let mut next = tuner;
+    next.ifreq = hz as u64;
+    next.chip = chip;
+    next
+}
+
+// The driver's record behind a rate.
+fn with_rate(d: Driver, rate: u32, went: Went) -> Driver
+    ensures { λ r. ⌜ r ≡ ratedBy d rate went ⌝ }
+{
+    let Went::Going = went else {
+        return d;
+    };
+    let mut next = d;
+    next.rate = rate;
+    next
+}
+
+impl Driver {
+    // board: 0 generic, 1 V4.
+    pub fn new(board: u64, nominal: u64, ppm: i32, frequency: u64, rate: u32) -> Made
+        ensures { λ r. ⌜ r ≡ driverOf board nominal ppm frequency rate ⌝ }
+    {
+        let BoardRead::Is(named) = board_named(board) else {
+            return nothing(chip::SETUP);
+        };
+        if nominal < 1 {
+            return nothing(chip::SETUP);
+        }
+        if 4_294_967_295 < nominal {
+            return nothing(chip::SETUP);
+        }
+        let small = nominal as u32;
+        if xtal_by(small, ppm) < 1 {
+            return nothing(chip::CORRECTION);
+        }
+        Made {
+            answer: Answer::Done(0),
+            driver: Driver {
+                board: named,
+                nominal: small,
+                ppm: ppm,
+                frequency: frequency,
+                rate: rate,
+            },
+        }
+    }
+
+    pub fn corrected_xtal_hz(self) -> Answer
+        ensures { λ r. ⌜ r ≡ xtalAnswer (xtalOf self) ⌝ }
+    {
+        let xtal = xtal_by(self.nominal, self.ppm);
+        if xtal < 1 {
+            return Answer::Refused(chip::SETUP);
+        }
+        Answer::Done(xtal as u64)
+    }
+
+    // The ppm alone is stored; the tuner's record and the demodulator are the caller's to bring along.
+    pub fn set_ppm(self, ppm: i32) -> Told
+        ensures { λ r. ⌜ called (r .driver) [] (r .count) (r .answer) ≡ driverPpmCall ppm self ⌝ }
+    {
+        if xtal_by(self.nominal, self.ppm) < 1 {
+            return Told {
+                driver: self,
+                answer: Answer::Refused(chip::SETUP),
+                count: 0,
+            };
+        }
+        if xtal_by(self.nominal, ppm) < 1 {
+            return Told {
+                driver: self,
+                answer: Answer::Refused(chip::CORRECTION),
+                count: 0,
+            };
+        }
+        let mut next = self;
+        next.ppm = ppm;
+        Told {
+            driver: next,
+            answer: Answer::Done(0),
+            count: 0,
+        }
+    }
+
+    pub fn set_sample_rate(
+        self,
+        tuner: Tuner,
+        rate: u32,
+        outcomes: &[u8],
+        room: &mut [u8],
+    ) -> Rated
+        ensures { λ r. ⌜ called (both (r .tuner) (r .driver)) (now (room .exit)) (r .count) (r .answer)
+            ≡ sampleRateCall (now (outcomes .entry)) rate tuner self (now (room .entry)) ⌝ }
+    {
+        let xtal = xtal_by(self.nominal, self.ppm);
+        let whole = sound(tuner.nominal, tuner.corrected) & (1 <= xtal);
+        let number = refusal(
+            whole,
+            rate_refusal(rate),
+            17,
+            0,
+            room.len(),
+            outcomes.len(),
+            0,
+        );
+        if number != 0 {
+            return Rated {
+                tuner: tuner,
+                driver: self,
+                answer: Answer::Refused(number),
+                count: 0,
+            };
+        }
+        let board = self.board;
+        let plan = board::plan_tuning(board, self.frequency);
+        let hz = if_for(tuner.ifreq, rate);
+        let chip = tuner.chip;
+        let start = Flow {
+            chip: chip,
+            count: 0,
+            went: Went::Going,
+            held: false,
+            seen: Seen {
+                tries: 0,
+                locked: false,
+            },
+        };
+        let f = sample_rate_steps(start, hz, rate, xtal, plan.inverted, outcomes, room);
+        let answered = chip::finish(f, Answer::Done(0), room);
+        let went = f.went;
+        let left = f.chip;
+        Rated {
+            tuner: retune(tuner, hz, left),
+            driver: with_rate(self, rate, went),
+            answer: answered,
+            count: f.count,
+        }
+    }
+}
+
+// path: 0 HF, 1 VHF, 2 UHF. The board's switch by GPIO 5, then the tuner's own path.
+pub fn apply_input_path(
+    tuner: Tuner,
+    path: u8,
+    outcomes: &[u8],
+    replies: &[u8],
+    room: &mut [u8],
+) -> r82xx::Told
+    ensures { λ r. ⌜ called (r .tuner) (now (room .exit)) (r .count) (r .answer)
+        ≡ boardPathCall (now (outcomes .entry)) (now (replies .entry)) path tuner (now (room .entry)) ⌝ }
+{
+    let PathRead::Is(by) = board::path_of(path) else {
+        return r82xx::Told {
+            tuner: tuner,
+            answer: Answer::Refused(chip::SETUP),
+            count: 0,
+        };
+    };
+    let number = refusal(
+        sound(tuner.nominal, tuner.corrected),
+        0,
+        10,
+        3,
+        room.len(),
+        outcomes.len(),
+        replies.len(),
+    );
+    if number != 0 {
+        return r82xx::Told {
+            tuner: tuner,
+            answer: Answer::Refused(number),
+            count: 0,
+        };
+    }
+    let kind = tuner.kind;
+    let chip = tuner.chip;
+    let start = Flow {
+        chip: chip,
+        count: 0,
+        went: Went::Going,
+        held: false,
+        seen: Seen {
+            tries: 0,
+            locked: false,
+        },
+    };
+    let f = path_steps(start, kind, by, replies, outcomes, room);
+    let answered = chip::finish(f, Answer::Done(0), room);
+    let left = f.chip;
+    let mut next = tuner;
+    next.chip = left;
+    r82xx::Told {
+        tuner: next,
+        answer: answered,
+        count: f.count,
+    }
+}
