@@ -5,9 +5,12 @@
 // What has no arm is not there yet. Same is proved to mean that all that came back agrees with the case: specs/Agreement, Agrees and Valued.
 mod compare;
 mod filter;
+mod handed;
 mod layout;
 mod leaves;
 mod report;
+mod steps;
+mod tuners;
 
 use compare::Verdict;
 
@@ -15,6 +18,12 @@ use compare::Verdict;
 fn judge(c: &[u8]) -> Verdict {
     let call = layout::one(c, layout::CALL);
     match call {
+        1 => tuners::fresh(c),
+        2..=12 => tuners::changed(c),
+        13 => tuners::get_gain(c),
+        14 => tuners::get_if_freq(c),
+        15 => tuners::get_gain_table(c),
+        21..=32 => steps::made(c),
         33 => leaves::plan_tuning(c),
         34 => leaves::if_freq_regs(c),
         35 => leaves::resample_regs(c),
