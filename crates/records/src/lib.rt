@@ -196,7 +196,7 @@ fn number(image: &mut [u8; 105], at: usize, n: u64, k: usize)
 
 fn list(image: &mut [u8; 105], at: usize, bytes: [u8; 27])
     requires { ⌜ at + 27 ≤ 105 ⌝ }
-    ensures { λ _. ⌜ now (image .exit) ≡ sets (now (image .entry)) at bytes ⌝ }
+    ensures { λ _. ⌜ (now (image .exit) ≡ sets (now (image .entry)) at bytes) × (length bytes ≡ 27) ⌝ }
 {
     wire::copy(image, at, &bytes);
 }

@@ -1,7 +1,7 @@
 // The calls that make entries and touch no record: the demodulator's (21 to 30) and GPIO (31, 32).
 use crate::compare;
-use crate::layout;
 use crate::handed;
+use crate::layout;
 use compare::Verdict;
 use device::Handed;
 

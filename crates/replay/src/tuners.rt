@@ -1,7 +1,7 @@
 // The tuner's calls, over the record's bytes: fresh (1), those that hand the next record back (2 to 12), those that only read (13 to 15).
 use crate::compare;
-use crate::layout;
 use crate::handed;
+use crate::layout;
 use compare::Verdict;
 use r82xx::Told;
 use r82xx::Tuner;

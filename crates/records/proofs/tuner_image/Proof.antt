@@ -1,7 +1,9 @@
 -- `records::tuner_image` meets its contract: the parts, stored one after the other over 105 bytes, are the record's bytes.
 -- Assumes nothing.
-use mathlib.Core.Path.{refl}
-use lib.ListN.{replicate}
+use mathlib.Core.Path.{_≡_, refl, sym, ap, _∙_}
+use mathlib.Core.List.{map}
+use lib.ListN.{length, replicate, length-map}
+use Rattle.records.specs.Fields.{flagByte}
 use Rattle.records.proofs.Made.{image-whole}
 use borrow.Author.Needs.{needs}
 use Rattle.records.proofs.tuner_image.Statement.{statement}
@@ -78,9 +80,10 @@ list-requires-3 c κs = search needs
 
 returns : tie.Need-returns
 returns c =
-    let a = c .before .before .before .before .before .before .before .before .before .before .before .before .before .before .before .before .before .before .before .before .before .before .before .before .before .before .before .before .before .before .before .before .before .before .args .t in
-    rw (c .list3 .ensures, c .before .flag-bytes .ensures, c .before .before .before .list2 .ensures, c .before .before .before .before .before .number8 .ensures, c .before .before .before .before .before .before .flag-byte2 .ensures, c .before .before .before .before .before .before .before .before .number7 .ensures, c .before .before .before .before .before .before .before .before .before .before .number6 .ensures, c .before .before .before .before .before .before .before .before .before .before .before .bits-of .ensures, c .before .before .before .before .before .before .before .before .before .before .before .before .before .number5 .ensures, c .before .before .before .before .before .before .before .before .before .before .before .before .before .before .flag-byte .ensures, c .before .before .before .before .before .before .before .before .before .before .before .before .before .before .before .before .number4 .ensures, c .before .before .before .before .before .before .before .before .before .before .before .before .before .before .before .before .before .before .before .number3 .ensures, c .before .before .before .before .before .before .before .before .before .before .before .before .before .before .before .before .before .before .before .before .before .before .list .ensures, c .before .before .before .before .before .before .before .before .before .before .before .before .before .before .before .before .before .before .before .before .before .before .before .before .number2 .ensures, c .before .before .before .before .before .before .before .before .before .before .before .before .before .before .before .before .before .before .before .before .before .before .before .before .before .before .before .number .ensures, c .before .before .before .before .before .before .before .before .before .before .before .before .before .before .before .before .before .before .before .before .before .before .before .before .before .before .before .before .kind-number .ensures)
-    (image-whole a (replicate 105 0) (record { shadow = search needs; attempted = search needs; doubtful = search needs }) refl)
+    let start = c .before .before .before .before .before .before .before .before .before .before .before .before .before .before .before .before .before .before .before .before .before .before .before .before .before .before .before .before .before .before .before .before .before .before in
+    let doubtful : length (map flagByte (start .args .t .chip .doubtful)) ≡ 27 = ap length (sym (c .before .flag-bytes .ensures)) ∙ c .list3 .ensures .1 in
+    rw (c .list3 .ensures .0, c .before .flag-bytes .ensures, c .before .before .before .list2 .ensures .0, c .before .before .before .before .before .number8 .ensures, c .before .before .before .before .before .before .flag-byte2 .ensures, c .before .before .before .before .before .before .before .before .number7 .ensures, c .before .before .before .before .before .before .before .before .before .before .number6 .ensures, c .before .before .before .before .before .before .before .before .before .before .before .bits-of .ensures, c .before .before .before .before .before .before .before .before .before .before .before .before .before .number5 .ensures, c .before .before .before .before .before .before .before .before .before .before .before .before .before .before .flag-byte .ensures, c .before .before .before .before .before .before .before .before .before .before .before .before .before .before .before .before .number4 .ensures, c .before .before .before .before .before .before .before .before .before .before .before .before .before .before .before .before .before .before .before .number3 .ensures, c .before .before .before .before .before .before .before .before .before .before .before .before .before .before .before .before .before .before .before .before .before .before .list .ensures .0, c .before .before .before .before .before .before .before .before .before .before .before .before .before .before .before .before .before .before .before .before .before .before .before .before .number2 .ensures, c .before .before .before .before .before .before .before .before .before .before .before .before .before .before .before .before .before .before .before .before .before .before .before .before .before .before .before .number .ensures, c .before .before .before .before .before .before .before .before .before .before .before .before .before .before .before .before .before .before .before .before .before .before .before .before .before .before .before .before .kind-number .ensures)
+    (image-whole (start .args .t) (replicate 105 0) (record { shadow = c .before .before .before .before .before .before .before .before .before .before .before .before .before .before .before .before .before .before .before .before .before .before .list .ensures .1; attempted = c .before .before .before .list2 .ensures .1; doubtful = sym (length-map (start .args .t .chip .doubtful) flagByte) ∙ doubtful }) refl)
 
 pub tuner-image-spec : {M : Type 1} → statement M
 tuner-image-spec =
