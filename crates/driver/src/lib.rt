@@ -315,13 +315,7 @@ impl Driver {
         }
     }
 
-    pub fn set_sample_rate(
-        self,
-        tuner: Tuner,
-        rate: u32,
-        outcomes: &[u8],
-        room: &mut [u8],
-    ) -> Rated
+    pub fn set_sample_rate(self, tuner: Tuner, rate: u32, outcomes: &[u8], room: &mut [u8]) -> Rated
         ensures { λ r. ⌜ called (both (r .tuner) (r .driver)) (now (room .exit)) (r .count) (r .answer)
             ≡ sampleRateCall (now (outcomes .entry)) rate tuner self (now (room .entry)) ⌝ }
     {

@@ -1,0 +1,6 @@
+pub mod Xtals
+pub mod Making
+pub mod Refusals
+pub mod Paths
+pub mod Rates
+pub mod Lengths

@@ -1,0 +1,144 @@
+-- Both calls with steps over the code, whose parts were worked out apart. Assumes nothing.
+use Prim.Native.Nat.{ℕ}
+use mathlib.Core.Path.{_≡_, refl, sym, ap, _∙_}
+use mathlib.Core.Bool.{Bool, true, false, _&&_}
+use mathlib.Core.List.{List, [], _∷_, _++_}
+use lib.Dec.{leb}
+use lib.ListN.{getD, length}
+use Rattle.board.specs.declared.Path.{Path}
+use Rattle.board.specs.declared.PathRead.{PathRead}
+use Rattle.board.specs.declared.PathRead.the-variants as path-read
+use Rattle.board.specs.declared.Plan.{Plan}
+use Rattle.board.specs.Plans.{planOf}
+use Rattle.chip.specs.declared.Answer.{Answer}
+use Rattle.chip.specs.declared.Answer.the-variants.{Done, Refused}
+use Rattle.chip.specs.declared.Flow.{Flow}
+use Rattle.chip.specs.declared.Went.the-variants.{Going}
+use Rattle.chip.specs.Calls.{answerOf, called, sealed}
+use Rattle.chip.specs.Entries.{unseen}
+use Rattle.chip.specs.Steps.{Line, Logged, Step, Trace, behind, eight, every, inRoom, line, logged, onRoom, run, updates}
+use Rattle.demod.specs.Programs.{ddcSteps, ifSteps, rateSteps, resetSteps}
+use Rattle.device.specs.Gpio.{bitSteps, outputSteps}
+use Rattle.pll.specs.declared.Kind.{Kind}
+use Rattle.pll.specs.declared.Kind.the-variants.{R820T, R828D}
+use Rattle.tuning.proofs.Programs.{every-app}
+use Rattle.writes.specs.Lists.{bandwidthUpdates, ifUpdates, pathUpdates}
+use Rattle.r82xx.specs.declared.Tuner.{Tuner}
+use Rattle.r82xx.specs.Record.{sound, withChip}
+use Rattle.r82xx.proofs.Whole.{bracket-eight, perform-by, refuse-by}
+use Rattle.driver.specs.declared.Driver.{Driver}
+use Rattle.driver.specs.Record.{soundDriver, xtalOf}
+use Rattle.driver.specs.Programs.{anewSteps, boardPathSteps, filterSteps, ifFor, levelFor, sampleRateSteps, tunerPath}
+use Rattle.driver.specs.Calls.{Both, both, boardPathWith, rateRefusal, ratedBy, refusalWith, retuned, sampleRateCall}
+
+-- every entry has its eight data bytes
+reset-eight : every eight resetSteps ≡ true
+unfolding every resetSteps
+reset-eight = refl
+
+rate-eight : (rate xtal : ℕ) → every eight (rateSteps rate xtal) ≡ true
+unfolding every rateSteps
+rate-eight rate xtal = refl
+
+if-eight : (hz xtal : ℕ) → every eight (ifSteps hz xtal) ≡ true
+unfolding every ifSteps
+if-eight hz xtal = refl
+
+ddc-eight : (inverted : Bool) → every eight (ddcSteps inverted) ≡ true
+unfolding every ddcSteps
+ddc-eight inverted = refl
+
+output-eight : (pin a b : ℕ) → every eight (outputSteps pin a b) ≡ true
+unfolding every outputSteps
+output-eight pin a b = refl
+
+bit-eight : (pin value a : ℕ) → every eight (bitSteps pin value a) ≡ true
+unfolding every bitSteps
+bit-eight pin value a = refl
+
+none-eight : every eight [] ≡ true
+unfolding every
+none-eight = refl
+
+filter-eight : (hz rate : ℕ) → every eight (filterSteps hz rate) ≡ true
+filter-eight hz rate =
+    every-app eight (behind (updates (ifUpdates hz))) (behind (updates (bandwidthUpdates rate))) (bracket-eight (ifUpdates hz)) (bracket-eight (bandwidthUpdates rate))
+
+anew-eight : (hz rate xtal : ℕ) → every eight (anewSteps hz rate xtal) ≡ true
+anew-eight hz rate xtal =
+    every-app eight resetSteps (rateSteps rate xtal ++ ifSteps hz xtal) reset-eight
+    (every-app eight (rateSteps rate xtal) (ifSteps hz xtal) (rate-eight rate xtal) (if-eight hz xtal))
+
+pub sample-rate-eight : (hz rate xtal : ℕ) (inverted : Bool) → every eight (sampleRateSteps hz rate xtal inverted) ≡ true
+sample-rate-eight hz rate xtal inverted =
+    every-app eight (filterSteps hz rate) (anewSteps hz rate xtal ++ ddcSteps inverted) (filter-eight hz rate)
+    (every-app eight (anewSteps hz rate xtal) (ddcSteps inverted) (anew-eight hz rate xtal) (ddc-eight inverted))
+
+tuner-path-eight : (kind : Kind) (path : Path) → every eight (tunerPath kind path) ≡ true
+tuner-path-eight R820T path = none-eight
+tuner-path-eight R828D path = bracket-eight (pathUpdates path)
+
+pub board-path-eight : (kind : Kind) (path : Path) (rs : List ℕ) → every eight (boardPathSteps kind path rs) ≡ true
+board-path-eight kind path rs =
+    every-app eight (outputSteps 5 (getD rs 0 0) (getD rs 1 0)) (bitSteps 5 (levelFor path) (getD rs 2 0) ++ tunerPath kind path) (output-eight 5 (getD rs 0 0) (getD rs 1 0))
+    (every-app eight (bitSteps 5 (levelFor path) (getD rs 2 0)) (tunerPath kind path) (bit-eight 5 (levelFor path) (getD rs 2 0)) (tuner-path-eight kind path))
+
+-- a rate's call: what it is refused by, and what it is performed with
+module _ (os room : List ℕ) (rate : ℕ) (t : Tuner) (d : Driver) (s : Bool) (xtal argument given : ℕ)
+    (by-tuner : s ≡ sound t) (by-driver : xtal ≡ xtalOf d) (by-rate : argument ≡ rateRefusal rate)
+    (by-all : given ≡ refusalWith (s && leb 1 xtal) argument 17 0 (length room) (length os) 0) where
+  number : given ≡ refusalWith (sound t && soundDriver d) (rateRefusal rate) 17 0 (length room) (length os) 0
+  number = by-all ∙ (λ i. refusalWith (by-tuner i && leb 1 (by-driver i)) (by-rate i) 17 0 (length room) (length os) 0)
+
+  pub rate-refused : (given ≡ 0 → ⊥) → called (both t d) room 0 (Refused given) ≡ sampleRateCall os rate t d room
+  unfolding sampleRateCall
+  rate-refused h =
+      refuse-by (refusalWith (sound t && soundDriver d) (rateRefusal rate) 17 0 (length room) (length os) 0) given (Done 0) os
+      (sampleRateSteps (ifFor (t .ifreq) rate) rate (xtalOf d) (planOf (d .board) (d .frequency) .inverted)) (t .chip)
+      (λ (tr : Trace). both (retuned t (ifFor (t .ifreq) rate) (tr .chip)) (ratedBy d rate (tr .went))) (both t d) room number h
+
+  pub rate-performed : (hz : ℕ) (plan : Plan) (f : Flow) (mid after : List ℕ) (answer : Answer) (next : Tuner) (later : Driver)
+      → given ≡ 0 → hz ≡ ifFor (t .ifreq) rate → plan ≡ planOf (d .board) (d .frequency)
+      → onRoom f mid ≡ run inRoom os (sampleRateSteps hz rate xtal (plan .inverted)) (line (t .chip) (logged room unseen) 0 Going false)
+      → after ≡ sealed mid (f .count) → answer ≡ answerOf (Done 0) (f .went)
+      → next ≡ retuned t hz (f .chip) → later ≡ ratedBy d rate (f .went)
+      → called (both next later) after (f .count) answer ≡ sampleRateCall os rate t d room
+  unfolding sampleRateCall
+  rate-performed hz plan f mid after answer next later z by-if by-plan k q a n l =
+      perform-by (refusalWith (sound t && soundDriver d) (rateRefusal rate) 17 0 (length room) (length os) 0) given (Done 0) os
+      (sampleRateSteps (ifFor (t .ifreq) rate) rate (xtalOf d) (planOf (d .board) (d .frequency) .inverted)) (t .chip)
+      (λ (tr : Trace). both (retuned t (ifFor (t .ifreq) rate) (tr .chip)) (ratedBy d rate (tr .went)))
+      (λ (w : Line Logged). both (retuned t (ifFor (t .ifreq) rate) (w .chip)) (ratedBy d rate (w .went)))
+      (both t d) (both next later) room f mid after answer number z
+      (sample-rate-eight (ifFor (t .ifreq) rate) rate (xtalOf d) (planOf (d .board) (d .frequency) .inverted))
+      (k ∙ (λ i. run inRoom os (sampleRateSteps (by-if i) rate (by-driver i) (by-plan i .inverted)) (line (t .chip) (logged room unseen) 0 Going false)))
+      q a (λ i. both ((n ∙ ap (λ (x : ℕ). retuned t x (f .chip)) by-if) i) (l i)) refl
+
+-- the board's path: a number that names none, a refusal, and what it is performed with
+pub path-none : (p : PathRead) (os rs : List ℕ) (t : Tuner) (room : List ℕ) → p ≡ path-read.Refused → called t room 0 (Refused 1) ≡ boardPathWith p os rs t room
+unfolding boardPathWith
+path-none p os rs t room e = rw e
+
+module _ (p : PathRead) (path : Path) (os rs room : List ℕ) (t : Tuner) (s : Bool) (given : ℕ) (by-path : p ≡ path-read.Is path) (by-tuner : s ≡ sound t)
+    (by-all : given ≡ refusalWith s 0 10 3 (length room) (length os) (length rs)) where
+  path-number : given ≡ refusalWith (sound t) 0 10 3 (length room) (length os) (length rs)
+  path-number = by-all ∙ (λ i. refusalWith (by-tuner i) 0 10 3 (length room) (length os) (length rs))
+
+  pub path-refused : (given ≡ 0 → ⊥) → called t room 0 (Refused given) ≡ boardPathWith p os rs t room
+  unfolding boardPathWith
+  path-refused h =
+      rw by-path
+      (refuse-by (refusalWith (sound t) 0 10 3 (length room) (length os) (length rs)) given (Done 0) os (boardPathSteps (t .kind) path rs) (t .chip)
+      (λ (tr : Trace). withChip t (tr .chip)) t room path-number h)
+
+  pub path-performed : (kind : Kind) (f : Flow) (mid after : List ℕ) (answer : Answer) → given ≡ 0 → kind ≡ t .kind
+      → onRoom f mid ≡ run inRoom os (boardPathSteps kind path rs) (line (t .chip) (logged room unseen) 0 Going false)
+      → after ≡ sealed mid (f .count) → answer ≡ answerOf (Done 0) (f .went)
+      → called (withChip t (f .chip)) after (f .count) answer ≡ boardPathWith p os rs t room
+  unfolding boardPathWith
+  path-performed kind f mid after answer z by-kind k q a =
+      rw by-path
+      (perform-by (refusalWith (sound t) 0 10 3 (length room) (length os) (length rs)) given (Done 0) os (boardPathSteps (t .kind) path rs) (t .chip)
+      (λ (tr : Trace). withChip t (tr .chip)) (λ (w : Line Logged). withChip t (w .chip)) t (withChip t (f .chip)) room f mid after answer path-number z
+      (board-path-eight (t .kind) path rs)
+      (k ∙ ap (λ (x : Kind). run inRoom os (boardPathSteps x path rs) (line (t .chip) (logged room unseen) 0 Going false)) by-kind) q a refl refl)

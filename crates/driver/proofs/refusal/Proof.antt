@@ -1,0 +1,23 @@
+-- `driver::refusal` meets its contract: 1, then the argument, then 8, 9, 10. Assumes nothing.
+use borrow.Author.Tests.{eq-eqb, ne-eqb, not-false, not-true}
+use borrow.Author.Needs.{needs}
+use Rattle.driver.proofs.refusal.Statement.{statement}
+use Rattle.driver.proofs.refusal.Tie as tie
+use Rattle.driver.proofs.refusal.Reads as reads
+use Rattle.driver.proofs.refusal.Lts as lts
+use Rattle.chip.proofs.lent.Reads as lent-reads
+
+returns : tie.Need-returns
+returns c = rw (not-true (c .before .args .whole) (c .if1 .taken))
+
+returns-2 : tie.Need-returns-2
+returns-2 c = rw (not-false (c .before .before .args .whole) (c .before .if1 .left), ne-eqb (c .before .before .args .argument) 0 (c .if2 .taken))
+
+lent-requires : tie.Need-lent-requires
+lent-requires c κs = search needs
+
+returns-3 : tie.Need-returns-3
+returns-3 c = rw (not-false (c .before .before .before .args .whole) (c .before .before .if1 .left), eq-eqb (c .before .before .before .args .argument) 0 (c .before .if2 .left)) (c .lent .ensures)
+
+pub refusal-spec : {M : Type 1} → statement M
+refusal-spec = tie.close (tie.spec returns returns-2 lent-requires returns-3)

@@ -1,0 +1,38 @@
+-- `driver::sample_rate_steps` meets its contract: the tuner, the demodulator, the DDC byte. Assumes nothing.
+use native.Mathlib.Omega.{arith}
+use mathlib.Core.List.{_++_}
+use Rattle.chip.specs.Steps.{inRoom}
+use Rattle.device.proofs.Programs.{then}
+use Rattle.demod.specs.Programs.{ddcSteps}
+use Rattle.driver.specs.Programs.{anewSteps, filterSteps}
+use borrow.Author.Needs.{needs}
+use Rattle.driver.proofs.sample_rate_steps.Statement.{statement}
+use Rattle.driver.proofs.sample_rate_steps.Tie as tie
+use Rattle.driver.proofs.sample_rate_steps.Reads as reads
+use Rattle.driver.proofs.sample_rate_steps.Lts as lts
+use Rattle.demod.proofs.ddc.Reads as ddc-reads
+use Rattle.driver.proofs.anew_steps.Reads as anew-steps-reads
+use Rattle.driver.proofs.filter_steps.Reads as filter-steps-reads
+
+filter-steps-requires : tie.Need-filter-steps-requires
+filter-steps-requires c κs = search needs
+
+anew-steps-requires : tie.Need-anew-steps-requires
+anew-steps-requires c κs = search needs
+
+ddc-requires : tie.Need-ddc-requires
+ddc-requires c κs = search needs
+
+same-length : tie.Need-same-length
+same-length c = search needs
+
+returns : tie.Need-returns
+returns c = (
+  then inRoom _ (filterSteps (c .before .before .before .before .before .before .before .before .before .before .before .before .before .before .args .hz) (c .before .before .before .before .before .before .before .before .before .before .before .before .before .before .args .rate)) (anewSteps (c .before .before .before .before .before .before .before .before .before .before .before .before .before .before .args .hz) (c .before .before .before .before .before .before .before .before .before .before .before .before .before .before .args .rate) (c .before .before .before .before .before .before .before .before .before .before .before .before .before .before .args .xtal) ++ ddcSteps (c .before .before .before .before .before .before .before .before .before .before .before .before .before .before .args .inverted)) _ _ _ (c .before .before .before .before .before .before .before .before .before .before .filter-steps .ensures .0)
+      (then inRoom _ (anewSteps (c .before .before .before .before .before .before .before .before .before .before .before .before .before .before .args .hz) (c .before .before .before .before .before .before .before .before .before .before .before .before .before .before .args .rate) (c .before .before .before .before .before .before .before .before .before .before .before .before .before .before .args .xtal)) (ddcSteps (c .before .before .before .before .before .before .before .before .before .before .before .before .before .before .args .inverted)) _ _ _ (c .before .before .before .before .before .before .anew-steps .ensures .0) (c .before .before .ddc .ensures .0)),
+  omega (arith, c .before .before .before .before .before .before .before .before .before .before .filter-steps .ensures .1, c .before .before .before .before .before .before .anew-steps .ensures .1, c .before .before .ddc .ensures .1),
+)
+
+pub sample-rate-steps-spec : {M : Type 1} → statement M
+sample-rate-steps-spec =
+    tie.close (tie.spec filter-steps-requires anew-steps-requires ddc-requires same-length returns)
