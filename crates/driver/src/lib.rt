@@ -321,15 +321,8 @@ impl Driver {
     {
         let xtal = xtal_by(self.nominal, self.ppm);
         let whole = sound(tuner.nominal, tuner.corrected) & (1 <= xtal);
-        let number = refusal(
-            whole,
-            rate_refusal(rate),
-            17,
-            0,
-            room.len(),
-            outcomes.len(),
-            0,
-        );
+        let argument = rate_refusal(rate);
+        let number = refusal(whole, argument, 17, 0, room.len(), outcomes.len(), 0);
         if number != 0 {
             return Rated {
                 tuner: tuner,
@@ -383,15 +376,8 @@ pub fn apply_input_path(
             count: 0,
         };
     };
-    let number = refusal(
-        sound(tuner.nominal, tuner.corrected),
-        0,
-        10,
-        3,
-        room.len(),
-        outcomes.len(),
-        replies.len(),
-    );
+    let whole = sound(tuner.nominal, tuner.corrected);
+    let number = refusal(whole, 0, 10, 3, room.len(), outcomes.len(), replies.len());
     if number != 0 {
         return r82xx::Told {
             tuner: tuner,
