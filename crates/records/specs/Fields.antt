@@ -4,6 +4,8 @@ use Prim.Native.Nat.{ℕ, _%_}
 use mathlib.Core.Bool.{Bool, true, false, _&&_, _||_}
 use mathlib.Core.List.{List, [], _∷_}
 use lib.Dec.{eqb, leb}
+use Rattle.board.specs.declared.Board.{Board}
+use Rattle.board.specs.declared.Board.the-variants.{Generic, V4}
 use Rattle.pll.specs.declared.Kind.{Kind}
 use Rattle.pll.specs.declared.Kind.the-variants.{R820T, R828D}
 
@@ -18,6 +20,14 @@ pickKind false = R820T
 
 abbrev pub kindOf : ℕ → Kind
 kindOf n = pickKind (eqb n 1)
+
+abbrev pub pickBoard : Bool → Board
+pickBoard true = V4
+pickBoard false = Generic
+
+-- board: 0 generic, 1 V4
+abbrev pub boardFrom : ℕ → Board
+boardFrom n = pickBoard (eqb n 1)
 
 abbrev pub flagByte : Bool → ℕ
 flagByte true = 1

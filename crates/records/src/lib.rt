@@ -7,10 +7,13 @@ ghost use Prim.Native.Nat.{_+_, _≤_, _<_};
 ghost use lib.ListN.{length, take, drop};
 ghost use lib.Seq.{sets};
 ghost use Rattle.wire.specs.Bytes.{leBytes};
-ghost use Rattle.records.specs.Fields.{flagByte, flagOf, flagsOnly, kindNumber, kindOf, properGain};
-ghost use Rattle.records.specs.Parts.{laid, partsFrom};
-ghost use Rattle.records.specs.Tuners.{chipFrom, tunerBytes, tunerFits, tunerFrom, tunerOf, tunerParts, tunerWidths};
+ghost use Rattle.records.specs.Drivers.{driverBytes, driverFrom, driverOf, driverWidths};
+ghost use Rattle.records.specs.Fields.{boardFrom, flagByte, flagOf, flagsOnly, kindNumber, kindOf, properGain};
+ghost use Rattle.records.specs.Parts.{partsFrom};
+ghost use Rattle.records.specs.Tuners.{chipFrom, tunerBytes, tunerFits, tunerFrom, tunerOf, tunerWidths};
+use board::Board;
 use chip::Chip;
+use driver::Driver;
 use pll::Kind;
 use r82xx::Tuner;
 
@@ -37,10 +40,26 @@ const DOUBTFUL: usize = 78;
 
 pub const TUNER: usize = 105;
 
+// And of a driver's: its board stands first.
+const REFERENCE: usize = 1;
+
+const PPM: usize = 5;
+
+const FREQUENCY: usize = 9;
+
+const RATE: usize = 17;
+
+pub const DRIVER: usize = 21;
+
 // A record that bytes were read as. Where they are no record's, `tuner` is a fresh one and counts for nothing.
 pub struct TunerRead {
     pub ok: bool,
     pub tuner: Tuner,
+}
+
+pub struct DriverRead {
+    pub ok: bool,
+    pub driver: Driver,
 }
 
 fn flag_byte(on: bool) -> u8
@@ -231,5 +250,82 @@ pub fn encode_tuner(t: Tuner, out: &mut [u8])
     ensures { λ _. ⌜ now (out .exit) ≡ sets (now (out .entry)) 0 (tunerBytes t) ⌝ }
 {
     let image = tuner_image(t);
+    wire::copy(out, 0, &image);
+}
+
+fn board_from(n: u64) -> Board
+    ensures { λ r. ⌜ r ≡ boardFrom n ⌝ }
+{
+    if n == 1 {
+        return Board::V4;
+    }
+    Board::Generic
+}
+
+fn driver_in(b: &[u8]) -> Driver
+    requires { ⌜ length (now b) ≡ 21 ⌝ }
+    ensures { λ r. ⌜ r ≡ driverFrom (partsFrom 0 driverWidths (now (b .entry))) ⌝ }
+{
+    Driver {
+        board: board_from(wire::get(b, 0, 1)),
+        nominal: wire::get(b, REFERENCE, 4) as u32,
+        ppm: wire::to_signed(wire::get(b, PPM, 4) as u32),
+        frequency: wire::get(b, FREQUENCY, 8),
+        rate: wire::get(b, RATE, 4) as u32,
+    }
+}
+
+// "A given driver record whose nominal and ppm give a bad" corrected reference is none.
+pub fn decode_driver(b: &[u8]) -> DriverRead
+    ensures { λ r. ⌜ r ≡ driverOf (now (b .entry)) ⌝ }
+{
+    let none = Driver {
+        board: Board::Generic,
+        nominal: 1,
+        ppm: 0,
+        frequency: 0,
+        rate: 0,
+    };
+    let refused = DriverRead {
+        ok: false,
+        driver: none,
+    };
+    if b.len() != DRIVER {
+        return refused;
+    }
+    let d = driver_in(b);
+    if !((wire::get(b, 0, 1) <= 1) & (1 <= driver::xtal_by(d.nominal, d.ppm))) {
+        return refused;
+    }
+    DriverRead { ok: true, driver: d }
+}
+
+fn field(image: &mut [u8; 21], at: usize, n: u64, k: usize)
+    requires { ⌜ at + k ≤ 21 ⌝ }
+    ensures { λ _. ⌜ now (image .exit) ≡ sets (now (image .entry)) at (leBytes k n) ⌝ }
+{
+    wire::put(image, at, n, k);
+}
+
+// The record's 21 bytes.
+pub fn driver_image(d: Driver) -> [u8; 21]
+    ensures { λ r. ⌜ r ≡ driverBytes d ⌝ }
+{
+    let board = d.board;
+    let mut image = [0u8; 21];
+    field(&mut image, 0, board::board_number(board) as u64, 1);
+    field(&mut image, REFERENCE, d.nominal as u64, 4);
+    field(&mut image, PPM, wire::to_bits(d.ppm) as u64, 4);
+    field(&mut image, FREQUENCY, d.frequency, 8);
+    field(&mut image, RATE, d.rate as u64, 4);
+    image
+}
+
+// The record's bytes at the start of a slice.
+pub fn encode_driver(d: Driver, out: &mut [u8])
+    requires { ⌜ 21 ≤ length (now out) ⌝ }
+    ensures { λ _. ⌜ now (out .exit) ≡ sets (now (out .entry)) 0 (driverBytes d) ⌝ }
+{
+    let image = driver_image(d);
     wire::copy(out, 0, &image);
 }

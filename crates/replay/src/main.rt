@@ -4,6 +4,7 @@
 // `compare::agrees` (memory is lent: arrays of 0xa5, of the case's lengths) or `compare::valued` (answers by value); and one arm of `judge`.
 // What has no arm is not there yet. Same is proved to mean that all that came back agrees with the case: specs/Agreement, Agrees and Valued.
 mod compare;
+mod drivers;
 mod filter;
 mod handed;
 mod layout;
@@ -23,6 +24,11 @@ fn judge(c: &[u8]) -> Verdict {
         13 => tuners::get_gain(c),
         14 => tuners::get_if_freq(c),
         15 => tuners::get_gain_table(c),
+        16 => drivers::fresh(c),
+        17 => drivers::set_ppm(c),
+        18 => drivers::corrected_xtal_hz(c),
+        19 => drivers::set_sample_rate(c),
+        20 => drivers::apply_input_path(c),
         21..=32 => steps::made(c),
         33 => leaves::plan_tuning(c),
         34 => leaves::if_freq_regs(c),
