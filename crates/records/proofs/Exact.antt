@@ -145,12 +145,12 @@ module _ (t : Tuner) (h : Ranged t) where
       record {
         kind = kind-read (t .kind) i;
         chip =
-          record {
-            address = value-bytes 1 (t .chip .address) (h .address) i;
-            shadow = t .chip .shadow;
-            attempted = t .chip .attempted;
-            doubtful = flags-read (t .chip .doubtful) i;
-          };
+            record {
+              address = value-bytes 1 (t .chip .address) (h .address) i;
+              shadow = t .chip .shadow;
+              attempted = t .chip .attempted;
+              doubtful = flags-read (t .chip .doubtful) i;
+            };
         nominal = nominal-read i;
         corrected = corrected-read i;
         lock = flag-read (t .lock) i;
@@ -236,11 +236,11 @@ module _ (b : List ℕ) (bytes : Bytes b) (good : isTuner b ≡ true) where
       let h = tests in
       record {
         lists =
-          record {
-            shadow = one-long 27 2 b (omega (arith, size));
-            attempted = one-long 27 51 b (omega (arith, size));
-            doubtful = length-map (take 27 (drop 78 b)) flagOf ∙ one-long 27 78 b (omega (arith, size));
-          };
+            record {
+              shadow = one-long 27 2 b (omega (arith, size));
+              attempted = one-long 27 51 b (omega (arith, size));
+              doubtful = length-map (take 27 (drop 78 b)) flagOf ∙ one-long 27 78 b (omega (arith, size));
+            };
         address = one-below 1 1 b bytes (omega (arith, size));
         nominal = one-below 4 29 b bytes (omega (arith, size));
         known = h .nominal;

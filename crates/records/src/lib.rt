@@ -297,7 +297,10 @@ pub fn decode_driver(b: &[u8]) -> DriverRead
     if !((wire::get(b, 0, 1) <= 1) & (1 <= driver::xtal_by(d.nominal, d.ppm))) {
         return refused;
     }
-    DriverRead { ok: true, driver: d }
+    DriverRead {
+        ok: true,
+        driver: d,
+    }
 }
 
 fn field(image: &mut [u8; 21], at: usize, n: u64, k: usize)
