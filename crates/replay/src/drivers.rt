@@ -1,5 +1,6 @@
 // The driver's calls, over the records' bytes: fresh (16), its ppm (17), the corrected reference (18), sample rate on both records (19), the board path (20).
 ghost use Prim.Native.Nat.{_≤_};
+ghost use lib.ListN.{length};
 use crate::compare;
 use crate::handed;
 use crate::layout;
@@ -57,8 +58,8 @@ pub fn corrected_xtal_hz(c: &[u8]) -> Verdict {
     handed::bare(c, d.corrected_xtal_hz())
 }
 
-fn rate(c: &[u8], t: Tuner, d: Driver, n: usize, space: &mut [u8; 1024]) -> Rated
-    requires { ⌜ n ≤ 1024 ⌝ }
+fn rate(c: &[u8], t: Tuner, d: Driver, n: usize, space: &mut [u8]) -> Rated
+    requires { ⌜ n ≤ length (now space) ⌝ }
 {
     let hz = layout::four(c, layout::A) as u32;
     d.set_sample_rate(t, hz, layout::part(c, layout::OUTCOMES), &mut space[0..n])
@@ -91,8 +92,8 @@ pub fn set_sample_rate(c: &[u8]) -> Verdict {
     judged_both(c, rated, handed::room(&space, n))
 }
 
-fn take_path(c: &[u8], t: Tuner, n: usize, space: &mut [u8; 1024]) -> r82xx::Told
-    requires { ⌜ n ≤ 1024 ⌝ }
+fn take_path(c: &[u8], t: Tuner, n: usize, space: &mut [u8]) -> r82xx::Told
+    requires { ⌜ n ≤ length (now space) ⌝ }
 {
     let path = layout::one(c, layout::A) as u8;
     let outcomes = layout::part(c, layout::OUTCOMES);

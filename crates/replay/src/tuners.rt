@@ -1,5 +1,6 @@
 // The tuner's calls, over the record's bytes: fresh (1), those that hand the next record back (2 to 12), those that only read (13 to 15).
 ghost use Prim.Native.Nat.{_≤_};
+ghost use lib.ListN.{length};
 use crate::compare;
 use crate::handed;
 use crate::layout;
@@ -57,8 +58,8 @@ fn plain(c: &[u8], t: Tuner) -> Told {
     }
 }
 
-fn asked(c: &[u8], t: Tuner, n: usize, space: &mut [u8; 1024]) -> Told
-    requires { ⌜ n ≤ 1024 ⌝ }
+fn asked(c: &[u8], t: Tuner, n: usize, space: &mut [u8]) -> Told
+    requires { ⌜ n ≤ length (now space) ⌝ }
 {
     if layout::one(c, layout::CALL) < 10 {
         return stepped(c, t, &mut space[0..n]);
