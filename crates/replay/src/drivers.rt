@@ -1,10 +1,14 @@
 // The driver's calls, over the records' bytes: fresh (16), its ppm (17), the corrected reference (18), sample rate on both records (19), the board path (20).
+ghost use Prim.Native.Nat.{_≤_};
+ghost use lib.ListN.{length};
 use crate::compare;
 use crate::handed;
 use crate::layout;
 use compare::Verdict;
 use driver::Driver;
+use driver::Rated;
 use driver::Told;
+use r82xx::Tuner;
 
 fn ppm_of(c: &[u8]) -> i32 {
     wire::to_signed(layout::four(c, layout::D) as u32)
@@ -14,10 +18,7 @@ fn judged(c: &[u8], told: Told) -> Verdict {
     let answer = told.answer;
     let driver = told.driver;
     let told = handed::numbers(answer, told.count);
-    let mut next = [0xa5u8; 21];
-    if handed::hands(told) {
-        next = records::driver_image(driver);
-    }
+    let next = handed::next_driver(told, driver);
     compare::agrees(c, told, &[], &[], &next, &[])
 }
 
@@ -57,6 +58,23 @@ pub fn corrected_xtal_hz(c: &[u8]) -> Verdict {
     handed::bare(c, d.corrected_xtal_hz())
 }
 
+fn rate(c: &[u8], t: Tuner, d: Driver, n: usize, space: &mut [u8]) -> Rated
+    requires { ⌜ n ≤ length (now space) ⌝ }
+{
+    let hz = layout::four(c, layout::A) as u32;
+    d.set_sample_rate(t, hz, layout::part(c, layout::OUTCOMES), &mut space[0..n])
+}
+
+fn judged_both(c: &[u8], rated: Rated, room: &[u8]) -> Verdict {
+    let answer = rated.answer;
+    let tuner = rated.tuner;
+    let driver = rated.driver;
+    let told = handed::numbers(answer, rated.count);
+    let first = handed::next_tuner(told, tuner);
+    let second = handed::next_driver(told, driver);
+    compare::agrees(c, told, room, &first, &second, &[])
+}
+
 pub fn set_sample_rate(c: &[u8]) -> Verdict {
     let mut space = [0xa5u8; 1024];
     let n = layout::two(c, layout::ROOM);
@@ -66,27 +84,21 @@ pub fn set_sample_rate(c: &[u8]) -> Verdict {
     let read = records::decode_tuner(layout::part(c, layout::TUNER));
     let given = records::decode_driver(layout::part(c, layout::DRIVER));
     if !(read.ok & given.ok) {
-        return handed::refused(c, &space[0..n]);
+        return handed::refused(c, handed::room(&space, n));
     }
     let t = read.tuner;
     let d = given.driver;
-    let rated = d.set_sample_rate(
-        t,
-        layout::four(c, layout::A) as u32,
-        layout::part(c, layout::OUTCOMES),
-        &mut space[0..n],
-    );
-    let answer = rated.answer;
-    let tuner = rated.tuner;
-    let driver = rated.driver;
-    let told = handed::numbers(answer, rated.count);
-    let mut first = [0xa5u8; 105];
-    let mut second = [0xa5u8; 21];
-    if handed::hands(told) {
-        first = records::tuner_image(tuner);
-        second = records::driver_image(driver);
-    }
-    compare::agrees(c, told, &space[0..n], &first, &second, &[])
+    let rated = rate(c, t, d, n, &mut space);
+    judged_both(c, rated, handed::room(&space, n))
+}
+
+fn take_path(c: &[u8], t: Tuner, n: usize, space: &mut [u8]) -> r82xx::Told
+    requires { ⌜ n ≤ length (now space) ⌝ }
+{
+    let path = layout::one(c, layout::A) as u8;
+    let outcomes = layout::part(c, layout::OUTCOMES);
+    let replies = layout::part(c, layout::REPLIES);
+    driver::apply_input_path(t, path, outcomes, replies, &mut space[0..n])
 }
 
 pub fn apply_input_path(c: &[u8]) -> Verdict {
@@ -97,15 +109,9 @@ pub fn apply_input_path(c: &[u8]) -> Verdict {
     }
     let read = records::decode_tuner(layout::part(c, layout::TUNER));
     if !read.ok {
-        return handed::refused(c, &space[0..n]);
+        return handed::refused(c, handed::room(&space, n));
     }
     let t = read.tuner;
-    let told = driver::apply_input_path(
-        t,
-        layout::one(c, layout::A) as u8,
-        layout::part(c, layout::OUTCOMES),
-        layout::part(c, layout::REPLIES),
-        &mut space[0..n],
-    );
-    handed::judged(c, told, &space[0..n])
+    let told = take_path(c, t, n, &mut space);
+    handed::judged(c, told, handed::room(&space, n))
 }

@@ -2,9 +2,12 @@
 ghost use mathlib.Core.Path.{_≡_};
 ghost use Prim.Native.Nat.{_<_};
 use crate::compare;
+use crate::layout;
 use chip::Answer;
 use compare::Verdict;
+use driver::Driver;
 use r82xx::Told;
+use r82xx::Tuner;
 
 pub fn numbers(answer: Answer, count: usize) -> compare::Answer {
     match answer {
@@ -34,14 +37,31 @@ pub fn hands(told: compare::Answer) -> bool {
     told.refusal == 0 || 0 < told.count
 }
 
+// What a slice lent for the next tuner record holds after the call.
+pub fn next_tuner(told: compare::Answer, tuner: Tuner) -> [u8; 105] {
+    if hands(told) {
+        return records::tuner_image(tuner);
+    }
+    [0xa5u8; 105]
+}
+
+pub fn next_driver(told: compare::Answer, driver: Driver) -> [u8; 21] {
+    if hands(told) {
+        return records::driver_image(driver);
+    }
+    [0xa5u8; 21]
+}
+
+// The room of a case: the array's length is in its type, so that its part needs no fact about what a call wrote there.
+pub fn room(space: &[u8; 1024], n: usize) -> &[u8] {
+    layout::cut(space, 0, n)
+}
+
 pub fn judged(c: &[u8], told: Told, room: &[u8]) -> Verdict {
     let answer = told.answer;
     let tuner = told.tuner;
     let told = numbers(answer, told.count);
-    let mut next = [0xa5u8; 105];
-    if hands(told) {
-        next = records::tuner_image(tuner);
-    }
+    let next = next_tuner(told, tuner);
     compare::agrees(c, told, room, &next, &[], &[])
 }
 

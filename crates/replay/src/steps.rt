@@ -1,4 +1,6 @@
 // The calls that make entries and touch no record: the demodulator's (21 to 30) and GPIO (31, 32).
+ghost use Prim.Native.Nat.{_≤_};
+ghost use lib.ListN.{length};
 use crate::compare;
 use crate::handed;
 use crate::layout;
@@ -37,13 +39,15 @@ fn ask_other(c: &[u8], outcomes: &[u8], room: &mut [u8]) -> Handed {
     }
 }
 
-fn ask(c: &[u8], room: &mut [u8]) -> Handed {
+fn ask(c: &[u8], n: usize, space: &mut [u8]) -> Handed
+    requires { ⌜ n ≤ length (now space) ⌝ }
+{
     let outcomes = layout::part(c, layout::OUTCOMES);
     let call = layout::one(c, layout::CALL);
-    if call == 26 || 30 < call {
-        return ask_other(c, outcomes, room);
+    if (call == 26) | (30 < call) {
+        return ask_other(c, outcomes, &mut space[0..n]);
     }
-    ask_demod(c, outcomes, room)
+    ask_demod(c, outcomes, &mut space[0..n])
 }
 
 pub fn made(c: &[u8]) -> Verdict {
@@ -52,8 +56,8 @@ pub fn made(c: &[u8]) -> Verdict {
     if 1024 < n {
         return Verdict::Differ;
     }
-    let back = ask(c, &mut space[0..n]);
+    let back = ask(c, n, &mut space);
     let answer = back.answer;
     let told = handed::numbers(answer, back.count);
-    compare::agrees(c, told, &space[0..n], &[], &[], &[])
+    compare::agrees(c, told, handed::room(&space, n), &[], &[], &[])
 }

@@ -1,4 +1,6 @@
 // The tuner's calls, over the record's bytes: fresh (1), those that hand the next record back (2 to 12), those that only read (13 to 15).
+ghost use Prim.Native.Nat.{_≤_};
+ghost use lib.ListN.{length};
 use crate::compare;
 use crate::handed;
 use crate::layout;
@@ -56,6 +58,15 @@ fn plain(c: &[u8], t: Tuner) -> Told {
     }
 }
 
+fn asked(c: &[u8], t: Tuner, n: usize, space: &mut [u8]) -> Told
+    requires { ⌜ n ≤ length (now space) ⌝ }
+{
+    if layout::one(c, layout::CALL) < 10 {
+        return stepped(c, t, &mut space[0..n]);
+    }
+    plain(c, t)
+}
+
 pub fn changed(c: &[u8]) -> Verdict {
     let mut space = [0xa5u8; 1024];
     let n = layout::two(c, layout::ROOM);
@@ -64,14 +75,11 @@ pub fn changed(c: &[u8]) -> Verdict {
     }
     let read = records::decode_tuner(layout::part(c, layout::TUNER));
     if !read.ok {
-        return handed::refused(c, &space[0..n]);
+        return handed::refused(c, handed::room(&space, n));
     }
     let t = read.tuner;
-    if layout::one(c, layout::CALL) < 10 {
-        let told = stepped(c, t, &mut space[0..n]);
-        return handed::judged(c, told, &space[0..n]);
-    }
-    handed::judged(c, plain(c, t), &space[0..n])
+    let told = asked(c, t, n, &mut space);
+    handed::judged(c, told, handed::room(&space, n))
 }
 
 pub fn get_gain(c: &[u8]) -> Verdict {
@@ -113,5 +121,6 @@ pub fn get_gain_table(c: &[u8]) -> Verdict {
     let answer = table.answer;
     let steps = table.steps;
     let told = handed::numbers(answer, 0);
-    compare::valued(c, told.refusal, told.value, &table_bytes(steps))
+    let bytes = table_bytes(steps);
+    compare::valued(c, told.refusal, told.value, &bytes)
 }
