@@ -1,17 +1,24 @@
--- The three cases of a lent slice, the two of the FIR calls' bytes; the refusals of the register calls are bytes.
+-- The three cases of a lent slice, the two of the FIR calls' bytes, the gain table; the refusals of the register calls are bytes.
 -- Assumes nothing.
 use Prim.Native.Nat.{ℕ, _+_, _<_, _≤_}
-use mathlib.Core.Path.{_≡_, ap, _∙_}
+use mathlib.Core.Path.{_≡_, refl, sym, ap, _∙_}
 use mathlib.Core.Bool.{Bool, true, false}
-use mathlib.Core.List.{List, _++_, append-nil}
+use mathlib.Core.List.{List, _++_, append-nil, map}
 use native.Mathlib.Omega.{arith}
 use borrow.Author.Tests.{eq-eqb, ne-eqb, lt-ltb, le-ltb}
 use lib.Dec.{eqb}
-use lib.ListN.{length, drop-of-length-le}
+use lib.IntN.{ℤ, pos}
+use lib.ListN.{length, replicate, drop-of-length-le}
 use lib.Seq.{sets, sets-eq}
-use Rattle.answers.specs.Lent.{given, lentTo, packInto, unpackInto, wordBytes, wordsIn}
+use Rattle.answers.specs.Lent.{Given, given, lentTo, packInto, pick, tableInto, unpackInto, wordBytes, wordsIn}
+use Rattle.chip.specs.Calls.{numberOf}
 use Rattle.chip.specs.declared.Answer.the-variants.{Done, Refused}
 use Rattle.fir.specs.Packing.{packed, unpackOf}
+use Rattle.gain.specs.Steps.{steps}
+use Rattle.r82xx.specs.Calls.{soundAnswer, tableOf}
+use Rattle.r82xx.specs.declared.Table.{Table}
+use Rattle.r82xx.specs.declared.Tuner.{Tuner}
+use Rattle.r82xx.specs.Record.{soundBy, pick as record-pick}
 use Rattle.registers.specs.declared.IfRegs.{IfRegs}
 use Rattle.registers.specs.declared.ResampleRegs.{ResampleRegs}
 use Rattle.registers.specs.Rates.{ifRegsOf, pickIf, pickResample, resampleRegsOf}
@@ -52,6 +59,20 @@ pub covered : (l s : List ℕ) → length s ≡ length l → sets l 0 s ≡ s
 covered l s h =
     let past : length l ≤ 0 + length s = omega arith in
     sets-eq s l 0 (omega arith) ∙ ap (λ (u : List ℕ). s ++ u) (drop-of-length-le l past) ∙ append-nil s
+
+-- the gain table: its answer's number tells whether the record is sound
+abbrev lentTable : Table → List ℕ → Given
+lentTable r out = lentTo (numberOf (r .answer)) 0 (wordBytes (r .steps)) out
+
+table-cases : (b : Bool) (zeros : List ℤ) (out : List ℕ)
+    → lentTable (record-pick b (record { answer = record-pick b (Done 0) (Refused 1); steps = map pos steps }) (record { answer = record-pick b (Done 0) (Refused 1); steps = zeros })) out
+    ≡ pick b (lentTo 0 0 (wordBytes (map pos steps)) out) (given (Refused 1) out)
+table-cases true zeros out = refl
+table-cases false zeros out = sym (refused 1 0 (wordBytes zeros) out (omega arith))
+
+pub table-given : (t : Tuner) (out : List ℕ) → lentTable (tableOf (t .nominal) (t .corrected)) out ≡ tableInto t out
+unfolding tableOf soundAnswer tableInto
+table-given t out = table-cases (soundBy (t .nominal) (t .corrected)) (replicate 29 (pos 0)) out
 
 -- a choice of two is small where both are
 if-either : (b : Bool) (x y : IfRegs) → x .refusal < 256 → y .refusal < 256 → pickIf b x y .refusal < 256

@@ -3,9 +3,9 @@
 -- Assumes nothing.
 use Prim.Native.Nat.{ℕ, zero, suc}
 use mathlib.Core.Bool.{Bool, true, false}
-use mathlib.Core.List.{List, [], _∷_, _++_}
+use mathlib.Core.List.{List, [], _∷_, _++_, map}
 use lib.Dec.{eqb, ltb}
-use lib.IntN.{ℤ}
+use lib.IntN.{ℤ, pos}
 use lib.ListN.{length, take, drop}
 use lib.Seq.{sets}
 use mir.Syntax.{w32}
@@ -18,6 +18,9 @@ use Rattle.board.specs.Plans.{planOf}
 use Rattle.chip.specs.declared.Answer.{Answer}
 use Rattle.chip.specs.declared.Answer.the-variants.{Done, Refused}
 use Rattle.fir.specs.Packing.{packed, unpackOf}
+use Rattle.gain.specs.Steps.{steps}
+use Rattle.r82xx.specs.declared.Tuner.{Tuner}
+use Rattle.r82xx.specs.Record.{sound}
 use Rattle.registers.specs.Rates.{ifRegsOf, resampleRegsOf}
 use Rattle.wire.specs.Bytes.{leBytes, leValue}
 
@@ -75,3 +78,7 @@ packInto s out =
 
 unfoldable pub unpackInto : List ℕ → List ℕ → Given
 unpackInto s out = pick (eqb (length s) 20) (lentTo 0 0 (wordBytes (unpackOf s)) out) (given (Refused 7) out)
+
+-- the gain table. "A given record out of its ranges .. is refused 1 first"
+unfoldable pub tableInto : Tuner → List ℕ → Given
+tableInto t out = pick (sound t) (lentTo 0 0 (wordBytes (map pos steps)) out) (given (Refused 1) out)

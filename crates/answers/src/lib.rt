@@ -4,11 +4,13 @@ ghost use mathlib.Core.Path.{_≡_};
 ghost use Prim.Native.Nat.{_+_, _*_, _<_, _≤_};
 ghost use lib.ListN.{length, take, drop};
 ghost use lib.Seq.{sets};
-ghost use Rattle.answers.specs.Lent.{bitOf, given, ifInto, lentTo, packInto, planInto, resampleInto, unpackInto, wordBytes, wordsIn};
+ghost use Rattle.answers.specs.Lent.{bitOf, given, ifInto, lentTo, packInto, planInto, resampleInto, tableInto, unpackInto, wordBytes, wordsIn};
 ghost use Rattle.board.specs.Numbers.{boardOf};
+ghost use Rattle.chip.specs.Calls.{numberOf};
 ghost use Rattle.wire.specs.Bytes.{leValue};
 use board::BoardRead;
 use chip::Answer;
+use r82xx::Tuner;
 
 // Refused by the number given, 0 for none; or 8; or the bytes at the start of the slice.
 pub fn lend(refusal: u8, value: u64, bytes: &[u8], out: &mut [u8]) -> Answer
@@ -131,4 +133,25 @@ pub fn unpack_fir(bytes: &[u8], out: &mut [u8]) -> Answer
     wire::copy(&mut b, 0, bytes);
     let v = fir::unpack_fir(b);
     lend_words(0, &v, out)
+}
+
+// The number of an answer's refusal, 0 for none.
+fn number(answer: Answer) -> u8
+    ensures { λ r. ⌜ r ≡ numberOf answer ⌝ }
+{
+    match answer {
+        Answer::Done(_) => 0,
+        Answer::Refused(n) => n,
+        Answer::Stopped(_) => 11,
+    }
+}
+
+// The Rust's `get_gain_table`, 29 numbers of 32 bits. The record is judged first, as by every call.
+pub fn gain_table(tuner: Tuner, out: &mut [u8]) -> Answer
+    ensures { λ r. ⌜ given r (now (out .exit)) ≡ tableInto tuner (now (out .entry)) ⌝ }
+{
+    let table = tuner.get_gain_table();
+    let answer = table.answer;
+    let steps = table.steps;
+    lend_words(number(answer), &steps, out)
 }

@@ -14,8 +14,8 @@ use denote.Ref.{now}
 use Rattle.wire.specs.Bytes.{leValue}
 use Rattle.answers.specs.Lent.{wordsIn}
 use Rattle.answers.proofs.Words.{read-end, read-turn}
-use Rattle.answers.proofs.coefficients.Tie as tie
 use Rattle.answers.proofs.coefficients.Statement.{statement}
+use Rattle.answers.proofs.coefficients.Tie as tie
 
 abbrev Inv-loop : tie.InvT-loop
 Inv-loop s v₀ i₀ v i = (i ≤ 16) × ((length v ≡ 16) × (take i v ++ wordsIn (16 - i) (drop (4 * i) s) ≡ wordsIn 16 s))

@@ -7,8 +7,8 @@ use denote.Ref.{now}
 use Rattle.registers.specs.declared.IfRegs.{IfRegs}
 use Rattle.answers.specs.Lent.{lentTo}
 use Rattle.answers.proofs.Giving.{if-small}
-use Rattle.answers.proofs.if_freq_regs.Tie as tie
 use Rattle.answers.proofs.if_freq_regs.Statement.{statement}
+use Rattle.answers.proofs.if_freq_regs.Tie as tie
 
 if-freq-regs-requires : tie.Need-if-freq-regs-requires
 if-freq-regs-requires c κs = search needs

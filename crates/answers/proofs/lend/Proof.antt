@@ -9,8 +9,8 @@ use denote.Ref.{now}
 use Rattle.answers.specs.Lent.{given}
 use Rattle.chip.specs.declared.Answer.the-variants.{Done}
 use Rattle.answers.proofs.Giving.{laid, refused, too-short}
-use Rattle.answers.proofs.lend.Tie as tie
 use Rattle.answers.proofs.lend.Statement.{statement}
+use Rattle.answers.proofs.lend.Tie as tie
 
 returns : tie.Need-returns
 returns c = refused (c .before .before .before .args .refusal) (c .before .before .before .args .value) (now (c .before .before .before .args .bytes)) (now (c .before .before .before .args .out)) (omega arith)

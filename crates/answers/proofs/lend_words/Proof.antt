@@ -10,8 +10,8 @@ use Rattle.answers.specs.Lent.{given, wordBytes}
 use Rattle.chip.specs.declared.Answer.the-variants.{Done}
 use Rattle.answers.proofs.Giving.{laid, refused, too-short}
 use Rattle.answers.proofs.Words.{length-words}
-use Rattle.answers.proofs.lend_words.Tie as tie
 use Rattle.answers.proofs.lend_words.Statement.{statement}
+use Rattle.answers.proofs.lend_words.Tie as tie
 
 returns : tie.Need-returns
 returns c = let a = c .before .before .args in refused (a .refusal) 0 (wordBytes (now (a .v))) (now (a .out)) (omega arith)

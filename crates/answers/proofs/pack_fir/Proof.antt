@@ -8,8 +8,8 @@ use Rattle.fir.specs.declared.Packed.{Packed}
 use Rattle.fir.specs.Packing.{packed}
 use Rattle.answers.specs.Lent.{lentTo}
 use Rattle.answers.proofs.Giving.{no-packing, packing}
-use Rattle.answers.proofs.pack_fir.Tie as tie
 use Rattle.answers.proofs.pack_fir.Statement.{statement}
+use Rattle.answers.proofs.pack_fir.Tie as tie
 
 returns : tie.Need-returns
 returns c = let a = c .before .before .before .args in no-packing (now (a .values)) (now (a .out)) (λ e. omega arith)

@@ -7,8 +7,8 @@ use denote.Ref.{now}
 use Rattle.board.specs.declared.Plan.{Plan}
 use Rattle.board.specs.declared.BoardRead.{BoardRead}
 use Rattle.answers.specs.Lent.{lentTo, planBytes, planInto}
-use Rattle.answers.proofs.plan_tuning.Tie as tie
 use Rattle.answers.proofs.plan_tuning.Statement.{statement}
+use Rattle.answers.proofs.plan_tuning.Tie as tie
 
 board-of-requires : tie.Need-board-of-requires
 board-of-requires c κs = search needs

@@ -15,8 +15,8 @@ use denote.Ref.{now}
 use Rattle.wire.specs.Bytes.{leBytes}
 use Rattle.answers.specs.Lent.{wordBytes}
 use Rattle.answers.proofs.Words.{put-end, put-turn}
-use Rattle.answers.proofs.put_words.Tie as tie
 use Rattle.answers.proofs.put_words.Statement.{statement}
+use Rattle.answers.proofs.put_words.Tie as tie
 
 abbrev Inv-loop : tie.InvT-loop
 Inv-loop v out₀ i₀ out i = (i ≤ length v) × ((length out ≡ length out₀) × (sets out (4 * i) (wordBytes (drop i v)) ≡ sets out₀ 0 (wordBytes v)))

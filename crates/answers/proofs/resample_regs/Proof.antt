@@ -7,8 +7,8 @@ use denote.Ref.{now}
 use Rattle.registers.specs.declared.ResampleRegs.{ResampleRegs}
 use Rattle.answers.specs.Lent.{lentTo}
 use Rattle.answers.proofs.Giving.{resample-small}
-use Rattle.answers.proofs.resample_regs.Tie as tie
 use Rattle.answers.proofs.resample_regs.Statement.{statement}
+use Rattle.answers.proofs.resample_regs.Tie as tie
 
 resample-regs-requires : tie.Need-resample-regs-requires
 resample-regs-requires c κs = search needs

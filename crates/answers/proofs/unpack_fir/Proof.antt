@@ -9,8 +9,8 @@ use denote.Ref.{now}
 use Rattle.fir.specs.Packing.{no-bytes, unpackOf}
 use Rattle.answers.specs.Lent.{lentTo, wordBytes}
 use Rattle.answers.proofs.Giving.{covered, no-unpacking, unpacking}
-use Rattle.answers.proofs.unpack_fir.Tie as tie
 use Rattle.answers.proofs.unpack_fir.Statement.{statement}
+use Rattle.answers.proofs.unpack_fir.Tie as tie
 
 returns : tie.Need-returns
 returns c = let a = c .before .before .before .args in no-unpacking (now (a .bytes)) (now (a .out)) (λ e. omega arith)
