@@ -1,0 +1,31 @@
+-- `answers::lend` meets its contract: each return is one case of the definition.
+-- Assumes nothing.
+use Prim.Native.Nat.{ℕ}
+use mathlib.Core.Path.{ap, _∙_}
+use mathlib.Core.List.{List}
+use native.Mathlib.Omega.{arith}
+use borrow.Author.Needs.{needs}
+use denote.Ref.{now}
+use Rattle.answers.specs.Lent.{given}
+use Rattle.chip.specs.declared.Answer.the-variants.{Done}
+use Rattle.answers.proofs.Giving.{laid, refused, too-short}
+use Rattle.answers.proofs.lend.Statement.{statement}
+use Rattle.answers.proofs.lend.Tie as tie
+
+returns : tie.Need-returns
+returns c = refused (c .before .before .before .args .refusal) (c .before .before .before .args .value) (now (c .before .before .before .args .bytes)) (now (c .before .before .before .args .out)) (omega arith)
+
+returns-2 : tie.Need-returns-2
+returns-2 c = let a = c .before .before .before .before .args in too-short (a .refusal) (a .value) (now (a .bytes)) (now (a .out)) (omega arith) (omega arith)
+
+copy-requires : tie.Need-copy-requires
+copy-requires c κs = search needs
+
+same-length : tie.Need-same-length
+same-length c = search needs
+
+returns-3 : tie.Need-returns-3
+returns-3 c = let a = c .before .before .before .before .before .before .before .before .args in ap (λ (l : List ℕ). given (Done (a .value)) l) (c .before .before .copy .ensures) ∙ laid (a .refusal) (a .value) (now (a .bytes)) (now (a .out)) (omega arith) (omega arith)
+
+pub lend-spec : {M : Type 1} → statement M
+lend-spec = tie.close (tie.spec returns returns-2 copy-requires same-length returns-3)

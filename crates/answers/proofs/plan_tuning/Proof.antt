@@ -1,0 +1,74 @@
+-- `answers::plan_tuning` meets its contract: a number that names no board, or the plan's bytes.
+-- Assumes nothing.
+use mathlib.Core.List.{[], _∷_}
+use mathlib.Core.Path.{sym, ap, _∙_}
+use borrow.Author.Needs.{needs}
+use denote.Ref.{now}
+use Rattle.board.specs.declared.Plan.{Plan}
+use Rattle.board.specs.declared.BoardRead.{BoardRead}
+use Rattle.answers.specs.Lent.{lentTo, planBytes, planInto}
+use Rattle.answers.proofs.plan_tuning.Statement.{statement}
+use Rattle.answers.proofs.plan_tuning.Tie as tie
+
+board-of-requires : tie.Need-board-of-requires
+board-of-requires c κs = search needs
+
+enum-known-b : tie.Need-enum-known-b
+enum-known-b c = search needs
+
+enum-told : tie.Need-enum-told
+enum-told c = search needs
+
+returns : tie.Need-returns
+unfolding planInto
+returns c =
+    let a = c .before .before .before .before .args in
+    ap (λ (b : BoardRead). planInto b (a .hz) (now (a .out))) (sym (c .enum-told .given .1) ∙ c .before .before .board-of .ensures)
+
+plan-tuning-requires : tie.Need-plan-tuning-requires
+plan-tuning-requires c κs = search needs
+
+bit-requires : tie.Need-bit-requires
+bit-requires c κs = search needs
+
+route-number-requires : tie.Need-route-number-requires
+route-number-requires c κs = search needs
+
+bit-requires-2 : tie.Need-bit-requires-2
+bit-requires-2 c κs = search needs
+
+slice-aggregate-lend : tie.Need-slice-aggregate-lend
+slice-aggregate-lend c = search needs
+
+lend-requires : tie.Need-lend-requires
+lend-requires c κs = search needs
+
+same-length : tie.Need-same-length
+same-length c = search needs
+
+returns-2 : tie.Need-returns-2
+unfolding planInto
+returns-2 c =
+    let a = c .before .before .before .before .before .before .before .before .before .before .before .before .before .before .args in
+    let p = c .before .before .before .before .before .before .before .before .plan-tuning .result in
+    c .before .before .lend .ensures
+    ∙ (λ i. lentTo 0 (p .hz) (c .before .before .before .before .before .before .before .bit .ensures i ∷ c .before .before .before .before .before .before .route-number .ensures i ∷ c .before .before .before .before .before .bit2 .ensures i ∷ []) (now (a .out)))
+    ∙ ap (λ (q : Plan). lentTo 0 (q .hz) (planBytes q) (now (a .out))) (c .before .before .before .before .before .before .before .before .plan-tuning .ensures)
+    ∙ ap (λ (b : BoardRead). planInto b (a .hz) (now (a .out))) (sym (c .before .before .before .before .before .before .before .before .before .before .b .given .1) ∙ c .before .before .before .before .before .before .before .before .before .before .before .before .board-of .ensures)
+
+pub plan-tuning-spec : {M : Type 1} → statement M
+plan-tuning-spec =
+    tie.close
+    (tie.spec
+    board-of-requires
+    enum-known-b
+    enum-told
+    returns
+    plan-tuning-requires
+    bit-requires
+    route-number-requires
+    bit-requires-2
+    slice-aggregate-lend
+    lend-requires
+    same-length
+    returns-2)

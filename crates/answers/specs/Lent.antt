@@ -1,0 +1,84 @@
+-- Answers of fixed size that a host takes as bytes in a slice that it lends. A slice that is too short is refused 8, after the arguments; a longer one is
+-- fine, and its bytes past the answer stay; refused, all of it is as it was.
+-- Assumes nothing.
+use Prim.Native.Nat.{ℕ, zero, suc}
+use mathlib.Core.Bool.{Bool, true, false}
+use mathlib.Core.List.{List, [], _∷_, _++_, map}
+use lib.Dec.{eqb, ltb}
+use lib.IntN.{ℤ, pos}
+use lib.ListN.{length, take, drop}
+use lib.Seq.{sets}
+use mir.Syntax.{w32}
+use mir.Val.{ofZ, toZ}
+use Rattle.board.specs.declared.BoardRead.{BoardRead}
+use Rattle.board.specs.declared.BoardRead.the-variants as board-read
+use Rattle.board.specs.declared.Plan.{Plan}
+use Rattle.board.specs.Numbers.{boardOf, routeNumber}
+use Rattle.board.specs.Plans.{planOf}
+use Rattle.chip.specs.declared.Answer.{Answer}
+use Rattle.chip.specs.declared.Answer.the-variants.{Done, Refused}
+use Rattle.fir.specs.Packing.{packed, unpackOf}
+use Rattle.gain.specs.Steps.{steps}
+use Rattle.r82xx.specs.declared.Tuner.{Tuner}
+use Rattle.r82xx.specs.Record.{sound}
+use Rattle.registers.specs.Rates.{ifRegsOf, resampleRegsOf}
+use Rattle.wire.specs.Bytes.{leBytes, leValue}
+
+-- an answer and what the lent slice holds afterwards
+pub record Given : Type 0 where
+  pub answer : Answer
+  pub out : List ℕ
+
+abbrev pub given : Answer → List ℕ → Given
+given answer out = record { answer = answer; out = out }
+
+abbrev pub pick : Bool → Given → Given → Given
+pick true a b = a
+pick false a b = b
+
+-- "Order: arguments (1 to 7, and 2 for hz), then 8": an argument's refusal, 0 for none, then the slice
+unfoldable pub lentTo : ℕ → ℕ → List ℕ → List ℕ → Given
+lentTo refusal value bytes out =
+    pick (eqb refusal 0)
+    (pick (ltb (length out) (length bytes)) (given (Refused 8) out) (given (Done value) (sets out 0 bytes)))
+    (given (Refused refusal) out)
+
+-- the two register calls of src/registers.rs
+abbrev pub ifInto : ℕ → ℕ → List ℕ → Given
+ifInto hz xtal out = lentTo (ifRegsOf hz xtal .refusal) 0 (ifRegsOf hz xtal .bytes) out
+
+abbrev pub resampleInto : ℕ → ℕ → List ℕ → Given
+resampleInto rate xtal out = lentTo (resampleRegsOf rate xtal .refusal) 0 (resampleRegsOf rate xtal .bytes) out
+
+-- a plan: its hz as the value; inverted, path (3 none), notch as bytes. A number that names no board is refused 1
+abbrev pub bitOf : Bool → ℕ
+bitOf true = 1
+bitOf false = 0
+
+abbrev pub planBytes : Plan → List ℕ
+planBytes p = bitOf (p .inverted) ∷ routeNumber (p .path) ∷ bitOf (p .notch) ∷ []
+
+unfoldable pub planInto : BoardRead → ℕ → List ℕ → Given
+planInto board-read.Refused hz out = given (Refused 1) out
+planInto (board-read.Is b) hz out = lentTo 0 (planOf b hz .hz) (planBytes (planOf b hz)) out
+
+-- signed numbers of 32 bits as bytes, low byte first, and the first n numbers of such bytes
+unfoldable pub wordBytes : List ℤ → List ℕ
+wordBytes [] = []
+wordBytes (z ∷ zs) = leBytes 4 (ofZ w32 z) ++ wordBytes zs
+
+unfoldable pub wordsIn : ℕ → List ℕ → List ℤ
+wordsIn zero s = []
+wordsIn (suc n) s = toZ w32 (leValue (take 4 s)) ∷ wordsIn n (drop 4 s)
+
+-- the FIR packer and unpacker over lent bytes. Bytes that are not sixteen numbers, or not the twenty of a packing, are refused 7
+unfoldable pub packInto : List ℕ → List ℕ → Given
+packInto s out =
+    pick (eqb (length s) 64) (lentTo (packed (wordsIn 16 s) .refusal) 0 (packed (wordsIn 16 s) .bytes) out) (given (Refused 7) out)
+
+unfoldable pub unpackInto : List ℕ → List ℕ → Given
+unpackInto s out = pick (eqb (length s) 20) (lentTo 0 0 (wordBytes (unpackOf s)) out) (given (Refused 7) out)
+
+-- the gain table. "A given record out of its ranges .. is refused 1 first"
+unfoldable pub tableInto : Tuner → List ℕ → Given
+tableInto t out = pick (sound t) (lentTo 0 0 (wordBytes (map pos steps)) out) (given (Refused 1) out)

@@ -1,0 +1,157 @@
+// Answers of fixed size as bytes in a slice that the host lends: what the C boundary hands out of the leaves. Ours: the Rust answers arrays.
+// Document 01, "Modules, leaves first": "callable from a C or Rust host by numbers and byte slices"; "Refusal numbers", 8: "lent slice too short".
+ghost use mathlib.Core.Path.{_≡_};
+ghost use Prim.Native.Nat.{_+_, _*_, _<_, _≤_};
+ghost use lib.ListN.{length, take, drop};
+ghost use lib.Seq.{sets};
+ghost use Rattle.answers.specs.Lent.{bitOf, given, ifInto, lentTo, packInto, planInto, resampleInto, tableInto, unpackInto, wordBytes, wordsIn};
+ghost use Rattle.board.specs.Numbers.{boardOf};
+ghost use Rattle.chip.specs.Calls.{numberOf};
+ghost use Rattle.wire.specs.Bytes.{leValue};
+use board::BoardRead;
+use chip::Answer;
+use r82xx::Tuner;
+
+// Refused by the number given, 0 for none; or 8; or the bytes at the start of the slice.
+pub fn lend(refusal: u8, value: u64, bytes: &[u8], out: &mut [u8]) -> Answer
+    ensures { λ r. ⌜ given r (now (out .exit)) ≡ lentTo refusal value (now (bytes .entry)) (now (out .entry)) ⌝ }
+{
+    if refusal != 0 {
+        return Answer::Refused(refusal);
+    }
+    if out.len() < bytes.len() {
+        return Answer::Refused(chip::ROOM);
+    }
+    wire::copy(out, 0, bytes);
+    Answer::Done(value)
+}
+
+// All of v, four bytes each, from the start of the slice.
+fn put_words(v: &[i32], out: &mut [u8])
+    requires { ⌜ 4 * length (now v) ≤ length (now out) ⌝ }
+    ensures { λ _. ⌜ now (out .exit) ≡ sets (now (out .entry)) 0 (wordBytes (now (v .entry))) ⌝ }
+{
+    let mut i = 0;
+    while i < v.len() {
+        wire::put(out, 4 * i, wire::to_bits(v[i]) as u64, 4);
+        i += 1;
+    }
+}
+
+// `lend` for signed numbers, whose value is 0.
+pub fn lend_words(refusal: u8, v: &[i32], out: &mut [u8]) -> Answer
+    ensures { λ r. ⌜ given r (now (out .exit)) ≡ lentTo refusal 0 (wordBytes (now (v .entry))) (now (out .entry)) ⌝ }
+{
+    if refusal != 0 {
+        return Answer::Refused(refusal);
+    }
+    if out.len() / 4 < v.len() {
+        return Answer::Refused(chip::ROOM);
+    }
+    put_words(v, out);
+    Answer::Done(0)
+}
+
+pub fn if_freq_regs(hz: u32, xtal: u32, out: &mut [u8]) -> Answer
+    ensures { λ r. ⌜ given r (now (out .exit)) ≡ ifInto hz xtal (now (out .entry)) ⌝ }
+{
+    let regs = registers::if_freq_regs(hz, xtal);
+    let bytes = regs.bytes;
+    lend(regs.refusal as u8, 0, &bytes, out)
+}
+
+pub fn resample_regs(rate: u32, xtal: u32, out: &mut [u8]) -> Answer
+    ensures { λ r. ⌜ given r (now (out .exit)) ≡ resampleInto rate xtal (now (out .entry)) ⌝ }
+{
+    let regs = registers::resample_regs(rate, xtal);
+    let bytes = regs.bytes;
+    lend(regs.refusal as u8, 0, &bytes, out)
+}
+
+fn bit(b: bool) -> u8
+    ensures { λ r. ⌜ r ≡ bitOf b ⌝ }
+{
+    if b { 1 } else { 0 }
+}
+
+pub fn plan_tuning(board: u8, hz: u64, out: &mut [u8]) -> Answer
+    ensures { λ r. ⌜ given r (now (out .exit)) ≡ planInto (boardOf board) hz (now (out .entry)) ⌝ }
+{
+    let BoardRead::Is(b) = board::board_of(board) else {
+        return Answer::Refused(chip::SETUP);
+    };
+    let plan = board::plan_tuning(b, hz);
+    let path = plan.path;
+    let bytes = [
+        bit(plan.inverted),
+        board::route_number(path),
+        bit(plan.notch),
+    ];
+    lend(0, plan.hz, &bytes, out)
+}
+
+fn word(s: &[u8], at: usize) -> u32
+    requires { ⌜ at + 4 ≤ length (now s) ⌝ }
+    ensures { λ r. ⌜ (r ≡ leValue (take 4 (drop at (now (s .entry))))) × (r < 4294967296) ⌝ }
+{
+    wire::get(s, at, 4) as u32
+}
+
+// Sixteen signed numbers of their bytes.
+fn coefficients(s: &[u8]) -> [i32; 16]
+    requires { ⌜ length (now s) ≡ 64 ⌝ }
+    ensures { λ r. ⌜ r ≡ wordsIn 16 (now (s .entry)) ⌝ }
+{
+    let mut v = [0i32; 16];
+    let mut i = 0;
+    while i < 16 {
+        let z = wire::to_signed(word(s, 4 * i));
+        v[i] = z;
+        i += 1;
+    }
+    v
+}
+
+pub fn pack_fir(values: &[u8], out: &mut [u8]) -> Answer
+    ensures { λ r. ⌜ given r (now (out .exit)) ≡ packInto (now (values .entry)) (now (out .entry)) ⌝ }
+{
+    if values.len() != 64 {
+        return Answer::Refused(chip::COEFFICIENT);
+    }
+    let answer = fir::pack_fir(coefficients(values));
+    let bytes = answer.bytes;
+    lend(answer.refusal, 0, &bytes, out)
+}
+
+pub fn unpack_fir(bytes: &[u8], out: &mut [u8]) -> Answer
+    ensures { λ r. ⌜ given r (now (out .exit)) ≡ unpackInto (now (bytes .entry)) (now (out .entry)) ⌝ }
+{
+    if bytes.len() != 20 {
+        return Answer::Refused(chip::COEFFICIENT);
+    }
+    let mut b = [0u8; 20];
+    wire::copy(&mut b, 0, bytes);
+    let v = fir::unpack_fir(b);
+    lend_words(0, &v, out)
+}
+
+// The number of an answer's refusal, 0 for none.
+fn number(answer: Answer) -> u8
+    ensures { λ r. ⌜ r ≡ numberOf answer ⌝ }
+{
+    match answer {
+        Answer::Done(_) => 0,
+        Answer::Refused(n) => n,
+        Answer::Stopped(_) => 11,
+    }
+}
+
+// The Rust's `get_gain_table`, 29 numbers of 32 bits. The record is judged first, as by every call.
+pub fn gain_table(tuner: Tuner, out: &mut [u8]) -> Answer
+    ensures { λ r. ⌜ given r (now (out .exit)) ≡ tableInto tuner (now (out .entry)) ⌝ }
+{
+    let table = tuner.get_gain_table();
+    let answer = table.answer;
+    let steps = table.steps;
+    lend_words(number(answer), &steps, out)
+}
