@@ -4,10 +4,14 @@
 // `compare::agrees` (memory is lent: arrays of 0xa5, of the case's lengths) or `compare::valued` (answers by value); and one arm of `judge`.
 // What has no arm is not there yet. Same is proved to mean that all that came back agrees with the case: specs/Agreement, Agrees and Valued.
 mod compare;
+mod drivers;
 mod filter;
+mod handed;
 mod layout;
 mod leaves;
 mod report;
+mod steps;
+mod tuners;
 
 use compare::Verdict;
 
@@ -15,6 +19,17 @@ use compare::Verdict;
 fn judge(c: &[u8]) -> Verdict {
     let call = layout::one(c, layout::CALL);
     match call {
+        1 => tuners::fresh(c),
+        2..=12 => tuners::changed(c),
+        13 => tuners::get_gain(c),
+        14 => tuners::get_if_freq(c),
+        15 => tuners::get_gain_table(c),
+        16 => drivers::fresh(c),
+        17 => drivers::set_ppm(c),
+        18 => drivers::corrected_xtal_hz(c),
+        19 => drivers::set_sample_rate(c),
+        20 => drivers::apply_input_path(c),
+        21..=32 => steps::made(c),
         33 => leaves::plan_tuning(c),
         34 => leaves::if_freq_regs(c),
         35 => leaves::resample_regs(c),

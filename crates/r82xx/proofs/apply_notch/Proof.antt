@@ -3,7 +3,7 @@
 -- returned.
 -- Assumes nothing.
 use mathlib.Core.Path.{_≡_, refl, ap}
-use Prim.Native.Nat.{ℕ, _<_, _^_}
+use Prim.Native.Nat.{ℕ}
 use mathlib.Core.Bool.{Bool}
 use mathlib.Core.List.{[], _∷_, List}
 use native.Mathlib.Omega.{arith}
@@ -19,7 +19,7 @@ use prog.Wp.{Heap, Calls, Loops, WpFn, Tables}
 use ghost.Atoms.{Atoms, sem}
 use contract.Monad.{Fun, fact}
 use contract.Running.{givenOf, tables, tablesOf}
-use types.Kit.{Given, ‵, raw, _⊛_, some, later, ⋆, _$_, _∵_, !, qed, by, move, keep, drop, use1, use2, split, join, pick, rewrite, fsplit, fsplit3, fjoin, fjoin3, feqI, suffices, frame, await, done}
+use types.Kit.{Given, ‵, raw, _⊛_, some, later, ⋆, _$_, _∵_, !, qed, by, move, keep, drop, use1, use2, split, join, rewrite, fsplit, fsplit3, fjoin, fjoin3, feqI, suffices, frame, done}
 use types.Run.{look, init, forget, stop, hop, fld, from, load, lit, of-opd, and-then, no-more, assigns, land, returns, enter, alloc1, alloc0, params1, pass1, pass0, free1, free0}
 use types.Part.{whole, sub, look-in, store-in}
 use types.SemTy.{Body}
@@ -31,13 +31,13 @@ use denote.Plain.{bool-vals, bool-tells, bool-makes, bool-lawful, uint-makes}
 use denote.Builtin.{bool, u32, u64}
 use denote.Ref.{RefT, MutRef, ptr-vals, mut-tells}
 use denote.Signature.{plain}
-use denote.Steps.{opens, closes, owned, peeks, heard, nothing, only}
+use denote.Steps.{opens, closes, owned, peeks, nothing, only}
 use denote.Struct.Steps.{spelt}
 use denote.Struct.Laws as LL
 use denote.Enum.Laws as EL
 use denote.Triple.Statement.{Contract, Triple}
 use denote.Triple.Call.{calls-at}
-use denote.Triple.Entry.{Vals, onEntry}
+use denote.Triple.Entry.{onEntry}
 use denote.Triple.Spec.{Meets, tripleOf}
 use denote.Triple.Table.{entered, cited}
 use denote.Triple.Walked.{says, Stays, stay-ref, stay-none, walkOf, AllGo, goes-none, goes-ref, Walks, ends-at, walked, walk-meets}
@@ -49,7 +49,7 @@ use Rattle.chip.proofs.Answer.Laws as S′
 use Rattle.r82xx.specs.declared.Tuner.{Tuner}
 use Rattle.r82xx.specs.Record.{withNotch}
 use Rattle.r82xx.specs.Calls.{keptNotch, soundAnswer}
-use Rattle.r82xx.proofs.Lent.{vals, Lies, nominal-fits, corrected-fits, notch-lies}
+use Rattle.r82xx.proofs.Lent.{vals, nominal-fits, corrected-fits, notch-lies, references, hears}
 use Rattle.r82xx.proofs.Tuner as T
 use Rattle.r82xx.proofs.Tuner.Laws as T′
 use Rattle.r82xx.proofs.kept_notch as kept
@@ -147,27 +147,27 @@ module _ {M : Type 1} (𝓤 : URA M) (H : Heap 𝓤) (A : Atoms 𝓤) (W : Given
         assigns ! (of-opd ! (load ! (from ! (hop ! (look ! 15 refl) (fld ! refl (stop !)))) (look-in ! 0 (sub ! 2 refl (whole !))))) (from ! (stop !)) (init ! 11 refl (tt, record { fits = nominal-fits h was })) $
         assigns ! (of-opd ! (load ! (from ! (hop ! (look ! 15 refl) (fld ! refl (stop !)))) (look-in ! 0 (sub ! 3 refl (whole !))))) (from ! (stop !)) (init ! 9 refl (tt, record { fits = corrected-fits h was })) $
         assigns ! (of-opd ! (load ! (from ! (hop ! (look ! 15 refl) (fld ! refl (stop !)))) (look-in ! 0 (sub ! 7 refl (whole !))))) (from ! (stop !)) (init ! 7 refl (tt, tt)) $
-        nothing ! $ owned ! bool (Is bool) (bool-makes 𝓤 H A W) on _ refl $ fjoin ! $ owned ! bool (Is bool) (bool-makes 𝓤 H A W) (h .notch) _ refl $ fjoin ! $ owned ! u32 (Is u32) (uint-makes 𝓤 H A W w32) (h .corrected) _ (refl, corrected-fits h was) $ fjoin ! $ owned ! u32 (Is u32) (uint-makes 𝓤 H A W w32) (h .nominal) _ (refl, nominal-fits h was) $ fjoin ! $
+        nothing ! $ owned ! bool (Is bool) (bool-makes 𝓤 H A W) on _ refl $ fjoin ! $ owned ! bool (Is bool) (bool-makes 𝓤 H A W) (h .notch) _ refl $ fjoin ! $ references ! h was $
         nothing ! $ use2 W (raw (Kept 𝓤 H A at-mem run .pre to-kept)) goes-kept $
         calls-at ! fm (Kept 𝓤 H A at-mem run) known-kept to-kept (and-then ! (load ! (from ! (stop !)) (look ! 12 refl)) (and-then ! (load ! (from ! (stop !)) (look ! 10 refl)) (and-then ! (load ! (from ! (stop !)) (look ! 8 refl)) (and-then ! (load ! (from ! (stop !)) (look ! 14 refl)) (no-more !))))) (λ v.
-        use1 W (later (some (λ (n : Bool). (‵ ftrue ⊛ ‵ (bool .own n (v ∷ []))) ⊛ raw (ensured 𝓤 H A kept.ended (kept.clauses 𝓤 H A at-mem run) tt kept-args tt n)))) (id⊢ 𝓤 _) $ await ! tt $ pick ! (λ n.
-        split ! $ move ! (1 ∷ []) $ use1 W (raw (fact 𝓤 (n ≡ left))) (kept-is n) $ heard ! (n ≡ left) (λ e. split ! $ drop ! $
+        use1 W (later (some (λ (n : Bool). (‵ ftrue ⊛ ‵ (bool .own n (v ∷ []))) ⊛ raw (ensured 𝓤 H A kept.ended (kept.clauses 𝓤 H A at-mem run) tt kept-args tt n)))) (id⊢ 𝓤 _) $
+        hears ! tt (λ n. bool .own n (v ∷ [])) _ (λ n. n ≡ left) kept-is (λ n e.
         peeks ! bool (Is bool) (shows 𝓤 H A bool) n (v ∷ []) (λ is. drop ! $
         land ! (from ! (stop !)) (init ! 5 refl (bool-lawful 𝓤 H A W .typed n _ is .0)) $
         rewrite ! 5 (λ (u : Val). ‵ (fat fullShare tyBool l₆ 0 u)) (ap only is) refl $
         assigns ! (of-opd ! (load ! (from ! (stop !)) (look ! 5 refl))) (from ! (hop ! (look ! 15 refl) (fld ! refl (stop !)))) (store-in ! 0 (sub ! 7 refl (whole !)) (tt, tt)) $
         move ! (1 ∷ []) $ drop ! $ owned ! T.the-row (Is T.the-row) ((LL.makes T.the-type T′.the-plain) 𝓤 H A) (withNotch h n) _ (notch-lies h n was) $ move ! (1 ∷ 0 ∷ []) $ closes ! tt T.the-row (withNotch h n) (vals (withNotch h n)) b o $
         -- [obs; the borrow; the token; _6; …; _5; …; _4; …; _3; …; _2; …; _1; …; room for _0; …]
-        nothing ! $ owned ! u64 (Is u64) (uint-makes 𝓤 H A W w64) 0 _ (refl, omega arith) $ fjoin ! $ owned ! u32 (Is u32) (uint-makes 𝓤 H A W w32) (h .corrected) _ (refl, corrected-fits h was) $ fjoin ! $ owned ! u32 (Is u32) (uint-makes 𝓤 H A W w32) (h .nominal) _ (refl, nominal-fits h was) $ fjoin ! $
+        nothing ! $ owned ! u64 (Is u64) (uint-makes 𝓤 H A W w64) 0 _ (refl, omega arith) $ fjoin ! $ references ! h was $
         nothing ! $ use2 W (raw (Told 𝓤 H A at-mem run .pre to-told)) goes-told $
         calls-at ! fm (Told 𝓤 H A at-mem run) known-told to-told (and-then ! (load ! (from ! (stop !)) (look ! 10 refl)) (and-then ! (load ! (from ! (stop !)) (look ! 8 refl)) (and-then ! (lit ! tt) (no-more !)))) (λ u.
-        use1 W (later (some (λ (r : Answer). (‵ ftrue ⊛ ‵ (S.the-row .own r (u ∷ []))) ⊛ raw (ensured 𝓤 H A answer.ended (answer.clauses 𝓤 H A at-mem run) tt told-args tt r)))) (id⊢ 𝓤 _) $ await ! tt $ pick ! (λ r.
-        split ! $ move ! (1 ∷ []) $ use1 W (raw (fact 𝓤 (r ≡ tells))) (told-is r) $ heard ! (r ≡ tells) (λ e′. split ! $ drop ! $
+        use1 W (later (some (λ (r : Answer). (‵ ftrue ⊛ ‵ (S.the-row .own r (u ∷ []))) ⊛ raw (ensured 𝓤 H A answer.ended (answer.clauses 𝓤 H A at-mem run) tt told-args tt r)))) (id⊢ 𝓤 _) $
+        hears ! tt (λ r. S.the-row .own r (u ∷ [])) _ (λ r. r ≡ tells) told-is (λ r e′.
         peeks ! S.the-row (Is S.the-row) (shows 𝓤 H A S.the-row) r (u ∷ []) (λ is′.
         land ! (from ! (stop !)) (init ! 16 refl (EL.lawful S.the-type S′.the-laws 𝓤 H A W tt .typed r _ is′ .0)) $
         returns ! (look ! 16 refl) $ forget ! 4 refl $ forget ! 6 refl $ forget ! 8 refl $ forget ! 10 refl $ forget ! 12 refl $ forget ! 14 refl $ forget ! 16 refl $
         move ! (16 ∷ 17 ∷ []) $ free1 ! $ move ! (14 ∷ 15 ∷ []) $ free1 ! $ move ! (12 ∷ 13 ∷ []) $ free1 ! $ move ! (10 ∷ 11 ∷ []) $ free1 ! $ move ! (8 ∷ 9 ∷ []) $ free1 ! $ move ! (6 ∷ 7 ∷ []) $ free1 ! $ move ! (4 ∷ 5 ∷ []) $ free1 ! $ free0 ! $
-        keep ! (0 ∷ 1 ∷ 2 ∷ 3 ∷ []) $ by ! (exits n e r u e′))))))))))))))))))
+        keep ! (0 ∷ 1 ∷ 2 ∷ 3 ∷ []) $ by ! (exits n e r u e′))))))))))))))))
 
 module _ {M : Type 1} (𝓤 : URA M) (H : Heap 𝓤) (A : Atoms 𝓤) (W : Given 𝓤 H A) (at-mem : Memory → SProp 𝓤) (run : Routine → Fun 𝓤) where
   apply-notch-walks : (C : Calls 𝓤 H) (Λ : Loops 𝓤 H) → FmC 𝓤 H (W .laws) C → Triple 𝓤 (C #r82xx·kept-notch) (Kept 𝓤 H A at-mem run) → Triple 𝓤 (C #r82xx·sound-answer) (Told 𝓤 H A at-mem run)

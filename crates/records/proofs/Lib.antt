@@ -1,0 +1,5 @@
+pub mod Turns
+pub mod Joins
+pub mod Made
+pub mod Exact
+pub mod Driven

@@ -1,0 +1,115 @@
+-- `records::tuner_image` meets its contract: the parts, stored one after the other over 105 bytes, are the record's bytes.
+-- Assumes nothing.
+use mathlib.Core.Path.{_≡_, refl, sym, ap, _∙_}
+use mathlib.Core.List.{map}
+use lib.ListN.{length, replicate, length-map}
+use Rattle.records.specs.Fields.{flagByte}
+use Rattle.records.proofs.Made.{image-whole}
+use borrow.Author.Needs.{needs}
+use Rattle.records.proofs.tuner_image.Statement.{statement}
+use Rattle.records.proofs.tuner_image.Tie as tie
+
+kind-number-requires : tie.Need-kind-number-requires
+kind-number-requires c κs = search needs
+
+cast-number : tie.Need-cast-number
+cast-number c = search needs
+
+number-requires : tie.Need-number-requires
+number-requires c κs = search needs
+
+cast-number-2 : tie.Need-cast-number-2
+cast-number-2 c = search needs
+
+number-requires-2 : tie.Need-number-requires-2
+number-requires-2 c κs = search needs
+
+list-requires : tie.Need-list-requires
+list-requires c κs = search needs
+
+cast-number-3 : tie.Need-cast-number-3
+cast-number-3 c = search needs
+
+number-requires-3 : tie.Need-number-requires-3
+number-requires-3 c κs = search needs
+
+cast-number-4 : tie.Need-cast-number-4
+cast-number-4 c = search needs
+
+number-requires-4 : tie.Need-number-requires-4
+number-requires-4 c κs = search needs
+
+flag-byte-requires : tie.Need-flag-byte-requires
+flag-byte-requires c κs = search needs
+
+cast-number-5 : tie.Need-cast-number-5
+cast-number-5 c = search needs
+
+number-requires-5 : tie.Need-number-requires-5
+number-requires-5 c κs = search needs
+
+bits-of-requires : tie.Need-bits-of-requires
+bits-of-requires c κs = search needs
+
+cast-number-6 : tie.Need-cast-number-6
+cast-number-6 c = search needs
+
+number-requires-6 : tie.Need-number-requires-6
+number-requires-6 c κs = search needs
+
+number-requires-7 : tie.Need-number-requires-7
+number-requires-7 c κs = search needs
+
+flag-byte-requires-2 : tie.Need-flag-byte-requires-2
+flag-byte-requires-2 c κs = search needs
+
+cast-number-7 : tie.Need-cast-number-7
+cast-number-7 c = search needs
+
+number-requires-8 : tie.Need-number-requires-8
+number-requires-8 c κs = search needs
+
+list-requires-2 : tie.Need-list-requires-2
+list-requires-2 c κs = search needs
+
+flag-bytes-requires : tie.Need-flag-bytes-requires
+flag-bytes-requires c κs = search needs
+
+list-requires-3 : tie.Need-list-requires-3
+list-requires-3 c κs = search needs
+
+returns : tie.Need-returns
+returns c =
+    let start = c .before .before .before .before .before .before .before .before .before .before .before .before .before .before .before .before .before .before .before .before .before .before .before .before .before .before .before .before .before .before .before .before .before .before in
+    let doubtful : length (map flagByte (start .args .t .chip .doubtful)) ≡ 27 = ap length (sym (c .before .flag-bytes .ensures)) ∙ c .list3 .ensures .1 in
+    rw (c .list3 .ensures .0, c .before .flag-bytes .ensures, c .before .before .before .list2 .ensures .0, c .before .before .before .before .before .number8 .ensures, c .before .before .before .before .before .before .flag-byte2 .ensures, c .before .before .before .before .before .before .before .before .number7 .ensures, c .before .before .before .before .before .before .before .before .before .before .number6 .ensures, c .before .before .before .before .before .before .before .before .before .before .before .bits-of .ensures, c .before .before .before .before .before .before .before .before .before .before .before .before .before .number5 .ensures, c .before .before .before .before .before .before .before .before .before .before .before .before .before .before .flag-byte .ensures, c .before .before .before .before .before .before .before .before .before .before .before .before .before .before .before .before .number4 .ensures, c .before .before .before .before .before .before .before .before .before .before .before .before .before .before .before .before .before .before .before .number3 .ensures, c .before .before .before .before .before .before .before .before .before .before .before .before .before .before .before .before .before .before .before .before .before .before .list .ensures .0, c .before .before .before .before .before .before .before .before .before .before .before .before .before .before .before .before .before .before .before .before .before .before .before .before .number2 .ensures, c .before .before .before .before .before .before .before .before .before .before .before .before .before .before .before .before .before .before .before .before .before .before .before .before .before .before .before .number .ensures, c .before .before .before .before .before .before .before .before .before .before .before .before .before .before .before .before .before .before .before .before .before .before .before .before .before .before .before .before .kind-number .ensures)
+    (image-whole (start .args .t) (replicate 105 0) (record { shadow = c .before .before .before .before .before .before .before .before .before .before .before .before .before .before .before .before .before .before .before .before .before .before .list .ensures .1; attempted = c .before .before .before .list2 .ensures .1; doubtful = sym (length-map (start .args .t .chip .doubtful) flagByte) ∙ doubtful }) refl)
+
+pub tuner-image-spec : {M : Type 1} → statement M
+tuner-image-spec =
+    tie.close
+    (tie.spec
+    kind-number-requires
+    cast-number
+    number-requires
+    cast-number-2
+    number-requires-2
+    list-requires
+    cast-number-3
+    number-requires-3
+    cast-number-4
+    number-requires-4
+    flag-byte-requires
+    cast-number-5
+    number-requires-5
+    bits-of-requires
+    cast-number-6
+    number-requires-6
+    number-requires-7
+    flag-byte-requires-2
+    cast-number-7
+    number-requires-8
+    list-requires-2
+    flag-bytes-requires
+    list-requires-3
+    returns)

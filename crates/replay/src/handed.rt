@@ -1,0 +1,68 @@
+// What a call of the port hands back, in the numbers that a case has, and with the next record's bytes in memory that is lent for them.
+ghost use mathlib.Core.Path.{_≡_};
+ghost use Prim.Native.Nat.{_<_};
+use crate::compare;
+use chip::Answer;
+use compare::Verdict;
+use r82xx::Told;
+
+pub fn numbers(answer: Answer, count: usize) -> compare::Answer {
+    match answer {
+        Answer::Done(value) => compare::Answer {
+            refusal: 0,
+            value: value,
+            index: 0,
+            count: count,
+        },
+        Answer::Refused(number) => compare::Answer {
+            refusal: number as u64,
+            value: 0,
+            index: 0,
+            count: count,
+        },
+        Answer::Stopped(index) => compare::Answer {
+            refusal: 11,
+            value: 0,
+            index: index,
+            count: count,
+        },
+    }
+}
+
+// Whether a record is handed back: not beside a refusal before any step.
+pub fn hands(told: compare::Answer) -> bool {
+    told.refusal == 0 || 0 < told.count
+}
+
+pub fn judged(c: &[u8], told: Told, room: &[u8]) -> Verdict {
+    let answer = told.answer;
+    let tuner = told.tuner;
+    let told = numbers(answer, told.count);
+    let mut next = [0xa5u8; 105];
+    if hands(told) {
+        next = records::tuner_image(tuner);
+    }
+    compare::agrees(c, told, room, &next, &[], &[])
+}
+
+// A given record that is none.
+pub fn refused(c: &[u8], room: &[u8]) -> Verdict {
+    let told = compare::Answer {
+        refusal: 1,
+        value: 0,
+        index: 0,
+        count: 0,
+    };
+    compare::agrees(c, told, room, &[], &[], &[])
+}
+
+// A call that hands nothing back but its answer.
+pub fn bare(c: &[u8], answer: Answer) -> Verdict {
+    compare::agrees(c, numbers(answer, 0), &[], &[], &[], &[])
+}
+
+pub fn put_word(out: &mut [u8; 116], i: usize, z: i32)
+    requires { ⌜ i < 29 ⌝ }
+{
+    wire::put(out, 4 * i, wire::to_bits(z) as u64, 4);
+}

@@ -1,0 +1,117 @@
+// The tuner's calls, over the record's bytes: fresh (1), those that hand the next record back (2 to 12), those that only read (13 to 15).
+use crate::compare;
+use crate::handed;
+use crate::layout;
+use compare::Verdict;
+use r82xx::Told;
+use r82xx::Tuner;
+
+pub fn fresh(c: &[u8]) -> Verdict {
+    let made = Tuner::new(
+        layout::eight(c, layout::A),
+        layout::one(c, layout::C) as u8,
+        layout::eight(c, layout::B),
+    );
+    let answer = made.answer;
+    let tuner = made.tuner;
+    let told = Told {
+        tuner: tuner,
+        answer: answer,
+        count: 0,
+    };
+    handed::judged(c, told, &[])
+}
+
+// The calls of one or more steps.
+fn stepped(c: &[u8], t: Tuner, room: &mut [u8]) -> Told {
+    let outcomes = layout::part(c, layout::OUTCOMES);
+    let replies = layout::part(c, layout::REPLIES);
+    let a = layout::eight(c, layout::A);
+    match layout::one(c, layout::CALL) {
+        2 => t.initialize(outcomes, room),
+        3 => t.set_frequency(a, replies, outcomes, room),
+        4 => t.set_gain(
+            wire::float_of(layout::four(c, layout::A) as u32),
+            outcomes,
+            room,
+        ),
+        5 => t.set_gain_by_index(a as usize, outcomes, room),
+        6 => t.set_bandwidth(layout::four(c, layout::A) as u32, outcomes, room),
+        7 => t.set_if_freq(a, outcomes, room),
+        8 => t.set_input_path(layout::one(c, layout::A) as u8, outcomes, room),
+        _ => t.reload(outcomes, room),
+    }
+}
+
+// Those of none.
+fn plain(c: &[u8], t: Tuner) -> Told {
+    match layout::one(c, layout::CALL) {
+        10 => t.with_ppm(wire::to_signed(layout::four(c, layout::D) as u32)),
+        11 => t.with_notch(layout::one(c, layout::A) != 0),
+        _ => t.update_shadow(
+            layout::one(c, layout::A) as u8,
+            layout::one(c, layout::B) as u8,
+            layout::one(c, layout::C) as u8,
+        ),
+    }
+}
+
+pub fn changed(c: &[u8]) -> Verdict {
+    let mut space = [0xa5u8; 1024];
+    let n = layout::two(c, layout::ROOM);
+    if 1024 < n {
+        return Verdict::Differ;
+    }
+    let read = records::decode_tuner(layout::part(c, layout::TUNER));
+    if !read.ok {
+        return handed::refused(c, &space[0..n]);
+    }
+    let t = read.tuner;
+    if layout::one(c, layout::CALL) < 10 {
+        let told = stepped(c, t, &mut space[0..n]);
+        return handed::judged(c, told, &space[0..n]);
+    }
+    handed::judged(c, plain(c, t), &space[0..n])
+}
+
+pub fn get_gain(c: &[u8]) -> Verdict {
+    let read = records::decode_tuner(layout::part(c, layout::TUNER));
+    if !read.ok {
+        return handed::refused(c, &[]);
+    }
+    let t = read.tuner;
+    handed::bare(c, t.get_gain())
+}
+
+pub fn get_if_freq(c: &[u8]) -> Verdict {
+    let read = records::decode_tuner(layout::part(c, layout::TUNER));
+    if !read.ok {
+        return handed::refused(c, &[]);
+    }
+    let t = read.tuner;
+    handed::bare(c, t.get_if_freq())
+}
+
+// 29 i32, low byte first.
+fn table_bytes(steps: [i32; 29]) -> [u8; 116] {
+    let mut out = [0u8; 116];
+    let mut i = 0;
+    while i < 29 {
+        handed::put_word(&mut out, i, steps[i]);
+        i += 1;
+    }
+    out
+}
+
+pub fn get_gain_table(c: &[u8]) -> Verdict {
+    let read = records::decode_tuner(layout::part(c, layout::TUNER));
+    if !read.ok {
+        return compare::valued(c, 1, 0, &[]);
+    }
+    let t = read.tuner;
+    let table = t.get_gain_table();
+    let answer = table.answer;
+    let steps = table.steps;
+    let told = handed::numbers(answer, 0);
+    compare::valued(c, told.refusal, told.value, &table_bytes(steps))
+}
