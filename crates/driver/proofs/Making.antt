@@ -1,11 +1,9 @@
 -- The driver's record made, asked for its reference, and given another ppm: case by case, from references that were worked out apart.
 -- Assumes nothing.
 use Prim.Native.Nat.{ℕ, _≤_, _<_}
-use mathlib.Core.Path.{_≡_, refl, sym, ap, _∙_}
-use mathlib.Core.Bool.{Bool, true, false, _&&_}
+use mathlib.Core.Path.{_≡_, sym, ap, _∙_}
 use mathlib.Core.List.{[]}
 use borrow.Author.Tests.{le-leb, lt-leb}
-use lib.Dec.{leb}
 use lib.IntN.{ℤ}
 use Rattle.board.specs.declared.Board.{Board}
 use Rattle.board.specs.declared.BoardRead.{BoardRead}
@@ -14,7 +12,6 @@ use Rattle.board.specs.Numbers.{boardOf}
 use Rattle.chip.specs.declared.Answer.the-variants.{Done, Refused}
 use Rattle.chip.specs.Calls.{called}
 use Rattle.driver.specs.declared.Driver.{Driver}
-use Rattle.driver.specs.declared.Made.{Made}
 use Rattle.driver.specs.Record.{driver, driverOf, made, madeOn, nothingMade, withPpm, xtalBy, xtalOf}
 use Rattle.driver.specs.Calls.{driverPpmCall, xtalAnswer}
 

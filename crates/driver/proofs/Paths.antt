@@ -1,11 +1,11 @@
 -- The tuner's own part of a board's path, by its kind. Assumes nothing.
 use Prim.Native.Nat.{ℕ}
-use mathlib.Core.Path.{_≡_, refl, sym, ap, _∙_}
+use mathlib.Core.Path.{_≡_, sym, ap, _∙_}
 use mathlib.Core.List.{List}
 use Rattle.transcript.specs.declared.Entry.{Entry}
 use Rattle.board.specs.declared.Path.{Path}
 use Rattle.chip.specs.declared.Update.{Update}
-use Rattle.chip.specs.Steps.{Line, Step, behind, run, updates}
+use Rattle.chip.specs.Steps.{Line, behind, run, updates}
 use Rattle.pll.specs.declared.Kind.{Kind}
 use Rattle.pll.specs.declared.Kind.the-variants.{R820T, R828D}
 use Rattle.writes.specs.Lists.{pathUpdates}

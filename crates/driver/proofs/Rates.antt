@@ -1,8 +1,8 @@
 -- Both calls with steps over the code, whose parts were worked out apart. Assumes nothing.
 use Prim.Native.Nat.{ℕ}
-use mathlib.Core.Path.{_≡_, refl, sym, ap, _∙_}
+use mathlib.Core.Path.{_≡_, refl, ap, _∙_}
 use mathlib.Core.Bool.{Bool, true, false, _&&_}
-use mathlib.Core.List.{List, [], _∷_, _++_}
+use mathlib.Core.List.{List, [], _++_}
 use lib.Dec.{leb}
 use lib.ListN.{getD, length}
 use Rattle.board.specs.declared.Path.{Path}
@@ -16,7 +16,7 @@ use Rattle.chip.specs.declared.Flow.{Flow}
 use Rattle.chip.specs.declared.Went.the-variants.{Going}
 use Rattle.chip.specs.Calls.{answerOf, called, sealed}
 use Rattle.chip.specs.Entries.{unseen}
-use Rattle.chip.specs.Steps.{Line, Logged, Step, Trace, behind, eight, every, inRoom, line, logged, onRoom, run, updates}
+use Rattle.chip.specs.Steps.{Line, Logged, Trace, behind, eight, every, inRoom, line, logged, onRoom, run, updates}
 use Rattle.demod.specs.Programs.{ddcSteps, ifSteps, rateSteps, resetSteps}
 use Rattle.device.specs.Gpio.{bitSteps, outputSteps}
 use Rattle.pll.specs.declared.Kind.{Kind}
@@ -29,7 +29,7 @@ use Rattle.r82xx.proofs.Whole.{bracket-eight, perform-by, refuse-by}
 use Rattle.driver.specs.declared.Driver.{Driver}
 use Rattle.driver.specs.Record.{soundDriver, xtalOf}
 use Rattle.driver.specs.Programs.{anewSteps, boardPathSteps, filterSteps, ifFor, levelFor, sampleRateSteps, tunerPath}
-use Rattle.driver.specs.Calls.{Both, both, boardPathWith, rateRefusal, ratedBy, refusalWith, retuned, sampleRateCall}
+use Rattle.driver.specs.Calls.{both, boardPathWith, rateRefusal, ratedBy, refusalWith, retuned, sampleRateCall}
 
 -- every entry has its eight data bytes
 reset-eight : every eight resetSteps ≡ true

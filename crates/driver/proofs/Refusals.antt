@@ -1,11 +1,10 @@
 -- The refusals before any step, and what is known where none is given. Assumes nothing.
-use Prim.Native.Nat.{ℕ, _≤_, _<_}
-use mathlib.Core.Path.{_≡_, refl, sym, ap, _∙_}
-use mathlib.Core.Bool.{Bool, true, false, not, _&&_}
+use Prim.Native.Nat.{ℕ, _<_}
+use mathlib.Core.Path.{_≡_, refl, sym, _∙_}
+use mathlib.Core.Bool.{Bool, true, false, _&&_}
 use native.Mathlib.Omega.{arith}
-use borrow.Author.Tests.{eq-eqb, eqb-false, eqb-true, leb-true, ne-eqb}
+use borrow.Author.Tests.{eqb-false, eqb-true, leb-true}
 use lib.Dec.{eqb, leb}
-use Rattle.chip.specs.Calls.{lentOf, pickN}
 use Rattle.chip.proofs.Laws.{and-right}
 use Rattle.r82xx.proofs.Refusals.{Enough, enough}
 use Rattle.driver.specs.Calls.{rateRefusal, refusalWith}

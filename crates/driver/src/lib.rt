@@ -3,7 +3,6 @@
 // both records". `sample_rate_steps` and `path_steps` are what a larger call holds: they look at no board.
 ghost use mathlib.Core.Path.{_≡_};
 ghost use mathlib.Core.List.{[]};
-ghost use mathlib.Core.Bool.{_&&_};
 ghost use Prim.Native.Nat.{_+_, _*_, _≤_, _<_};
 ghost use lib.ListN.{length};
 ghost use Rattle.board.specs.Numbers.{boardOf};
