@@ -57,6 +57,11 @@ pub fn room(space: &[u8; 1024], n: usize) -> &[u8] {
     layout::cut(space, 0, n)
 }
 
+// A call whose answer is bytes in a lent slice.
+pub fn answered(c: &[u8], answer: Answer, out: &[u8; 1024], n: usize) -> Verdict {
+    compare::agrees(c, numbers(answer, 0), &[], &[], &[], room(out, n))
+}
+
 pub fn judged(c: &[u8], told: Told, room: &[u8]) -> Verdict {
     let answer = told.answer;
     let tuner = told.tuner;

@@ -1,45 +1,44 @@
-// Calls that are numbers in and numbers or bytes out: `plan_tuning` (33), `if_freq_regs` (34), `resample_regs` (35), the section reader (38).
+// Calls that are numbers in and numbers or bytes out: `plan_tuning` (33), `if_freq_regs` (34), `resample_regs` (35), the section reader (38). Answered
+// bytes go to a lent slice, which may be too short.
 use crate::compare;
+use crate::handed;
 use crate::layout;
 use compare::Answer;
 use compare::Verdict;
 
 pub fn plan_tuning(c: &[u8]) -> Verdict {
     let number = layout::eight(c, layout::C);
-    if 255 < number {
+    let n = layout::two(c, layout::ROOM);
+    if 255 < number || 1024 < n {
         return Verdict::Differ;
     }
-    match board::board_of(number as u8) {
-        board::BoardRead::Is(b) => {
-            let p = board::plan_tuning(b, layout::eight(c, layout::A));
-            let path = p.path;
-            let bytes = [p.inverted as u8, board::route_number(path), p.notch as u8];
-            compare::valued(c, 0, p.hz, &bytes)
-        }
-        board::BoardRead::Refused => compare::valued(c, 1, 0, &[]),
-    }
+    let mut out = [0xa5u8; 1024];
+    let a = answers::plan_tuning(number as u8, layout::eight(c, layout::A), &mut out[0..n]);
+    handed::answered(c, a, &out, n)
 }
 
 pub fn if_freq_regs(c: &[u8]) -> Verdict {
     let hz = layout::eight(c, layout::A);
     let xtal = layout::eight(c, layout::B);
-    if 0xffff_ffff < hz || 0xffff_ffff < xtal {
+    let n = layout::two(c, layout::ROOM);
+    if 0xffff_ffff < hz || 0xffff_ffff < xtal || 1024 < n {
         return Verdict::Differ;
     }
-    let r = registers::if_freq_regs(hz as u32, xtal as u32);
-    let bytes = r.bytes;
-    compare::valued(c, r.refusal as u64, 0, &bytes)
+    let mut out = [0xa5u8; 1024];
+    let a = answers::if_freq_regs(hz as u32, xtal as u32, &mut out[0..n]);
+    handed::answered(c, a, &out, n)
 }
 
 pub fn resample_regs(c: &[u8]) -> Verdict {
     let rate = layout::eight(c, layout::A);
     let xtal = layout::eight(c, layout::B);
-    if 0xffff_ffff < rate || 0xffff_ffff < xtal {
+    let n = layout::two(c, layout::ROOM);
+    if 0xffff_ffff < rate || 0xffff_ffff < xtal || 1024 < n {
         return Verdict::Differ;
     }
-    let r = registers::resample_regs(rate as u32, xtal as u32);
-    let bytes = r.bytes;
-    compare::valued(c, r.refusal as u64, 0, &bytes)
+    let mut out = [0xa5u8; 1024];
+    let a = answers::resample_regs(rate as u32, xtal as u32, &mut out[0..n]);
+    handed::answered(c, a, &out, n)
 }
 
 pub fn read_section(c: &[u8]) -> Verdict {

@@ -100,27 +100,17 @@ pub fn get_if_freq(c: &[u8]) -> Verdict {
     handed::bare(c, t.get_if_freq())
 }
 
-// 29 i32, low byte first.
-fn table_bytes(steps: [i32; 29]) -> [u8; 116] {
-    let mut out = [0u8; 116];
-    let mut i = 0;
-    while i < 29 {
-        handed::put_word(&mut out, i, steps[i]);
-        i += 1;
-    }
-    out
-}
-
 pub fn get_gain_table(c: &[u8]) -> Verdict {
     let read = records::decode_tuner(layout::part(c, layout::TUNER));
+    let n = layout::two(c, layout::ROOM);
+    if 1024 < n {
+        return Verdict::Differ;
+    }
+    let mut out = [0xa5u8; 1024];
     if !read.ok {
-        return compare::valued(c, 1, 0, &[]);
+        return handed::answered(c, chip::Answer::Refused(chip::SETUP), &out, n);
     }
     let t = read.tuner;
-    let table = t.get_gain_table();
-    let answer = table.answer;
-    let steps = table.steps;
-    let told = handed::numbers(answer, 0);
-    let bytes = table_bytes(steps);
-    compare::valued(c, told.refusal, told.value, &bytes)
+    let a = answers::gain_table(t, &mut out[0..n]);
+    handed::answered(c, a, &out, n)
 }
