@@ -85,9 +85,3 @@ pub fn refused(c: &[u8], room: &[u8]) -> Verdict {
 pub fn bare(c: &[u8], answer: Answer) -> Verdict {
     compare::agrees(c, numbers(answer, 0), &[], &[], &[], &[])
 }
-
-pub fn put_word(out: &mut [u8; 116], i: usize, z: i32)
-    requires { ⌜ i < 29 ⌝ }
-{
-    wire::put(out, 4 * i, wire::to_bits(z) as u64, 4);
-}
