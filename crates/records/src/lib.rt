@@ -244,15 +244,6 @@ pub fn tuner_image(t: Tuner) -> [u8; 105]
     image
 }
 
-// The record's bytes at the start of a slice.
-pub fn encode_tuner(t: Tuner, out: &mut [u8])
-    requires { ⌜ 105 ≤ length (now out) ⌝ }
-    ensures { λ _. ⌜ now (out .exit) ≡ sets (now (out .entry)) 0 (tunerBytes t) ⌝ }
-{
-    let image = tuner_image(t);
-    wire::copy(out, 0, &image);
-}
-
 fn board_from(n: u64) -> Board
     ensures { λ r. ⌜ r ≡ boardFrom n ⌝ }
 {
@@ -322,13 +313,4 @@ pub fn driver_image(d: Driver) -> [u8; 21]
     field(&mut image, FREQUENCY, d.frequency, 8);
     field(&mut image, RATE, d.rate as u64, 4);
     image
-}
-
-// The record's bytes at the start of a slice.
-pub fn encode_driver(d: Driver, out: &mut [u8])
-    requires { ⌜ 21 ≤ length (now out) ⌝ }
-    ensures { λ _. ⌜ now (out .exit) ≡ sets (now (out .entry)) 0 (driverBytes d) ⌝ }
-{
-    let image = driver_image(d);
-    wire::copy(out, 0, &image);
 }
