@@ -1,26 +1,23 @@
+-- `drivers::corrected_xtal_hz` meets its contract: bytes that are no record, or the answer of the one that they are.
+-- Assumes nothing.
+use denote.Ref.{now}
+use borrow.Author.Tests.{not-false, not-true}
+use Rattle.drivers.proofs.Passed.{answered, no-xtal}
 use borrow.Author.Needs.{needs}
 use Rattle.drivers.proofs.corrected_xtal_hz.Statement.{statement}
 use Rattle.drivers.proofs.corrected_xtal_hz.Tie as tie
-use Rattle.drivers.proofs.corrected_xtal_hz.Reads as reads
-use Rattle.drivers.proofs.corrected_xtal_hz.Lts as lts
-use Rattle.driver.proofs.Driver.corrected_xtal_hz.Reads as corrected-xtal-hz-reads
-use Rattle.records.proofs.decode_driver.Reads as decode-driver-reads
 
--- src/lib.rt:65:9
 decode-driver-requires : tie.Need-decode-driver-requires
 decode-driver-requires c κs = search needs
 
--- src/lib.rt:67:9
 returns : tie.Need-returns
-returns c = ?
+returns c = no-xtal (now (c .before .before .before .before .args .driver)) _ (c .before .before .decode-driver .ensures) (not-true _ (c .if1 .taken))
 
--- src/lib.rt:70:5
 corrected-xtal-hz-requires : tie.Need-corrected-xtal-hz-requires
 corrected-xtal-hz-requires c κs = search needs
 
--- src/lib.rt:62:1
 returns-2 : tie.Need-returns-2
-returns-2 c = ?
+returns-2 c = answered (now (c .before .before .before .before .before .before .args .driver)) _ (c .before .before .before .before .decode-driver .ensures) (not-false _ (c .before .before .if1 .left)) _ (c .corrected-xtal-hz .ensures)
 
 pub corrected-xtal-hz-spec : {M : Type 1} → statement M
 corrected-xtal-hz-spec =

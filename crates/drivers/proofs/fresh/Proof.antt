@@ -1,26 +1,28 @@
+-- `drivers::fresh` meets its contract: what is lent is the record made, or its refusal.
+-- Assumes nothing.
+use mathlib.Core.Path.{ap, _∙_}
+use lib.IntN.{ℤ}
+use mir.Facts.{toZ-ofZ}
+use denote.Ref.{now}
+use Rattle.driver.specs.declared.Made.{Made}
+use Rattle.driver.specs.Record.{driverOf}
+use Rattle.records.specs.Drivers.{driverBytes}
+use Rattle.tuners.specs.Still.{recordInto}
 use borrow.Author.Needs.{needs}
 use Rattle.drivers.proofs.fresh.Statement.{statement}
 use Rattle.drivers.proofs.fresh.Tie as tie
-use Rattle.drivers.proofs.fresh.Reads as reads
-use Rattle.drivers.proofs.fresh.Lts as lts
-use Rattle.driver.proofs.Driver.new.Reads as new-reads
-use Rattle.drivers.proofs.lend.Reads as lend-reads
 
--- src/lib.rt:44:9
 new-requires : tie.Need-new-requires
 new-requires c κs = search needs
 
--- src/lib.rt:46:5
 lend-requires : tie.Need-lend-requires
 lend-requires c κs = search needs
 
--- src/lib.rt:34:1
 same-length : tie.Need-same-length
 same-length c = search needs
 
--- src/lib.rt:34:1
 returns : tie.Need-returns
-returns c = ?
+returns c = c .before .before .lend .ensures ∙ ap (λ (m : Made). recordInto (m .answer) (driverBytes (m .driver)) (now (c .before .before .before .before .before .before .args .next))) (c .before .before .before .before .new .ensures ∙ ap (λ (z : ℤ). driverOf (c .before .before .before .before .before .before .args .board) (c .before .before .before .before .before .before .args .nominal) z (c .before .before .before .before .before .before .args .frequency) (c .before .before .before .before .before .before .args .rate)) (toZ-ofZ (c .before .before .before .before .before .before .fits .ppm)))
 
 pub fresh-spec : {M : Type 1} → statement M
 fresh-spec = tie.close (tie.spec new-requires lend-requires same-length returns)

@@ -1,40 +1,35 @@
+-- `drivers::lend` meets its contract: what is lent is the record's bytes, behind the answer's number and value.
+-- Assumes nothing.
+use Prim.Native.Nat.{ℕ}
+use mathlib.Core.Path.{ap, _∙_}
+use mathlib.Core.List.{List}
+use denote.Ref.{now}
+use Rattle.answers.specs.Lent.{lentTo}
+use Rattle.chip.specs.Calls.{numberOf, valueOf}
 use borrow.Author.Needs.{needs}
 use Rattle.drivers.proofs.lend.Statement.{statement}
 use Rattle.drivers.proofs.lend.Tie as tie
-use Rattle.drivers.proofs.lend.Reads as reads
-use Rattle.drivers.proofs.lend.Lts as lts
-use Rattle.answers.proofs.lend.Reads as lend-reads
-use Rattle.records.proofs.driver_image.Reads as driver-image-reads
-use Rattle.tuners.proofs.number_of.Reads as number-of-reads
-use Rattle.tuners.proofs.value_of.Reads as value-of-reads
 
--- src/lib.rt:25:17
 driver-image-requires : tie.Need-driver-image-requires
 driver-image-requires c κs = search needs
 
--- src/lib.rt:27:9
 number-of-requires : tie.Need-number-of-requires
 number-of-requires c κs = search needs
 
--- src/lib.rt:28:9
 value-of-requires : tie.Need-value-of-requires
 value-of-requires c κs = search needs
 
--- src/lib.rt:29:9
 slice-aggregate-lend : tie.Need-slice-aggregate-lend
 slice-aggregate-lend c = search needs
 
--- src/lib.rt:26:5
 lend-requires : tie.Need-lend-requires
 lend-requires c κs = search needs
 
--- src/lib.rt:22:1
 same-length : tie.Need-same-length
 same-length c = search needs
 
--- src/lib.rt:22:1
 returns : tie.Need-returns
-returns c = ?
+returns c = c .before .before .lend .ensures ∙ ap (λ (n : ℕ). lentTo n (c .before .before .before .before .before .value-of .result) (c .before .before .before .before .before .before .before .driver-image .result) (now (c .before .before .before .before .before .before .before .before .before .args .out))) (c .before .before .before .before .before .before .number-of .ensures) ∙ ap (λ (n : ℕ). lentTo (numberOf (c .before .before .before .before .before .before .before .before .before .args .answer)) n (c .before .before .before .before .before .before .before .driver-image .result) (now (c .before .before .before .before .before .before .before .before .before .args .out))) (c .before .before .before .before .before .value-of .ensures) ∙ ap (λ (x : List ℕ). lentTo (numberOf (c .before .before .before .before .before .before .before .before .before .args .answer)) (valueOf (c .before .before .before .before .before .before .before .before .before .args .answer)) x (now (c .before .before .before .before .before .before .before .before .before .args .out))) (c .before .before .before .before .before .before .before .driver-image .ensures)
 
 pub lend-spec : {M : Type 1} → statement M
 lend-spec =

@@ -1,27 +1,25 @@
+-- `drivers::ready` meets its contract: each return is one case of the definition.
+-- Assumes nothing.
+use native.Mathlib.Omega.{arith}
+use borrow.Author.Tests.{not-false, not-true}
+use Rattle.drivers.proofs.Passed.{all-there, no-driver, no-rate, no-tuner, not-ok}
 use Rattle.drivers.proofs.ready.Statement.{statement}
 use Rattle.drivers.proofs.ready.Tie as tie
-use Rattle.drivers.proofs.ready.Reads as reads
-use Rattle.drivers.proofs.ready.Lts as lts
 
--- src/lib.rt:78:9
 returns : tie.Need-returns
-returns c = ?
+returns c = not-ok (c .before .args .ok) _ _ _ (not-true _ (c .if1 .taken))
 
--- src/lib.rt:81:9
 returns-2 : tie.Need-returns-2
-returns-2 c = ?
+returns-2 c = no-rate (c .before .before .args .ok) _ _ _ (not-false _ (c .before .if1 .left)) (omega arith)
 
--- src/lib.rt:84:9
 returns-3 : tie.Need-returns-3
-returns-3 c = ?
+returns-3 c = no-driver (c .before .before .before .args .ok) _ _ _ (not-false _ (c .before .before .if1 .left)) (λ z. omega arith) (omega arith)
 
--- src/lib.rt:87:9
 returns-4 : tie.Need-returns-4
-returns-4 c = ?
+returns-4 c = no-tuner (c .before .before .before .before .args .ok) _ _ _ (not-false _ (c .before .before .before .if1 .left)) (λ z. omega arith) (omega arith) (omega arith)
 
--- src/lib.rt:74:1
 returns-5 : tie.Need-returns-5
-returns-5 c = ?
+returns-5 c = all-there (c .before .before .before .before .args .ok) _ _ _ (not-false _ (c .before .before .before .if1 .left)) (λ z. omega arith) (omega arith) (omega arith)
 
 pub ready-spec : {M : Type 1} → statement M
 ready-spec = tie.close (tie.spec returns returns-2 returns-3 returns-4 returns-5)

@@ -1,58 +1,45 @@
+-- `drivers::set_sample_rate` meets its contract: refused before its steps, or made and handed back.
+-- Assumes nothing.
+use mathlib.Core.Path.{sym, _∙_}
+use native.Mathlib.Omega.{arith}
+use denote.Ref.{now}
+use Rattle.drivers.proofs.Passed.{fits, handed-back, refused-by}
 use borrow.Author.Needs.{needs}
 use Rattle.drivers.proofs.set_sample_rate.Statement.{statement}
 use Rattle.drivers.proofs.set_sample_rate.Tie as tie
-use Rattle.drivers.proofs.set_sample_rate.Reads as reads
-use Rattle.drivers.proofs.set_sample_rate.Lts as lts
-use Rattle.driver.proofs.Driver.set_sample_rate.Reads as set-sample-rate-reads
-use Rattle.drivers.proofs.hand.Reads as hand-reads
-use Rattle.drivers.proofs.ready.Reads as ready-reads
-use Rattle.records.proofs.decode_driver.Reads as decode-driver-reads
-use Rattle.records.proofs.decode_tuner.Reads as decode-tuner-reads
-use Rattle.tuners.proofs.refuse.Reads as refuse-reads
 
--- src/lib.rt:126:9
 decode-driver-requires : tie.Need-decode-driver-requires
 decode-driver-requires c κs = search needs
 
--- src/lib.rt:127:9
 decode-tuner-requires : tie.Need-decode-tuner-requires
 decode-tuner-requires c κs = search needs
 
--- src/lib.rt:129:9
 ready-requires : tie.Need-ready-requires
 ready-requires c κs = search needs
 
--- src/lib.rt:131:9
 refuse-requires : tie.Need-refuse-requires
 refuse-requires c κs = search needs
 
--- src/lib.rt:131:9
 returns : tie.Need-returns
-returns c = ?
+returns c = refused-by (now (c .before .before .before .before .before .before .before .before .before .before .before .before .before .before .args .outcomes)) (c .before .before .before .before .before .before .before .before .before .before .before .before .before .before .args .rate) (now (c .before .before .before .before .before .before .before .before .before .before .before .before .before .before .args .driver)) (now (c .before .before .before .before .before .before .before .before .before .before .before .before .before .before .args .tuner)) (now (c .before .before .before .before .before .before .before .before .before .before .before .before .before .before .args .room)) (now (c .before .before .before .before .before .before .before .before .before .before .before .before .before .before .args .left)) (now (c .before .before .before .before .before .before .before .before .before .before .before .before .before .before .args .next)) _ _ _ (c .before .before .before .before .before .before .before .decode-driver .ensures) (c .before .before .before .before .before .before .decode-tuner .ensures) (c .before .before .ready .ensures) _ (λ z. omega arith) (c .refuse .ensures)
 
--- src/lib.rt:133:9
 set-sample-rate-requires : tie.Need-set-sample-rate-requires
 set-sample-rate-requires c κs = search needs
 
--- src/lib.rt:134:5
 hand-requires : tie.Need-hand-requires
-hand-requires c κs = ?
+hand-requires c κs = fits _ _ _ _ (sym (c .before .before .before .before .before .before .before .ready .ensures) ∙ omega arith)
 
--- src/lib.rt:114:1
 same-length : tie.Need-same-length
 same-length c = search needs
 
--- src/lib.rt:114:1
 same-length-2 : tie.Need-same-length-2
 same-length-2 c = search needs
 
--- src/lib.rt:114:1
 same-length-3 : tie.Need-same-length-3
 same-length-3 c = search needs
 
--- src/lib.rt:114:1
 returns-2 : tie.Need-returns-2
-returns-2 c = ?
+returns-2 c = handed-back (now (c .before .before .before .before .before .before .before .before .before .before .before .before .before .before .before .before .before .before .before .before .before .before .before .before .args .outcomes)) (c .before .before .before .before .before .before .before .before .before .before .before .before .before .before .before .before .before .before .before .before .before .before .before .before .args .rate) (now (c .before .before .before .before .before .before .before .before .before .before .before .before .before .before .before .before .before .before .before .before .before .before .before .before .args .driver)) (now (c .before .before .before .before .before .before .before .before .before .before .before .before .before .before .before .before .before .before .before .before .before .before .before .before .args .tuner)) (now (c .before .before .before .before .before .before .before .before .before .before .before .before .before .before .before .before .before .before .before .before .before .before .before .before .args .room)) (now (c .before .before .before .before .before .before .before .before .before .before .before .before .before .before .before .before .before .before .before .before .before .before .before .before .args .left)) (now (c .before .before .before .before .before .before .before .before .before .before .before .before .before .before .before .before .before .before .before .before .before .before .before .before .args .next)) _ _ _ (c .before .before .before .before .before .before .before .before .before .before .before .before .before .before .before .before .before .decode-driver .ensures) (c .before .before .before .before .before .before .before .before .before .before .before .before .before .before .before .before .decode-tuner .ensures) (c .before .before .before .before .before .before .before .before .before .before .before .before .ready .ensures) (omega arith) _ _ _ _ _ (c .before .before .before .before .before .before .before .before .before .set-sample-rate .ensures) _ _ _ (c .before .before .before .before .hand .ensures)
 
 pub set-sample-rate-spec : {M : Type 1} → statement M
 set-sample-rate-spec =
