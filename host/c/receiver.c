@@ -66,6 +66,14 @@ static void print_entry(uint64_t k)
     printf("\n");
 }
 
+/* The next tuner record is there when the call is done, and also when it is refused by a step: then it tells what the steps taken did. */
+static void keep(struct receiver *r, const uint8_t *next, uint32_t refusal, uint32_t count)
+{
+    if (refusal == PASETONE_DONE || count > 0) {
+        memcpy(r->tuner, next, sizeof r->tuner);
+    }
+}
+
 static void fresh(struct receiver *r)
 {
     pasetone_reply made = pasetone_tuner_new(PASETONE_R828D, 0x74, 28800000, r->tuner, sizeof r->tuner);
@@ -80,7 +88,7 @@ static void initialize(struct receiver *r)
     pasetone_reply reply =
         pasetone_initialize(r->tuner, sizeof r->tuner, outcomes, sizeof outcomes, room, sizeof room, next, sizeof next);
     print_reply("initialise", reply);
-    memcpy(r->tuner, next, sizeof next);
+    keep(r, next, reply.refusal, reply.count);
 }
 
 static void set_rate(struct receiver *r)
@@ -90,8 +98,10 @@ static void set_rate(struct receiver *r)
                                                     sizeof outcomes, room, sizeof room, next_driver, sizeof next_driver, next_tuner,
                                                     sizeof next_tuner);
     print_reply("sample rate 2048000", reply);
-    memcpy(r->tuner, next_tuner, sizeof next_tuner);
-    memcpy(r->driver, next_driver, sizeof next_driver);
+    keep(r, next_tuner, reply.refusal, reply.count);
+    if (reply.count > 0) {
+        memcpy(r->driver, next_driver, sizeof r->driver);
+    }
 }
 
 static void set_gain(struct receiver *r)
@@ -105,10 +115,9 @@ static void set_gain(struct receiver *r)
     bits = (uint32_t)reply.value;
     memcpy(&db, &bits, sizeof db);
     printf("gain set: %.1f dB\n", (double)db);
-    memcpy(r->tuner, next, sizeof next);
+    keep(r, next, reply.refusal, reply.count);
 }
 
-/* The next record is taken over although the call may be refused: once steps were taken it tells what they did. */
 static void tune(struct receiver *r, const char *what)
 {
     uint8_t next[PASETONE_TUNER_SIZE];
@@ -118,9 +127,7 @@ static void tune(struct receiver *r, const char *what)
     if (reply.refusal == PASETONE_STEP) {
         print_entry(reply.index);
     }
-    if (reply.count > 0) {
-        memcpy(r->tuner, next, sizeof next);
-    }
+    keep(r, next, reply.refusal, reply.count);
     printf("lock: %s\n", r->tuner[PASETONE_TUNER_LOCK] ? "yes" : "no");
 }
 
@@ -130,7 +137,7 @@ static void reload(struct receiver *r)
     pasetone_reply reply =
         pasetone_reload(r->tuner, sizeof r->tuner, outcomes, sizeof outcomes, room, sizeof room, next, sizeof next);
     print_reply("reload", reply);
-    memcpy(r->tuner, next, sizeof next);
+    keep(r, next, reply.refusal, reply.count);
 }
 
 int main(void)
