@@ -5,12 +5,14 @@
  *   - reply, section and script agree, and the reader accepts the section (judge.c);
  *   - given slices, bytes past what was written, and bytes beside each slice are as they were;
  *   - the same call, repeated over other memory, does the same (every eighth: nothing is kept between calls).
+ * At the end, whether each function was met done and with each refusal that pasetone.h lists for it, and with no other (1,000,000 calls or more).
  *
  * What finds what. The archive is not built with sanitizers, so they see this program only, and the memcpy that the archive calls. An access
  * of the archive past a slice is found by the pages without access (memory.c), or by valgrind with `--memory heap` in a build without sanitizers;
  * a write that stays inside the slice's page is found by the canaries.
  *
  *   hostile [--calls N] [--seed N] [--memory mixed|heap|end|start] [--self-test NAME]
+ *   hostile --refusals          which refusals each function can give
  *
  * Exits 0 when no call was wrong, 1 at the first that was. A self-test damages one call on purpose: it must end with 1.
  */
@@ -26,7 +28,7 @@
 
 static struct attempt now;
 static uint8_t *first[SLOTS]; /* what the slices held after a call, for its repetition */
-static uint64_t seed = 1, call_number, repeated, entries_made, by_refusal[13], by_call[64];
+static uint64_t seed = 1, call_number, repeated, entries_made, met[64][13];
 static enum memory memory = MIXED;
 static const char *self_test = "";
 
@@ -131,8 +133,7 @@ static const char *one_call(void)
     if (wrong == NULL) {
         wrong = judge(&now);
     }
-    by_refusal[now.reply.refusal % 13]++;
-    by_call[which]++;
+    met[which][now.reply.refusal % 13]++;
     entries_made += now.reply.count;
     if (wrong == NULL) {
         keep_records(&now);
@@ -146,20 +147,68 @@ static const char *one_call(void)
     return wrong;
 }
 
+/* Whether the call was met done, refused by each number that it can give, and by no other; over few calls only the last. */
+static const char *seen(unsigned which, int all)
+{
+    unsigned long listed = 1, number;
+    const char *rest = calls[which].refusals;
+    char *end;
+    unsigned k;
+    for (; *rest != '\0'; rest = end) {
+        number = strtoul(rest, &end, 10);
+        listed |= 1ul << number;
+    }
+    for (k = 0; k < 13; k++) {
+        if (met[which][k] != 0 && !(listed >> k & 1)) {
+            return "refused by a number that pasetone.h does not list";
+        }
+        if (all && met[which][k] == 0 && (listed >> k & 1)) {
+            return "never done, or a refusal that pasetone.h lists was never met";
+        }
+    }
+    return NULL;
+}
+
+static const char *seen_all(uint64_t total)
+{
+    const char *wrong = NULL;
+    unsigned i;
+    for (i = 0; i < call_count && wrong == NULL; i++) {
+        now.call = &calls[i];
+        wrong = seen(i, total >= 1000000);
+    }
+    return wrong;
+}
+
 static void print_summary(uint64_t total, double seconds)
 {
-    uint64_t fewest = total;
-    unsigned i;
-    for (i = 0; i < call_count; i++) {
-        fewest = by_call[i] < fewest ? by_call[i] : fewest;
-    }
+    uint64_t fewest = total, sum;
+    unsigned i, k;
     printf("hostile: by refusal:");
-    for (i = 0; i < 13; i++) {
-        printf(" %u: %llu%s", i, (unsigned long long)by_refusal[i], i < 12 ? "," : "\n");
+    for (k = 0; k < 13; k++) {
+        for (i = 0, sum = 0; i < call_count; i++) {
+            sum += met[i][k];
+        }
+        printf(" %u: %llu%s", k, (unsigned long long)sum, k < 12 ? "," : "\n");
+    }
+    for (i = 0; i < call_count; i++) {
+        for (k = 0, sum = 0; k < 13; k++) {
+            sum += met[i][k];
+        }
+        fewest = sum < fewest ? sum : fewest;
     }
     printf("hostile: %u functions, each at least %llu times; %llu repeated; %llu entries; %.1f s\n", call_count, (unsigned long long)fewest,
            (unsigned long long)repeated, (unsigned long long)entries_made, seconds);
     printf("hostile: %llu checks, 0 faults\n", (unsigned long long)total);
+}
+
+/* What calls.c says that each function can refuse, to be held against pasetone.h. */
+static void print_refusals(void)
+{
+    unsigned i;
+    for (i = 0; i < call_count; i++) {
+        printf("pasetone_%s: %s\n", calls[i].name, calls[i].refusals);
+    }
 }
 
 static uint64_t options(int argc, char **argv)
@@ -167,6 +216,10 @@ static uint64_t options(int argc, char **argv)
     static const char *const places[] = {"mixed", "heap", "end", "start"};
     uint64_t total = 1000000;
     int i, k;
+    if (argc == 2 && strcmp(argv[1], "--refusals") == 0) {
+        print_refusals();
+        exit(0);
+    }
     for (i = 1; i + 1 < argc; i += 2) {
         if (strcmp(argv[i], "--calls") == 0) {
             total = strtoull(argv[i + 1], NULL, 10);
@@ -213,6 +266,11 @@ int main(int argc, char **argv)
             print_fault(wrong);
             return 1;
         }
+    }
+    wrong = seen_all(total);
+    if (wrong != NULL) {
+        print_fault(wrong);
+        return 1;
     }
     print_summary(total, difftime(time(NULL), began));
     return 0;

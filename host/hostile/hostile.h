@@ -15,18 +15,26 @@ enum slot { TUNER, DRIVER, INPUT, OUTCOMES, REPLIES, ROOM, NEXT, NEXT_DRIVER, OU
 #define LONGEST (16 * 4097 + 8 + 64)
 
 /* What sets a call apart. */
-enum way { COMMON, TUNING /* may be refused 2 by the PLL */, CHIP_PATH /* an R820T takes no step */, PPM, NOTCH /* change the record in place */, READER };
+enum way {
+    COMMON,
+    TUNING,    /* may be refused 2 by the PLL */
+    CHIP_PATH, /* takes no step on an R820T */
+    PPM,       /* changes the record where it lies, as does NOTCH */
+    NOTCH,
+    READER
+};
 
 struct attempt;
 
 struct call {
     const char *name;
     enum way way;
-    unsigned slots;                                  /* those that it takes, by HAS */
-    uint32_t entries, replies, out;                  /* what it needs: most entries, replies, bytes that it answers in OUT */
+    unsigned slots;                               /* those that it takes, by HAS */
+    uint32_t entries, replies, out;               /* what it needs: most entries, replies, bytes that it answers in OUT */
+    const char *refusals;                         /* the numbers that it can give, as pasetone.h has them */
     pasetone_reply (*run)(struct attempt *);
-    uint32_t (*argument)(const struct attempt *);    /* the number by which document 01 refuses the arguments, 0 for none */
-    uint64_t (*value)(const struct attempt *);       /* what a done call answers */
+    uint32_t (*argument)(const struct attempt *); /* the number by which document 01 refuses the arguments, 0 for none */
+    uint64_t (*value)(const struct attempt *);    /* what a done call answers */
 };
 
 /* One call with all that it is given and lent, and what came back. */

@@ -34,7 +34,7 @@ void memory_open(struct attempt *a)
             exit(2);
         }
         field[slot] = all + page;
-        a->before[slot] = malloc(LONGEST);
+        a->before[slot] = calloc(1, LONGEST);
         if (a->before[slot] == NULL) {
             exit(2);
         }
