@@ -6,8 +6,9 @@
  *   - a script: how each step is to end (outcomes) and what each read is to give (replies);
  *   - room, into which it writes a transcript of the steps that it took;
  *   - a slice for the next record, which takes the place of the given one.
- * So a host can try a call out, or replay one: take the steps of a transcript on a real receiver up to the first that fails, give what came
- * of them as the script, and the record that comes back says which registers are sure and which are doubtful.
+ * What step i is depends on the outcomes and replies before it alone. So a real receiver is driven in rounds: call with what is known so far
+ * (done and 0 for the rest), take the first step that was not taken yet, put its outcome and what it read into the script, call again with the
+ * same record. When every step has been taken, the next record tells what the chip holds: which registers are sure and which are doubtful.
  *
  * Script. Outcome byte i belongs to entry i of the call: 0 done, any other failed; the outcome of a wait is not looked at. Replies are used
  * in the order of reading. A script must be long enough for the longest run of its call (constants below), even where a run is shorter.

@@ -8,8 +8,9 @@
 
 #include "pasetone.h"
 
-static const char *const refusal_words[] = {"done",     "setup",       "frequency", "rate",     "correction", "register", "pin",
-                                            "coefficient", "room", "outcomes",  "replies",  "step",       "section"};
+static const char *const refusal_words[] = {
+    "done", "setup", "frequency", "rate", "correction", "register", "pin", "coefficient", "room", "outcomes", "replies", "step", "section",
+};
 
 /* All that a receiver is on the host's side. A call reads the record and writes the next one: never into the same bytes. */
 struct receiver {

@@ -4,6 +4,7 @@ use std::fmt;
 ///
 /// All but [`Error::Step`], and [`Error::Frequency`] in the PLL of a tuning, are given before any step: then nothing has changed.
 #[derive(Clone, Copy, Debug, PartialEq, Eq, Hash)]
+#[non_exhaustive]
 pub enum Error {
     /// 1: a nominal reference of 0, or bytes that are no record.
     Setup,

@@ -41,7 +41,7 @@ pub use driver::{Board, Driver, Plan};
 pub use error::Error;
 pub use registers::{if_freq_regs, pack_fir, resample_regs, unpack_fir};
 pub use script::Script;
-pub use transcript::{Entry, EntryKind, Transcript};
+pub use transcript::{Entries, Entry, EntryKind, Transcript};
 pub use tuner::{InputPath, Tuner, TunerKind};
 
 /// What a call with steps hands back. Its record is updated already.

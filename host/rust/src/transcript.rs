@@ -123,10 +123,39 @@ impl Transcript {
     }
 
     /// All entries in order.
-    pub fn iter(&self) -> impl ExactSizeIterator<Item = Entry<'_>> {
-        self.section[..ENTRY * self.len()].chunks_exact(ENTRY).map(entry)
+    pub fn iter(&self) -> Entries<'_> {
+        Entries { rest: self.section[..ENTRY * self.len()].chunks_exact(ENTRY) }
     }
 }
+
+impl<'a> IntoIterator for &'a Transcript {
+    type Item = Entry<'a>;
+    type IntoIter = Entries<'a>;
+
+    fn into_iter(self) -> Entries<'a> {
+        self.iter()
+    }
+}
+
+/// The entries of a [`Transcript`] in order.
+#[derive(Clone, Debug)]
+pub struct Entries<'a> {
+    rest: std::slice::ChunksExact<'a, u8>,
+}
+
+impl<'a> Iterator for Entries<'a> {
+    type Item = Entry<'a>;
+
+    fn next(&mut self) -> Option<Entry<'a>> {
+        self.rest.next().map(entry)
+    }
+
+    fn size_hint(&self) -> (usize, Option<usize>) {
+        self.rest.size_hint()
+    }
+}
+
+impl ExactSizeIterator for Entries<'_> {}
 
 fn entry(bytes: &[u8]) -> Entry<'_> {
     Entry {
