@@ -191,19 +191,24 @@ pasetone_reply pasetone_tuner_new(uint64_t kind, uint8_t address, uint64_t nomin
 pasetone_reply pasetone_driver_new(uint64_t board, uint64_t nominal, int32_t ppm, uint64_t frequency, uint32_t rate, uint8_t *next,
                                    size_t next_len);
 
-/* ---- The tuner's calls with steps. `tuner` is a record of 105 bytes, `next` takes the next one (105 bytes). ---- */
+/*
+ * ---- The tuner's calls with steps ----
+ * `tuner` is a record of 105 bytes and stays as it is; `next` takes the next one, 105 bytes, where the call is done or refused by a step.
+ * In it, the bytes of a register follow the writes to it: the shadow before each is tried, the attempted byte with it, and the register is doubtful
+ * until a write is done and whenever the last one failed. Other fields stay unless they are named below.
+ */
 
 /*
- * Sends the chip's initial bytes, then sets it up. Shadow bytes beyond the set-up's registers stay; so do IF, gain, lock and notch.
- * Outcomes 19, room 312. Value 0. Refuses 1, 8, 9, 11.
+ * Sends the chip's initial bytes past the shadow, then sets it up by way of it. IF, gain, lock and notch stay. Outcomes 19, room 312. Value 0.
+ * Refuses 1, 8, 9, 11.
  */
 pasetone_reply pasetone_initialize(const uint8_t *tuner, size_t tuner_len, const uint8_t *outcomes, size_t outcomes_len, uint8_t *room,
                                    size_t room_len, uint8_t *next, size_t next_len);
 
 /*
  * Tunes to `hz`: the mux, then the PLL at hz + IF. That the PLL did not lock is no refusal: read the record's lock, which changes only when
- * the tries for a lock have ended. Outcomes 53, replies 35, room 856. Value: the hz asked. Refuses 1, 2, 8, 9, 10, 11; 2 also in the PLL,
- * with the mux's steps taken (unless one failed, 13 entries).
+ * the tries for a lock have ended. 0x14, 0x15 and 0x16 are written past the shadow. Outcomes 53, replies 35, room 856. Value: the hz asked.
+ * Refuses 1, 2, 8, 9, 10, 11; 2 also in the PLL, when the mux's steps are taken and stand (13 entries).
  */
 pasetone_tune_reply pasetone_set_frequency(const uint8_t *tuner, size_t tuner_len, uint64_t hz, const uint8_t *outcomes,
                                            size_t outcomes_len, const uint8_t *replies, size_t replies_len, uint8_t *room,
@@ -216,11 +221,11 @@ pasetone_tune_reply pasetone_set_frequency(const uint8_t *tuner, size_t tuner_le
 pasetone_reply pasetone_set_gain(const uint8_t *tuner, size_t tuner_len, float db, const uint8_t *outcomes, size_t outcomes_len,
                                  uint8_t *room, size_t room_len, uint8_t *next, size_t next_len);
 
-/* As `set_gain`, by the step's index; above 28 it is 28. Refuses 1, 8, 9, 11. */
+/* As `set_gain`, by the step's index; above 28 it is 28. Outcomes 7, room 120. Value: the gain set, as 32 bits. Refuses 1, 8, 9, 11. */
 pasetone_reply pasetone_set_gain_by_index(const uint8_t *tuner, size_t tuner_len, uint64_t index, const uint8_t *outcomes,
                                           size_t outcomes_len, uint8_t *room, size_t room_len, uint8_t *next, size_t next_len);
 
-/* The IF filter: to 6 MHz, to 7 MHz, above. Outcomes 3, room 56. Value 0. Refuses 1, 8, 9, 11. */
+/* The IF filter: to 6 MHz, to 7 MHz, above; the record keeps no bandwidth. Outcomes 3, room 56. Value 0. Refuses 1, 8, 9, 11. */
 pasetone_reply pasetone_set_bandwidth(const uint8_t *tuner, size_t tuner_len, uint32_t hz, const uint8_t *outcomes, size_t outcomes_len,
                                       uint8_t *room, size_t room_len, uint8_t *next, size_t next_len);
 
@@ -244,7 +249,10 @@ pasetone_reply pasetone_reload(const uint8_t *tuner, size_t tuner_len, const uin
 
 /* ---- The tuner's calls without steps ---- */
 
-/* Shadow byte of `reg`: the bits of `mask` taken from `value`; nothing is sent. Value: the new byte. Refuses 1, 5, 8. */
+/*
+ * The shadow byte of `reg` with the bits of `mask` taken from `value`; nothing is sent, and no other byte of the record changes. `next`: 105
+ * bytes. Value: the new byte. Refuses 1, 5, 8.
+ */
 pasetone_reply pasetone_update_shadow(const uint8_t *tuner, size_t tuner_len, uint8_t reg, uint8_t value, uint8_t mask, uint8_t *next,
                                       size_t next_len);
 
@@ -266,7 +274,7 @@ pasetone_reply pasetone_set_ppm(uint8_t *tuner, size_t tuner_len, int32_t ppm);
 /* The notch, for the next tuning: 0 off, else on. CHANGES the given record where it lies, in its byte at 50. Value 0. Refuses 1. */
 pasetone_reply pasetone_apply_notch(uint8_t *tuner, size_t tuner_len, uint8_t on);
 
-/* ---- The driver's calls ---- */
+/* ---- The driver's calls. `driver` is a record of 21 bytes and stays as it is. ---- */
 
 /* The driver with another correction; the tuner keeps its own. `next`: 21 bytes. Value 0. Refuses 1, 4, 8. */
 pasetone_reply pasetone_driver_set_ppm(const uint8_t *driver, size_t driver_len, int32_t ppm, uint8_t *next, size_t next_len);
@@ -291,7 +299,7 @@ pasetone_reply pasetone_apply_input_path(const uint8_t *tuner, size_t tuner_len,
                                          size_t outcomes_len, const uint8_t *replies, size_t replies_len, uint8_t *room, size_t room_len,
                                          uint8_t *next, size_t next_len);
 
-/* ---- Demodulator and GPIO: no record. Value 0. ---- */
+/* ---- Demodulator and GPIO: no record; the room alone is written. Value 0. ---- */
 
 /* Powers the demodulator and sets it up. Outcomes 45, room 728. Refuses 8, 9, 11. */
 pasetone_reply pasetone_init_baseband(const uint8_t *outcomes, size_t outcomes_len, uint8_t *room, size_t room_len);
