@@ -7,14 +7,15 @@
  *   - the same call, repeated over other memory, does the same (every eighth: nothing is kept between calls).
  * At the end, whether each function was met done and with each refusal that pasetone.h lists for it, and with no other (1,000,000 calls or more).
  *
- * What finds what. The archive is not built with sanitizers, so they see this program only, and the memcpy that the archive calls. An access
- * of the archive past a slice is found by the pages without access (memory.c), or by valgrind with `--memory heap` in a build without sanitizers;
- * a write that stays inside the slice's page is found by the canaries.
+ * What finds what. The archive is not built with sanitizers, so they see this program only. An access of the archive past a slice is found by
+ * the pages without access (memory.c), or by valgrind with `--memory heap` in a build without sanitizers; a write that stays inside the slice's
+ * page is found by the canaries.
  *
  *   hostile [--calls N] [--seed N] [--memory mixed|heap|end|start] [--self-test NAME]
  *   hostile --refusals          which refusals each function can give
  *
- * Exits 0 when no call was wrong, 1 at the first that was. A self-test damages one call on purpose: it must end with 1.
+ * Exits 0 when no call was wrong, 1 at the first that was. A self-test damages one call on purpose: it must end with 1. A seed gives the same calls
+ * in every build; `all replies` is a number made of all that was answered, to tell two runs apart.
  */
 #define _GNU_SOURCE
 #include <signal.h>
@@ -28,7 +29,7 @@
 
 static struct attempt now;
 static uint8_t *first[SLOTS]; /* what the slices held after a call, for its repetition */
-static uint64_t seed = 1, call_number, repeated, entries_made, met[64][13];
+static uint64_t seed = 1, call_number, repeated, entries_made, digest, met[64][13];
 static enum memory memory = MIXED;
 static const char *self_test = "";
 
@@ -133,6 +134,7 @@ static const char *one_call(void)
     if (wrong == NULL) {
         wrong = judge(&now);
     }
+    digest = (digest ^ now.reply.value) * 0x100000001b3u + (now.reply.index << 32 ^ (uint64_t)now.reply.refusal << 16 ^ now.reply.count);
     met[which][now.reply.refusal % 13]++;
     entries_made += now.reply.count;
     if (wrong == NULL) {
@@ -199,6 +201,7 @@ static void print_summary(uint64_t total, double seconds)
     }
     printf("hostile: %u functions, each at least %llu times; %llu repeated; %llu entries; %.1f s\n", call_count, (unsigned long long)fewest,
            (unsigned long long)repeated, (unsigned long long)entries_made, seconds);
+    printf("hostile: all replies %016llx\n", (unsigned long long)digest);
     printf("hostile: %llu checks, 0 faults\n", (unsigned long long)total);
 }
 

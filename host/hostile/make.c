@@ -14,8 +14,9 @@ void make_records(void)
     int i;
     for (i = 0; i < KEPT; i++) {
         uint64_t nominal = i % 4 == 0 ? 1 + below(4294967295u) : (i % 4 == 1 ? 16000000 : 28800000);
-        pasetone_tuner_new((uint64_t)(i % 2), (uint8_t)random_u64(), nominal, tuners[i], sizeof tuners[i]);
-        pasetone_driver_new((uint64_t)(i / 2 % 2), nominal, 0, hostile_number(), (uint32_t)random_u64(), drivers[i], sizeof drivers[i]);
+        uint64_t hz = hostile_number(), any = random_u64();
+        pasetone_tuner_new((uint64_t)(i % 2), (uint8_t)any, nominal, tuners[i], sizeof tuners[i]);
+        pasetone_driver_new((uint64_t)(i / 2 % 2), nominal, 0, hz, (uint32_t)any, drivers[i], sizeof drivers[i]);
     }
 }
 
@@ -40,7 +41,8 @@ void keep_records(const struct attempt *a)
 static void damage(uint8_t *bytes, size_t *n)
 {
     static const uint8_t flags[] = {0, 37, 50, 78, 90, 104};
-    size_t i;
+    size_t at = below(*n), i;
+    uint64_t any = random_u64();
     switch (below(7)) {
     case 0:
         *n = below(*n + 8);
@@ -50,11 +52,10 @@ static void damage(uint8_t *bytes, size_t *n)
         *n = *n + below(3) - 1; /* one less, the same, one more */
         break;
     case 2:
-        bytes[below(*n)] = (uint8_t)random_u64();
+        bytes[at] = (uint8_t)any;
         break;
     case 3:
-        i = flags[below(sizeof flags)];
-        bytes[i % *n] = (uint8_t)below(4);
+        bytes[flags[at % sizeof flags] % *n] = (uint8_t)(any % 4);
         break;
     case 4: /* the gain's top bits, around infinity and NaN; in a driver's record, frequency or rate */
         bytes[41 % *n] = (uint8_t)(0x7f + 0x80 * below(2));
@@ -66,7 +67,8 @@ static void damage(uint8_t *bytes, size_t *n)
         break;
     default:
         for (i = below(6); i > 0; i--) {
-            bytes[below(*n)] ^= (uint8_t)(1u << below(8));
+            at = below(*n);
+            bytes[at] ^= (uint8_t)(1u << below(8));
         }
     }
 }
@@ -122,7 +124,7 @@ static void put_u32(uint8_t *to, uint64_t v)
 static void make_section(struct attempt *a)
 {
     uint8_t *bytes = a->before[INPUT];
-    uint64_t count = below(4000) == 0 ? 4090 + below(8) : below(12), start = below(20), i, k;
+    uint64_t count = below(4000) == 0 ? 4090 + below(8) : below(12), start = below(20), any = hostile_number(), i;
     random_bytes(bytes, start);
     for (i = 0; i < count; i++) {
         make_entry(bytes + start + 16 * i);
@@ -135,11 +137,11 @@ static void make_section(struct attempt *a)
         a->n[INPUT] = below(a->n[INPUT] + 8);
         break;
     case 1:
-        k = below(a->n[INPUT]);
-        bytes[k] ^= (uint8_t)(1u << below(8));
+        i = below(a->n[INPUT]);
+        bytes[i] ^= (uint8_t)(1u << any % 8);
         break;
     case 2:
-        put_u32(bytes + a->n[INPUT] - 8 + 4 * below(2), hostile_number());
+        put_u32(bytes + a->n[INPUT] - 8 + 4 * below(2), any);
         break;
     case 3:
         a->n[INPUT] = below(80);
@@ -161,8 +163,8 @@ static void make_input(struct attempt *a)
     a->n[INPUT] = a->call->out == PASETONE_FIR_SIZE ? PASETONE_FIR_VALUES_SIZE : PASETONE_FIR_SIZE;
     random_bytes(a->before[INPUT], 128);
     for (i = 0; i < 16 && a->call->out == PASETONE_FIR_SIZE; i++) {
-        uint64_t width = i < 8 ? 256 : 4096;
-        put_u32(a->before[INPUT] + 4 * i, below(width) - width / 2 + (below(100) == 0 ? hostile_number() : 0));
+        uint64_t width = i < 8 ? 256 : 4096, past = below(100) == 0 ? hostile_number() : 0;
+        put_u32(a->before[INPUT] + 4 * i, below(width) - width / 2 + past);
     }
     if (below(6) == 0) {
         a->n[INPUT] = below(72);
@@ -172,15 +174,15 @@ static void make_input(struct attempt *a)
 /* All done, one step failed, few failed, or any bytes. */
 static void make_outcomes(uint8_t *bytes, size_t n)
 {
-    uint64_t i;
+    uint64_t i, any = random_u64();
     memset(bytes, 0, n);
     switch (n == 0 ? 0 : below(4)) {
     case 1:
-        bytes[below(n)] = (uint8_t)(1 + below(255));
+        bytes[below(n)] = (uint8_t)(1 + any % 255);
         break;
     case 2:
         for (i = below(4); i > 0; i--) {
-            bytes[below(n)] = (uint8_t)random_u64();
+            bytes[below(n)] = (uint8_t)(any >> 8 * i);
         }
         break;
     case 3:

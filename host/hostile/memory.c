@@ -1,7 +1,6 @@
 /*
  * Where the slices lie. Each placement catches what another cannot:
- *   HEAP      a block of exactly n bytes: valgrind sees every access past it, in the archive too; AddressSanitizer those of this program and of
- *             memcpy, which the archive calls
+ *   HEAP      a block of exactly n bytes: valgrind sees every access past it, in the archive too, and AddressSanitizer those of this program
  *   AT_END    ends where a page without access begins: any access past the end stops the program, whoever makes it
  *   AT_START  begins where a page without access ends: the same before the beginning
  * Bytes on the open side of a slice in a page are canaries: they are looked at after the call, so a write there is found too.

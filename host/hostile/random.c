@@ -1,4 +1,7 @@
-/* Numbers for the hostile run: a fixed generator, so that a seed gives the same run everywhere. */
+/*
+ * Numbers for the hostile run: a fixed generator, so that a seed gives the same run everywhere. For that, no expression takes two of them where C
+ * leaves open which is the first.
+ */
 #include <string.h>
 
 #include "hostile.h"
@@ -41,18 +44,18 @@ uint64_t hostile_number(void)
     static const uint64_t bounds[] = {5,        7,        0x1f,      28,        64,         1000000,    2300000,    2500000,
                                       3570000,  16000000, 27656250,  28800000,  57600000,   85000000,   112000000,  885000000,
                                       1023999999, 1770000000, 1800000000, 3600000000u, 4294967295u, 6000000, 7000000, 250000000};
-    uint64_t near = below(5) - 2;
+    uint64_t near = below(5) - 2, shift = below(64);
     switch (below(6)) {
     case 0:
         return below(4);
     case 1:
-        return ((uint64_t)1 << below(64)) + near;
+        return ((uint64_t)1 << shift) + near;
     case 2:
         return bounds[below(sizeof bounds / sizeof *bounds)] + near;
     case 3:
         return below(1900000000);
     case 4:
-        return random_u64() >> below(64);
+        return random_u64() >> shift;
     default:
         return near;
     }
