@@ -6,7 +6,7 @@
 pub type Bytes = *const u8;
 pub type BytesMut = *mut u8;
 
-/// `pasetone_reply`, and `pasetone_tune_reply`, which has the same fields.
+/// `pasetone_reply`.
 #[repr(C)]
 #[derive(Clone, Copy)]
 pub struct Reply {
@@ -16,6 +16,10 @@ pub struct Reply {
     pub count: u32,
 }
 
+/// `pasetone_tune_reply`, which has the same fields.
+pub type TuneReply = Reply;
+
+/// `pasetone_section`.
 #[repr(C)]
 pub struct Section {
     pub start: u64,
@@ -53,7 +57,7 @@ unsafe extern "C" {
         r: usize,
         next: BytesMut,
         n: usize,
-    ) -> Reply;
+    ) -> TuneReply;
     pub fn pasetone_set_gain(
         tuner: Bytes,
         t: usize,
