@@ -159,8 +159,7 @@ fn cut(given: &Given, found: &Found, made: &[Entry], wrong: Wrong, tally: &mut T
 /// After a reload that is all done nothing is doubtful, and shadow, attempted bytes and chip are the same.
 fn reloaded(host: &Host, tally: &mut Tally, what: &dyn Fn() -> String) {
     let record = Tuner::read(&host.receiver.tuner);
-    let same = record.is_some_and(|record| {
-        record.doubtful == [false; 27] && record.shadow == record.attempted && record.attempted == host.chip.bytes
-    });
+    let same = record
+        .is_some_and(|record| record.doubtful == [false; 27] && record.shadow == record.attempted && record.attempted == host.chip.bytes);
     tally.that(same, || format!("reload: {}", what()));
 }

@@ -43,12 +43,15 @@ pub struct Cover {
     rows: [Row; 38],
     /// By row of docs/DIFFERENCES.md: cases excused, cases named on which the original agrees in this build.
     rules: BTreeMap<u8, (u64, u64)>,
+    /// Calls that made entries, by their record's kind of tuner and by its board.
+    kinds: [u64; 2],
+    boards: [u64; 2],
     pub entries: u64,
 }
 
 impl Default for Cover {
     fn default() -> Self {
-        Self { rows: std::array::from_fn(|_| Row::default()), rules: BTreeMap::new(), entries: 0 }
+        Self { rows: std::array::from_fn(|_| Row::default()), rules: BTreeMap::new(), kinds: [0; 2], boards: [0; 2], entries: 0 }
     }
 }
 
@@ -66,6 +69,12 @@ impl Cover {
         }
         row.closings += made.iter().filter(|entry| page::closes(entry) && entry[1] == 1).count() as u64;
         self.entries += made.len() as u64;
+        if let (false, Some(&kind @ 0..=1)) = (made.is_empty(), case.tuner.first()) {
+            self.kinds[kind as usize] += 1;
+        }
+        if let (false, Some(&board @ 0..=1)) = (made.is_empty(), case.driver.first()) {
+            self.boards[board as usize] += 1;
+        }
         match class {
             Class::Same(named) => {
                 row.same += 1;
@@ -82,7 +91,9 @@ impl Cover {
     }
 
     pub fn print(&self) {
-        println!("| no. | call | cases | same as the Rust | document 01 alone | excused (row: cases) | refusals (number: cases) | failing steps | failed closings |");
+        println!(
+            "| no. | call | cases | same as the Rust | document 01 alone | excused (row: cases) | refusals (number: cases) | failing steps | failed closings |"
+        );
         println!("|---|---|---|---|---|---|---|---|---|");
         for (at, row) in self.rows.iter().enumerate() {
             let (excused, refusals) = (list(&row.excused), list(&row.refusals));
@@ -100,25 +111,37 @@ impl Cover {
             println!("| {} | {excused} | {same} | {} |", rule.row, rule.inputs);
         }
         println!();
+        let ([r820t, r828d], [generic, v4]) = (self.kinds, self.boards);
+        println!("calls that made entries: R820T {r820t}, R828D {r828d}; generic board {generic}, V4 {v4}");
     }
 
-    /// A run that left a row, a call, a step or a refusal out shows nothing of it: that is a fault.
+    /// A run that left a row, a call, a step or a refusal out shows nothing of it: that is a fault. The rarest of them is told,
+    /// since a shorter run may miss it.
     pub fn demand(&self, tally: &mut Tally) {
+        let reached = self.reached();
+        for (what, count) in &reached {
+            tally.that(*count > 0, || format!("never reached: {what}"));
+        }
+        let (what, count) = reached.iter().min_by_key(|(_, count)| count).expect("something is asked for");
+        println!("the rarest of {} things that a run must reach: {what}, {count} times", reached.len());
+    }
+
+    fn reached(&self) -> Vec<(String, u64)> {
+        let mut all = Vec::new();
         for rule in &RULES {
             let (excused, same) = self.rules.get(&rule.row).copied().unwrap_or_default();
             let panics_only = matches!(rule.row, 3 | 11 | 13) && !PANICS;
-            let reached = if panics_only { same } else { excused };
-            tally.that(reached > 0, || format!("row {} was not reached", rule.row));
+            all.push((format!("row {}", rule.row), if panics_only { same } else { excused }));
         }
-        for (at, row) in self.rows.iter().enumerate() {
-            let call = at as u8 + 1;
-            for step in can_fail(call) {
-                tally.that(row.failing.contains_key(&step), || format!("call {call}: step {step} never failed"));
-            }
-            for number in refusals(call) {
-                tally.that(row.refusals.contains_key(&number), || format!("call {call}: never refused {number}"));
-            }
+        all.extend((0..2).map(|kind| (format!("tuner {kind}"), self.kinds[kind])));
+        all.extend((0..2).map(|board| (format!("board {board}"), self.boards[board])));
+        for (call, (row, name)) in (1..).zip(self.rows.iter().zip(NAMES)) {
+            let failed = |step: usize| row.failing.get(&step).copied().unwrap_or_default();
+            let refused = |number: u8| row.refusals.get(&number).copied().unwrap_or_default();
+            all.extend(can_fail(call).into_iter().map(|step| (format!("{name}: step {step} failing"), failed(step))));
+            all.extend(refusals(call).into_iter().map(|number| (format!("{name}: answer {number}"), refused(number))));
         }
+        all
     }
 }
 

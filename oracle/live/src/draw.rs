@@ -19,7 +19,8 @@ pub struct Receiver {
 
 impl Receiver {
     pub fn fresh(dice: &mut Dice) -> Self {
-        let nominal = if dice.below(4) == 0 { dice.within(1, u32::MAX as u64) as u32 } else { dice.pick(&[28_800_000, 28_800_000, 16_000_000]) };
+        let nominal =
+            if dice.below(4) == 0 { dice.within(1, u32::MAX as u64) as u32 } else { dice.pick(&[28_800_000, 28_800_000, 16_000_000]) };
         let tuner = Tuner::fresh(dice.below(2) as u8, nominal, dice.pick(&[0x34, 0x74]));
         let driver = Driver { board: dice.below(2) as u8, nominal, ppm: 0, frequency: dice.below(60 * MHZ), rate: 2_048_000 };
         Self { tuner: tuner.bytes(), driver: driver.bytes(), section: page::section(&[]) }
@@ -28,7 +29,7 @@ impl Receiver {
 
 /// How often each call is drawn, by its number: those with more to go wrong more often.
 pub fn pick_call(dice: &mut Dice) -> u8 {
-    const HEAVY: [(u8, u64); 9] = [(3, 22), (4, 6), (2, 3), (9, 3), (19, 6), (20, 4), (10, 2), (21, 3), (38, 3)];
+    const HEAVY: [(u8, u64); 10] = [(3, 22), (4, 6), (2, 3), (9, 3), (19, 6), (20, 4), (10, 2), (21, 3), (22, 2), (38, 3)];
     let mut at = dice.below(HEAVY.iter().map(|heavy| heavy.1).sum::<u64>() + 38);
     for (call, weight) in HEAVY {
         if at < weight {
@@ -86,7 +87,7 @@ fn damage_tuner(record: &mut Vec<u8>, dice: &mut Dice) {
         0 => record.truncate(at),
         1 => record.extend(dice.bytes(1 + at % 3)),
         2 => record[0] = dice.byte(),
-        3 => put(record, dice.pick(&[29, 33]), &[0; 4]), // a reference of 0
+        3 => put(record, dice.pick(&[29, 33]), &[0; 4]),              // a reference of 0
         4 => record[dice.pick(&[37, 50, 78, 91, 104])] = dice.byte(), // a flag
         5 => {
             let bits = dice.pick(&[0x7fc0_0000, 0x7fc0_0001, 0xffc0_0000, 0x7f80_0001, 0x7f80_0000, 0xff80_0000u32]);

@@ -75,6 +75,9 @@ fn nominal(dice: &mut Dice) -> u64 {
 }
 
 fn rate(dice: &mut Dice) -> u64 {
+    if dice.below(6) == 0 {
+        return 0;
+    }
     near(dice, &[2, 225_000, 300_000, 900_000, MHZ, 2_500_000, 6 * MHZ, 7 * MHZ, (1 << 32) - 3])
 }
 
@@ -82,8 +85,7 @@ fn xtal(dice: &mut Dice) -> u64 {
     if dice.yes() { near(dice, &[2, 28_800_000, (1 << 32) - 3]) } else { 0 }
 }
 
-const BANDS: [u64; 8] =
-    [2_200_000, 28_800_000, 85_000_000, 112_000_000, 172_000_000, 242_000_000, 250_000_000, u64::MAX - 28_800_000];
+const BANDS: [u64; 8] = [2_200_000, 28_800_000, 85_000_000, 112_000_000, 172_000_000, 242_000_000, 250_000_000, u64::MAX - 28_800_000];
 
 /// Puts edges in the place of a case's arguments. Its records are there already.
 pub fn arguments(case: &mut Case, dice: &mut Dice) {

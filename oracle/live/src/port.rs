@@ -140,8 +140,7 @@ impl Found {
 
     /// What the port answered and left, against what must come back: None if all is the same, else the first difference.
     pub fn against(&self, given: &Given, wanted: &Answer) -> Option<String> {
-        let reply =
-            Reply { value: wanted.value, index: wanted.index as u64, refusal: wanted.refusal as u32, count: wanted.count as u32 };
+        let reply = Reply { value: wanted.value, index: wanted.index as u64, refusal: wanted.refusal as u32, count: wanted.count as u32 };
         if self.reply != reply {
             return Some(format!("answered {:?}, must be {reply:?}", self.reply));
         }
@@ -155,7 +154,8 @@ impl Found {
         }
         let room = wanted.section.as_ref().unwrap_or(&wanted.answered);
         let next = if in_place { None } else { wanted.tuner.as_ref() };
-        let parts = [("room", &self.room, Some(room)), ("next tuner", &self.tuner, next), ("next driver", &self.driver, wanted.driver.as_ref())];
+        let parts =
+            [("room", &self.room, Some(room)), ("next tuner", &self.tuner, next), ("next driver", &self.driver, wanted.driver.as_ref())];
         for (name, lent, bytes) in parts {
             let bytes = bytes.map_or(&[][..], |bytes| &bytes[..]);
             if let Some(place) = lent.differs(bytes) {

@@ -54,7 +54,9 @@ fn work(call: u8, replies: Vec<u8>, entries: u32, one: unsafe fn(&mut Memory) ->
 
 unsafe fn tune(m: &mut Memory, hz: u64) -> Reply {
     let ((t, tn), (o, on), (r, rn)) = (part(&m.tuner), part(&m.outcomes), part(&m.replies));
-    unsafe { pasetone_set_frequency(t, tn, black_box(hz), o, on, r, rn, m.room.as_mut_ptr(), m.room.len(), m.next.as_mut_ptr(), m.next.len()) }
+    unsafe {
+        pasetone_set_frequency(t, tn, black_box(hz), o, on, r, rn, m.room.as_mut_ptr(), m.room.len(), m.next.as_mut_ptr(), m.next.len())
+    }
 }
 unsafe fn tune_inside(m: &mut Memory) -> Reply {
     unsafe { tune(m, 100_000_000) }
