@@ -39,30 +39,49 @@ fn time() {
     }
 }
 
-/// Tunes per second of this many threads, each over a receiver of its own: the most of several turns.
-fn tunes_per_second(threads: usize) -> f64 {
-    const TUNES: usize = 200_000;
-    let turn = || {
-        let barrier = Barrier::new(threads);
-        let times: Vec<f64> = thread::scope(|scope| {
-            let one = || {
-                let mut work = rows::rows().swap_remove(0).2;
-                barrier.wait();
-                let start = Instant::now();
-                (0..TUNES).for_each(|_| work());
-                start.elapsed().as_secs_f64()
-            };
-            let running: Vec<_> = (0..threads).map(|_| scope.spawn(one)).collect();
-            running.into_iter().map(|thread| thread.join().expect("a thread")).collect()
-        });
-        (threads * TUNES) as f64 / times.into_iter().fold(0.0, f64::max)
-    };
-    (0..15).map(|_| turn()).fold(0.0, f64::max)
+/// A loop that shares nothing with anybody: what two threads gain on this machine, as loaded as it is.
+fn control() -> Work {
+    Box::new(|| {
+        let mut word = std::hint::black_box(1u64);
+        for _ in 0..300 {
+            word = word.wrapping_mul(0x9e37_79b9_7f4a_7c15) ^ (word >> 29);
+        }
+        std::hint::black_box(word);
+    })
 }
 
+/// Calls per second of this many threads, each with work of its own.
+fn per_second(threads: usize, make: fn() -> Work) -> f64 {
+    const TIMES: usize = 100_000;
+    let barrier = Barrier::new(threads);
+    let one = || {
+        let mut work = make();
+        barrier.wait();
+        let start = Instant::now();
+        (0..TIMES).for_each(|_| work());
+        start.elapsed().as_secs_f64()
+    };
+    let times: Vec<f64> = thread::scope(|scope| {
+        let running: Vec<_> = (0..threads).map(|_| scope.spawn(one)).collect();
+        running.into_iter().map(|thread| thread.join().expect("a thread")).collect()
+    });
+    (threads * TIMES) as f64 / times.into_iter().fold(0.0, f64::max)
+}
+
+/// Two threads over two receivers against one, the most of several turns of each; the control beside it.
 fn threads() {
-    let (one, two) = (tunes_per_second(1), tunes_per_second(2));
-    println!("tunes without a lock per second: 1 thread {one:.0}, 2 threads {two:.0}: {:.2} times", two / one);
+    let tune = || rows::rows().swap_remove(0).2;
+    let works: [(&str, fn() -> Work); 2] = [("tune without lock", tune), ("control, a loop of arithmetic", control)];
+    println!("| work | 1 thread, per second | 2 threads, per second | times |");
+    println!("|---|---|---|---|");
+    for (name, make) in works {
+        let (mut one, mut two) = (0.0f64, 0.0f64);
+        for _ in 0..20 {
+            one = one.max(per_second(1, make));
+            two = two.max(per_second(2, make));
+        }
+        println!("| {name} | {one:.0} | {two:.0} | {:.2} |", two / one);
+    }
 }
 
 fn main() {
