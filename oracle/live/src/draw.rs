@@ -29,7 +29,7 @@ impl Receiver {
 
 /// How often each call is drawn, by its number: those with more to go wrong more often.
 pub fn pick_call(dice: &mut Dice) -> u8 {
-    const HEAVY: [(u8, u64); 10] = [(3, 22), (4, 6), (2, 3), (9, 3), (19, 6), (20, 4), (10, 2), (21, 3), (22, 2), (38, 3)];
+    const HEAVY: [(u8, u64); 11] = [(3, 22), (4, 6), (2, 3), (9, 3), (19, 6), (20, 4), (10, 2), (21, 3), (22, 2), (33, 3), (38, 3)];
     let mut at = dice.below(HEAVY.iter().map(|heavy| heavy.1).sum::<u64>() + 38);
     for (call, weight) in HEAVY {
         if at < weight {
@@ -83,7 +83,8 @@ fn put(record: &mut [u8], at: usize, bytes: &[u8]) {
 
 fn damage_tuner(record: &mut Vec<u8>, dice: &mut Dice) {
     let at = dice.below(record.len() as u64) as usize;
-    match dice.below(8) {
+    match dice.below(9) {
+        8 => *record = dice.bytes(record.len()),
         0 => record.truncate(at),
         1 => record.extend(dice.bytes(1 + at % 3)),
         2 => record[0] = dice.byte(),

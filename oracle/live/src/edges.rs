@@ -20,8 +20,13 @@ const ROWS: [u64; 20] = [50, 55, 60, 65, 70, 75, 80, 90, 100, 110, 120, 140, 180
 /// A lo at which something changes, taken or not, up to the end of 64 bits.
 fn lo(dice: &mut Dice, tuner: &Tuner) -> u64 {
     let m = 2 << dice.below(6);
-    match dice.below(6) {
+    match dice.below(7) {
         0 => near(dice, &RANGES),
+        6 => {
+            // Hardly any fraction: a product just above a whole N.
+            let (step, product) = (2 * tuner.corrected as u64, dice.within(1_770_000_000, 3_599_999_999));
+            (product / step * step + dice.below(4_000)).div_ceil(m)
+        }
         1 => {
             // N one less, at, and one more than the most that is taken.
             let most = if tuner.kind == 1 { 128 } else { 64 };
