@@ -50,37 +50,60 @@ fn control() -> Work {
     })
 }
 
-/// Calls per second of this many threads, each with work of its own.
-fn per_second(threads: usize, make: fn() -> Work) -> f64 {
+#[repr(C)]
+#[derive(Default)]
+struct Timespec {
+    seconds: i64,
+    nanoseconds: i64,
+}
+unsafe extern "C" {
+    fn clock_gettime(clock: i32, time: *mut Timespec) -> i32;
+}
+
+/// Processor time of the calling thread, in nanoseconds: other programs on the machine do not count in it.
+fn processor() -> f64 {
+    const CLOCK_THREAD_CPUTIME_ID: i32 = 3; // Linux
+    let mut time = Timespec::default();
+    // Safe: the pointer is to a timespec of ours.
+    let failed = unsafe { clock_gettime(CLOCK_THREAD_CPUTIME_ID, &mut time) };
+    assert_eq!(failed, 0, "the thread's clock");
+    time.seconds as f64 * 1e9 + time.nanoseconds as f64
+}
+
+/// Calls per second of this many threads, each with work of its own, and processor nanoseconds per call.
+fn measured(threads: usize, make: fn() -> Work) -> (f64, f64) {
     const TIMES: usize = 100_000;
     let barrier = Barrier::new(threads);
     let one = || {
         let mut work = make();
         barrier.wait();
-        let start = Instant::now();
+        let (start, used) = (Instant::now(), processor());
         (0..TIMES).for_each(|_| work());
-        start.elapsed().as_secs_f64()
+        (start.elapsed().as_secs_f64(), (processor() - used) / TIMES as f64)
     };
-    let times: Vec<f64> = thread::scope(|scope| {
+    let times: Vec<(f64, f64)> = thread::scope(|scope| {
         let running: Vec<_> = (0..threads).map(|_| scope.spawn(one)).collect();
         running.into_iter().map(|thread| thread.join().expect("a thread")).collect()
     });
-    (threads * TIMES) as f64 / times.into_iter().fold(0.0, f64::max)
+    let longest = times.iter().map(|time| time.0).fold(0.0, f64::max);
+    ((threads * TIMES) as f64 / longest, times.iter().map(|time| time.1).sum::<f64>() / threads as f64)
 }
 
-/// Two threads over two receivers against one, the most of several turns of each; the control beside it.
+/// Two threads over two receivers against one, the best of several turns of each; the control beside it.
 fn threads() {
     let tune = || rows::rows().swap_remove(0).2;
     let works: [(&str, fn() -> Work); 2] = [("tune without lock", tune), ("control, a loop of arithmetic", control)];
-    println!("| work | 1 thread, per second | 2 threads, per second | times |");
-    println!("|---|---|---|---|");
+    println!("| work | per second, 1 thread | 2 threads | times | processor ns per call, 1 thread | 2 threads |");
+    println!("|---|---|---|---|---|---|");
     for (name, make) in works {
-        let (mut one, mut two) = (0.0f64, 0.0f64);
-        for _ in 0..20 {
-            one = one.max(per_second(1, make));
-            two = two.max(per_second(2, make));
+        let mut best = [(0.0f64, f64::MAX); 2];
+        for turn in 0..60 {
+            let threads = turn % 2;
+            let (rate, used) = measured(threads + 1, make);
+            best[threads] = (best[threads].0.max(rate), best[threads].1.min(used));
         }
-        println!("| {name} | {one:.0} | {two:.0} | {:.2} |", two / one);
+        let [(one, alone), (two, beside)] = best;
+        println!("| {name} | {one:.0} | {two:.0} | {:.2} | {alone:.0} | {beside:.0} |", two / one);
     }
 }
 
