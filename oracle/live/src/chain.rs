@@ -53,9 +53,9 @@ impl Host {
         let mut receiver = Receiver::fresh(dice);
         let kind = dice.below(2);
         let made = Given::exact(Case { call: 1, a: kind, b: 28_800_000, c: address as u64, ..Case::default() });
-        receiver.tuner = port::call(&made).next_tuner(&made).expect("a fresh record").to_vec();
+        receiver.tuner = port::call(&made).tuner_after(&made).expect("a fresh record").to_vec();
         let made = Given::exact(Case { call: 16, a: 28_800_000, b: 7_000_000, c: dice.below(2), e: 2_048_000, ..Case::default() });
-        receiver.driver = port::call(&made).next_driver(&made).expect("a fresh record").to_vec();
+        receiver.driver = port::call(&made).driver_after(&made).expect("a fresh record").to_vec();
         Self { receiver, chip: Chip { address, bytes: std::array::from_fn(|_| dice.byte()), last: [None; 27] } }
     }
 
@@ -107,10 +107,10 @@ pub fn chain(length: u64, wrong: Wrong, dice: &mut Dice, tally: &mut Tally, done
         for host in &mut hosts {
             host.chip.play(&made, wrong, dice);
         }
-        if let Some(bytes) = found.next_tuner(&given) {
+        if let Some(bytes) = found.tuner_after(&given) {
             hosts[at].receiver.tuner = bytes.to_vec();
         }
-        if let (19, Some(bytes)) = (given.case.call, found.next_driver(&given)) {
+        if let (19, Some(bytes)) = (given.case.call, found.driver_after(&given)) {
             hosts[at].receiver.driver = bytes.to_vec();
         }
         let what = || format!("{:02x?}", given.case);

@@ -210,6 +210,13 @@ fn lengths(given: &mut Given, dice: &mut Dice) {
     if hands_driver(call) && dice.below(3) == 0 {
         given.next_driver += dice.below(12) as usize;
     }
+    if dice.below(30) == 0 {
+        // Far more than is asked for.
+        given.case.room += dice.below(2_000) as usize;
+        given.case.outcomes.resize(given.case.outcomes.len() + 300, dice.byte());
+        given.case.replies.resize(given.case.replies.len() + 300, dice.byte());
+        given.next_tuner += if hands_tuner(call) { 300 } else { 0 };
+    }
     if dice.below(5) != 0 {
         return;
     }

@@ -38,15 +38,15 @@ impl Given {
     }
 }
 
-/// Memory lent for an answer, in the middle of more memory of ours that is not lent.
+/// Memory that a call is given or lent, in the middle of more memory of ours that it is not. The margin's width varies, so
+/// that slices start at any address.
 #[derive(Debug, Clone)]
 pub struct Lent {
     bytes: Vec<u8>,
+    margin: usize,
     length: usize,
     fill: u8,
 }
-
-const MARGIN: usize = 24;
 
 /// No two bytes near each other are the same, so that a shifted write is seen.
 fn pattern(fill: u8, at: usize) -> u8 {
@@ -54,31 +54,39 @@ fn pattern(fill: u8, at: usize) -> u8 {
 }
 
 impl Lent {
+    /// For an answer: the pattern all over.
     pub fn new(length: usize, fill: u8) -> Self {
-        Self { bytes: (0..length + 2 * MARGIN).map(|at| pattern(fill, at)).collect(), length, fill }
+        let margin = 16 + fill as usize % 16;
+        Self { bytes: (0..length + 2 * margin).map(|at| pattern(fill, at)).collect(), margin, length, fill }
+    }
+    /// Given bytes, and the pattern beside them.
+    pub fn holding(given: &[u8], fill: u8) -> Self {
+        let mut all = Self::new(given.len(), fill);
+        all.lent_mut().copy_from_slice(given);
+        all
     }
     pub fn slice(&mut self) -> (*mut u8, usize) {
-        (self.bytes[MARGIN..].as_mut_ptr(), self.length)
+        (self.lent_mut().as_mut_ptr(), self.length)
     }
     pub fn lent(&self) -> &[u8] {
-        &self.bytes[MARGIN..MARGIN + self.length]
+        &self.bytes[self.margin..self.margin + self.length]
     }
     /// To spoil a byte, for the check of the checks.
     pub fn lent_mut(&mut self) -> &mut [u8] {
-        &mut self.bytes[MARGIN..MARGIN + self.length]
+        &mut self.bytes[self.margin..self.margin + self.length]
     }
     /// The memory behind the lent part.
     pub fn margin_mut(&mut self) -> &mut [u8] {
-        &mut self.bytes[MARGIN + self.length..]
+        &mut self.bytes[self.margin + self.length..]
     }
-    /// The first byte that is neither `answer`, at the start of the lent part, nor what stood there before the call.
-    /// Counted from the start of the lent part; below 0 and from its length on is memory that was not lent.
+    /// The first byte that is neither `answer`, at the start of the lent part, nor the pattern. Counted from the start of the
+    /// lent part; below 0 and from its length on is memory that was not lent.
     pub fn differs(&self, answer: &[u8]) -> Option<i64> {
-        let wanted = |at: usize| match at.checked_sub(MARGIN).and_then(|place| answer.get(place)) {
+        let wanted = |at: usize| match at.checked_sub(self.margin).and_then(|place| answer.get(place)) {
             Some(&byte) => byte,
             None => pattern(self.fill, at),
         };
         let place = (0..self.bytes.len()).find(|&at| self.bytes[at] != wanted(at))?;
-        Some(place as i64 - MARGIN as i64)
+        Some(place as i64 - self.margin as i64)
     }
 }

@@ -4,50 +4,54 @@ use crate::given::{Given, Lent, in_place};
 use harness::case::{Answer, Case};
 use harness::records::{DRIVER, TUNER};
 
-/// The answer, and every byte that the call was given or lent.
+/// The answer, and every byte that the call was given or lent, as the call left it.
 #[derive(Debug, Clone)]
 pub struct Found {
     pub reply: Reply,
     /// The room, or the slice lent for answered bytes.
     pub room: Lent,
+    pub next_tuner: Lent,
+    pub next_driver: Lent,
+    /// What was given; the tuner's record lies here where it is changed in place.
     pub tuner: Lent,
     pub driver: Lent,
-    /// The given slices afterwards; the tuner's record lies here where it is changed in place.
-    pub given: Case,
+    pub outcomes: Lent,
+    pub replies: Lent,
+    pub input: Lent,
 }
 
 pub fn call(given: &Given) -> Found {
-    let mut after = given.case.clone();
-    let mut room = Lent::new(given.case.room, given.fill);
-    let mut tuner = Lent::new(given.next_tuner, given.fill ^ 0x3c);
-    let mut driver = Lent::new(given.next_driver, given.fill ^ 0xc3);
-    let lent = Slices { room: room.slice(), tuner: tuner.slice(), driver: driver.slice() };
-    let reply = match given.case.call {
-        1 | 10..=18 => without_steps(&mut after, &lent),
-        2..=9 | 19 | 20 => on_record(&after, &lent),
-        21..=32 => on_interface(&after, &lent),
-        _ => leaf(&after, &lent),
+    let (case, fill) = (&given.case, given.fill);
+    let mut found = Found {
+        reply: Reply::default(),
+        room: Lent::new(case.room, fill),
+        next_tuner: Lent::new(given.next_tuner, fill ^ 0x3c),
+        next_driver: Lent::new(given.next_driver, fill ^ 0xc3),
+        tuner: Lent::holding(&case.tuner, fill ^ 0x55),
+        driver: Lent::holding(&case.driver, fill ^ 0x66),
+        outcomes: Lent::holding(&case.outcomes, fill ^ 0x77),
+        replies: Lent::holding(&case.replies, fill ^ 0x88),
+        input: Lent::holding(&case.input, fill ^ 0x99),
     };
-    Found { reply, room, tuner, driver, given: after }
-}
-
-struct Slices {
-    room: (*mut u8, usize),
-    tuner: (*mut u8, usize),
-    driver: (*mut u8, usize),
+    found.reply = match case.call {
+        1 | 10..=18 => without_steps(case, &mut found),
+        2..=9 | 19 | 20 => on_record(case, &mut found),
+        21..=32 => on_interface(case, &mut found),
+        _ => leaf(case, &mut found),
+    };
+    found
 }
 
 // Safe, here and below: every pointer comes with the length of memory that is alive and not shared for the call.
 
-fn without_steps(c: &mut Case, lent: &Slices) -> Reply {
-    let (own, tn) = (c.tuner.as_mut_ptr(), c.tuner.len());
-    let (t, (d, dn)) = (own as *const u8, (c.driver.as_ptr(), c.driver.len()));
-    let ((m, mn), (n, nn), (q, qn)) = (lent.room, lent.tuner, lent.driver);
+fn without_steps(c: &Case, f: &mut Found) -> Reply {
+    let ((t, tn), (d, dn)) = (f.tuner.slice(), f.driver.slice());
+    let ((m, mn), (n, nn), (q, qn)) = (f.room.slice(), f.next_tuner.slice(), f.next_driver.slice());
     unsafe {
         match c.call {
             1 => pasetone_tuner_new(c.a, c.c as u8, c.b, n, nn),
-            10 => pasetone_set_ppm(own, tn, c.d as i32),
-            11 => pasetone_apply_notch(own, tn, c.a as u8),
+            10 => pasetone_set_ppm(t, tn, c.d as i32),
+            11 => pasetone_apply_notch(t, tn, c.a as u8),
             12 => pasetone_update_shadow(t, tn, c.a as u8, c.b as u8, c.c as u8, n, nn),
             13 => pasetone_get_gain(t, tn),
             14 => pasetone_get_if_freq(t, tn),
@@ -59,10 +63,10 @@ fn without_steps(c: &mut Case, lent: &Slices) -> Reply {
     }
 }
 
-fn on_record(c: &Case, lent: &Slices) -> Reply {
-    let ((t, tn), (d, dn)) = ((c.tuner.as_ptr(), c.tuner.len()), (c.driver.as_ptr(), c.driver.len()));
-    let ((o, on), (r, rn)) = ((c.outcomes.as_ptr(), c.outcomes.len()), (c.replies.as_ptr(), c.replies.len()));
-    let ((m, mn), (n, nn), (q, qn)) = (lent.room, lent.tuner, lent.driver);
+fn on_record(c: &Case, f: &mut Found) -> Reply {
+    let ((t, tn), (d, dn)) = (f.tuner.slice(), f.driver.slice());
+    let ((o, on), (r, rn)) = (f.outcomes.slice(), f.replies.slice());
+    let ((m, mn), (n, nn), (q, qn)) = (f.room.slice(), f.next_tuner.slice(), f.next_driver.slice());
     unsafe {
         match c.call {
             2 => pasetone_initialize(t, tn, o, on, m, mn, n, nn),
@@ -79,9 +83,8 @@ fn on_record(c: &Case, lent: &Slices) -> Reply {
     }
 }
 
-fn on_interface(c: &Case, lent: &Slices) -> Reply {
-    let ((o, on), (r, rn)) = ((c.outcomes.as_ptr(), c.outcomes.len()), (c.replies.as_ptr(), c.replies.len()));
-    let (m, mn) = lent.room;
+fn on_interface(c: &Case, f: &mut Found) -> Reply {
+    let ((o, on), (r, rn), (m, mn)) = (f.outcomes.slice(), f.replies.slice(), f.room.slice());
     unsafe {
         match c.call {
             21 => pasetone_init_baseband(o, on, m, mn),
@@ -100,8 +103,8 @@ fn on_interface(c: &Case, lent: &Slices) -> Reply {
     }
 }
 
-fn leaf(c: &Case, lent: &Slices) -> Reply {
-    let ((i, n), (m, mn)) = ((c.input.as_ptr(), c.input.len()), lent.room);
+fn leaf(c: &Case, f: &mut Found) -> Reply {
+    let ((i, n), (m, mn)) = (f.input.slice(), f.room.slice());
     unsafe {
         match c.call {
             33 => pasetone_plan_tuning(c.c as u8, c.a, m, mn),
@@ -125,12 +128,12 @@ impl Found {
         self.room.lent().get(..16 * self.reply.count as usize + 8)
     }
     /// The record handed back, if the call has written one.
-    pub fn next_tuner(&self, given: &Given) -> Option<&[u8]> {
-        let here = if in_place(given.case.call) { &self.given.tuner } else { self.tuner.lent().get(..TUNER)? };
+    pub fn tuner_after(&self, given: &Given) -> Option<&[u8]> {
+        let here = if in_place(given.case.call) { self.tuner.lent() } else { self.next_tuner.lent().get(..TUNER)? };
         self.written(given).then_some(here)
     }
-    pub fn next_driver(&self, given: &Given) -> Option<&[u8]> {
-        let here = self.driver.lent().get(..DRIVER)?;
+    pub fn driver_after(&self, given: &Given) -> Option<&[u8]> {
+        let here = self.next_driver.lent().get(..DRIVER)?;
         self.written(given).then_some(here)
     }
     /// Done, or stopped after steps: records are handed back then, and only then.
@@ -144,24 +147,21 @@ impl Found {
         if self.reply != reply {
             return Some(format!("answered {:?}, must be {reply:?}", self.reply));
         }
-        let mut kept = given.case.clone();
-        let in_place = in_place(kept.call);
-        if let (true, Some(bytes)) = (in_place, &wanted.tuner) {
-            kept.tuner = bytes.clone();
-        }
-        if self.given != kept {
-            return Some(format!("a given slice is {:02x?}, must be {kept:02x?}", self.given));
-        }
+        let case = &given.case;
         let room = wanted.section.as_ref().unwrap_or(&wanted.answered);
-        let next = if in_place { None } else { wanted.tuner.as_ref() };
-        let parts =
-            [("room", &self.room, Some(room)), ("next tuner", &self.tuner, next), ("next driver", &self.driver, wanted.driver.as_ref())];
-        for (name, lent, bytes) in parts {
-            let bytes = bytes.map_or(&[][..], |bytes| &bytes[..]);
-            if let Some(place) = lent.differs(bytes) {
-                return Some(format!("{name}, byte {place}: holds {:02x?}, must be {bytes:02x?} and else as it was", lent.lent()));
-            }
-        }
-        None
+        let (record, changed) = (wanted.tuner.as_deref(), in_place(case.call));
+        let parts = [
+            ("room", &self.room, &room[..]),
+            ("next tuner record", &self.next_tuner, record.filter(|_| !changed).unwrap_or(&[])),
+            ("next driver record", &self.next_driver, wanted.driver.as_deref().unwrap_or(&[])),
+            ("given tuner record", &self.tuner, record.filter(|_| changed).unwrap_or(&case.tuner)),
+            ("given driver record", &self.driver, &case.driver),
+            ("given outcomes", &self.outcomes, &case.outcomes),
+            ("given replies", &self.replies, &case.replies),
+            ("given input", &self.input, &case.input),
+        ];
+        let (name, lent, bytes, place) =
+            parts.into_iter().find_map(|(name, lent, bytes)| Some((name, lent, bytes, lent.differs(bytes)?)))?;
+        Some(format!("{name}, byte {place}: holds {:02x?}, must be {bytes:02x?} and else as it was", lent.lent()))
     }
 }

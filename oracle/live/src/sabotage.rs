@@ -76,7 +76,7 @@ impl Wrong {
 
 /// Flips a bit of the record handed back, if the slice for it is that long.
 fn flip(found: &mut Found, at: usize, bit: u8) {
-    if let Some(byte) = found.tuner.lent_mut().get_mut(..TUNER).and_then(|record| record.get_mut(at)) {
+    if let Some(byte) = found.next_tuner.lent_mut().get_mut(..TUNER).and_then(|record| record.get_mut(at)) {
         *byte ^= bit;
     }
 }
@@ -106,22 +106,23 @@ pub fn spoiled(found: &Found, how: usize) -> Option<(&'static str, Found)> {
             let past = 16 * found.reply.count as usize + 8;
             spoil_byte(next.room.lent_mut(), past, "byte behind the section")?
         }
-        6 => spoil_byte(next.tuner.lent_mut(), 104, "last byte of the next tuner record")?,
-        7 => spoil_byte(next.tuner.lent_mut(), 105, "byte behind the next tuner record")?,
-        8 => spoil_byte(next.driver.lent_mut(), 20, "last byte of the next driver record")?,
-        9 => spoil_byte(next.driver.lent_mut(), 21, "byte behind the next driver record")?,
-        10 => spoil_byte(&mut next.given.outcomes, 0, "given outcome")?,
-        11 => spoil_byte(&mut next.given.replies, 0, "given reply")?,
-        12 => spoil_byte(&mut next.given.tuner, 37, "given tuner record")?,
-        13 => spoil_byte(&mut next.given.driver, 5, "given driver record")?,
-        14 => spoil_byte(&mut next.given.input, 0, "given input")?,
+        6 => spoil_byte(next.next_tuner.lent_mut(), 104, "last byte of the next tuner record")?,
+        7 => spoil_byte(next.next_tuner.lent_mut(), 105, "byte behind the next tuner record")?,
+        8 => spoil_byte(next.next_driver.lent_mut(), 20, "last byte of the next driver record")?,
+        9 => spoil_byte(next.next_driver.lent_mut(), 21, "byte behind the next driver record")?,
+        10 => spoil_byte(next.outcomes.lent_mut(), 0, "given outcome")?,
+        11 => spoil_byte(next.replies.lent_mut(), 0, "given reply")?,
+        12 => spoil_byte(next.tuner.lent_mut(), 37, "given tuner record")?,
+        13 => spoil_byte(next.driver.lent_mut(), 5, "given driver record")?,
+        14 => spoil_byte(next.input.lent_mut(), 0, "given input")?,
         15 => spoil_byte(next.room.margin_mut(), 0, "byte behind the lent room")?,
-        _ => spoil_byte(next.tuner.margin_mut(), 0, "byte behind the slice for the next tuner record")?,
+        16 => spoil_byte(next.next_tuner.margin_mut(), 0, "byte behind the slice for the next tuner record")?,
+        _ => spoil_byte(next.tuner.margin_mut(), 0, "byte behind the given tuner record")?,
     };
     Some((name, next))
 }
 
-pub const SPOILS: usize = 17;
+pub const SPOILS: usize = 18;
 
 fn spoil_byte(bytes: &mut [u8], at: usize, name: &'static str) -> Option<&'static str> {
     *bytes.get_mut(at)? ^= 0x80;

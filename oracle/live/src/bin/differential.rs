@@ -37,11 +37,11 @@ fn class(given: &Given, wanted: &Answer, tally: &mut Tally) -> Class {
 
 /// The records that the port handed back, if the call was given the receiver's own or made new ones.
 fn hand_on(receiver: &mut Receiver, given: &Given, found: &Found) {
-    let (case, next) = (&given.case, found.next_tuner(given));
+    let (case, next) = (&given.case, found.tuner_after(given));
     if let Some(bytes) = next.filter(|_| case.tuner == receiver.tuner || case.call == 1) {
         receiver.tuner = bytes.to_vec();
     }
-    let next = found.next_driver(given);
+    let next = found.driver_after(given);
     if let Some(bytes) = next.filter(|_| case.driver == receiver.driver || case.call == 16) {
         receiver.driver = bytes.to_vec();
     }
