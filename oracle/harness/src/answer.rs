@@ -107,7 +107,7 @@ fn lent(case: &Case, given: &Given) -> Option<u8> {
 }
 
 /// The answer of a run with steps.
-fn stepped(result: Result<u64>, entries: &[Entry], by: By) -> Answer {
+pub fn stepped(result: Result<u64>, entries: &[Entry], by: By) -> Answer {
     let mut answer = Answer { by, count: entries.len(), section: Some(page::section(entries)), ..Answer::default() };
     match result {
         Ok(value) => answer.value = value,
@@ -165,7 +165,7 @@ const LARGE: u64 = 1 << 58;
 /// Below this the distance to the largest step is past 31 bits.
 const LEAST: i32 = 496 - i32::MAX;
 
-fn call(chip: &R82xx, case: &Case, given: &Tuner) -> Result<u64> {
+pub fn call(chip: &R82xx, case: &Case, given: &Tuner) -> Result<u64> {
     match case.call {
         2 => chip.initialize().map(|()| 0),
         3 => chip.set_frequency(case.a),
@@ -265,7 +265,7 @@ fn on_interface(case: &Case) -> Answer {
     stepped(result.map(|()| 0), &entries, By::Rust)
 }
 
-fn sixteen(input: &[u8]) -> [i32; 16] {
+pub fn sixteen(input: &[u8]) -> [i32; 16] {
     assert_eq!(input.len(), 64, "sixteen values");
     std::array::from_fn(|i| i32::from_le_bytes(input[4 * i..4 * i + 4].try_into().unwrap()))
 }

@@ -13,7 +13,7 @@ pub fn entries(answer: &Answer) -> Vec<Entry> {
 }
 
 /// An entry without its outcome and without a read's data: what cut and uncut calls share.
-fn bare(entry: &Entry) -> Entry {
+pub fn bare(entry: &Entry) -> Entry {
     let mut entry = *entry;
     entry[1] = 0;
     if entry[0] == 3 || entry[0] == 8 {

@@ -8,5 +8,6 @@ pub mod judge;
 pub mod page;
 pub mod records;
 pub mod run;
+pub mod speed;
 pub mod steps;
 pub mod tally;

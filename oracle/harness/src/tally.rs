@@ -4,6 +4,8 @@
 pub struct Tally {
     pub checks: u64,
     pub faults: u64,
+    /// Faults are looked for (a check of the checks) and not printed.
+    pub silent: bool,
 }
 
 impl Tally {
@@ -11,7 +13,7 @@ impl Tally {
         self.checks += 1;
         if !holds {
             self.faults += 1;
-            if self.faults <= 20 {
+            if self.faults <= 20 && !self.silent {
                 println!("FAULT {:.400}", what());
             }
         }

@@ -1,0 +1,93 @@
+//! What the speed of the original is measured on: one row for each call, its work over the recorder, and the clock.
+//! Every row has a twin without the original: the same count of entries put into the recorder by hand.
+use crate::cases::replies_for;
+use crate::records::{Driver, Tuner};
+use crate::run::{self, block_on};
+use original::demod;
+use original::tuner::Tuner as Calls;
+use rusb::rec;
+use std::hint::black_box;
+use std::sync::Arc;
+use std::time::Instant;
+
+const ROUNDS: usize = 2_000;
+const CALLS: usize = 1_000;
+
+pub type Work = Box<dyn FnMut()>;
+
+/// Name, entries, the call with its script, the replies of that script.
+pub fn rows() -> Vec<(&'static str, usize, Work)> {
+    let record = Tuner::fresh(1, 28_800_000, 0x74);
+    let chip = || Arc::new(run::chip(&record));
+    let given = Driver { board: 1, nominal: 28_800_000, ppm: 0, frequency: 7_000_000, rate: 0 };
+    let (a, b, c, d, e) = (chip(), chip(), chip(), chip(), chip());
+    let mut driver = run::driver(chip(), 1, &given);
+    let tune = |chip: Arc<original::tuners::r82xx::R82xx>, replies: Vec<u8>, hz: u64| -> Work {
+        Box::new(move || {
+            rec::begin(&[], &replies);
+            let _ = black_box(chip.set_frequency(black_box(hz)));
+        })
+    };
+    vec![
+        ("tune-no-lock", 53, tune(a, replies_for(0, None, 0), 100_000_000)),
+        ("tune-lock-at-once", 25, tune(b, replies_for(0, Some(0), 0), 100_000_000)),
+        ("tune-refused", 13, tune(c, vec![], 1_900_000_000)),
+        (
+            "gain",
+            7,
+            Box::new(move || {
+                rec::begin(&[], &[]);
+                let _ = black_box(d.set_gain(black_box(32.8)));
+            }),
+        ),
+        (
+            "sample-rate",
+            17,
+            Box::new(move || {
+                rec::begin(&[], &[]);
+                let _ = black_box(block_on(driver.set_sample_rate(black_box(2_048_000))));
+            }),
+        ),
+        (
+            "initialise",
+            19,
+            Box::new(move || {
+                rec::begin(&[], &[]);
+                let _ = black_box(e.initialize());
+            }),
+        ),
+        (
+            "baseband",
+            45,
+            Box::new(move || {
+                rec::begin(&[], &[]);
+                let _ = black_box(demod::init_baseband(run::usb().as_hw()));
+            }),
+        ),
+    ]
+}
+
+/// The recorder's own share: begin, then `n` entries of two bytes with one transfer each.
+pub fn alone(n: usize) -> Work {
+    Box::new(move || {
+        rec::begin(&[], &[]);
+        for _ in 0..black_box(n) {
+            let step = rec::step(2, 0x74, 2, 0, black_box(&[0x10, 0x0f]));
+            let _ = black_box(rec::write(0x40, 0, 0x74, 0x0610, black_box(&[0x10, 0x0f])));
+            drop(step);
+        }
+    })
+}
+
+/// Nanoseconds per call, the minimum over the rounds.
+pub fn least(work: &mut Work) -> f64 {
+    let mut best = f64::MAX;
+    for _ in 0..ROUNDS {
+        let start = Instant::now();
+        for _ in 0..CALLS {
+            work();
+        }
+        best = best.min(start.elapsed().as_nanos() as f64 / CALLS as f64);
+    }
+    best
+}

@@ -1,0 +1,71 @@
+//! The archive's functions as C has them: a slice is two arguments, pointer and length.
+
+/// What most calls answer. Refusal 0 is done, else document 01's number.
+#[repr(C)]
+#[derive(Debug, Clone, Copy, Default, PartialEq, Eq)]
+pub struct Reply {
+    pub value: u64,
+    pub index: u64,
+    pub refusal: u32,
+    pub count: u32,
+}
+
+/// Tune's answer: a type of its own in C, with the same fields.
+pub type TuneReply = Reply;
+
+/// What the section reader answers.
+#[repr(C)]
+#[derive(Debug, Clone, Copy, Default, PartialEq, Eq)]
+pub struct Section {
+    pub start: u64,
+    pub count: u64,
+    pub refusal: u32,
+    pub zero: u32,
+}
+
+type In = *const u8;
+type Out = *mut u8;
+type N = usize;
+
+#[rustfmt::skip]
+unsafe extern "C" {
+    pub fn pasetone_version() -> u32;
+    pub fn pasetone_tuner_new(kind: u64, address: u8, nominal: u64, next: Out, nn: N) -> Reply;
+    pub fn pasetone_driver_new(board: u64, nominal: u64, ppm: i32, frequency: u64, rate: u32, next: Out, nn: N) -> Reply;
+    pub fn pasetone_initialize(tuner: In, tn: N, outcomes: In, on: N, room: Out, mn: N, next: Out, nn: N) -> Reply;
+    pub fn pasetone_set_frequency(tuner: In, tn: N, hz: u64, outcomes: In, on: N, replies: In, rn: N, room: Out, mn: N, next: Out, nn: N) -> TuneReply;
+    pub fn pasetone_set_gain(tuner: In, tn: N, db: f32, outcomes: In, on: N, room: Out, mn: N, next: Out, nn: N) -> Reply;
+    pub fn pasetone_set_gain_by_index(tuner: In, tn: N, index: u64, outcomes: In, on: N, room: Out, mn: N, next: Out, nn: N) -> Reply;
+    pub fn pasetone_set_bandwidth(tuner: In, tn: N, hz: u32, outcomes: In, on: N, room: Out, mn: N, next: Out, nn: N) -> Reply;
+    pub fn pasetone_set_if_freq(tuner: In, tn: N, hz: u64, outcomes: In, on: N, room: Out, mn: N, next: Out, nn: N) -> Reply;
+    pub fn pasetone_set_input_path(tuner: In, tn: N, path: u8, outcomes: In, on: N, room: Out, mn: N, next: Out, nn: N) -> Reply;
+    pub fn pasetone_reload(tuner: In, tn: N, outcomes: In, on: N, room: Out, mn: N, next: Out, nn: N) -> Reply;
+    pub fn pasetone_update_shadow(tuner: In, tn: N, register: u8, value: u8, mask: u8, next: Out, nn: N) -> Reply;
+    pub fn pasetone_get_gain(tuner: In, tn: N) -> Reply;
+    pub fn pasetone_get_if_freq(tuner: In, tn: N) -> Reply;
+    pub fn pasetone_get_gain_table(tuner: In, tn: N, out: Out, mn: N) -> Reply;
+    pub fn pasetone_set_ppm(tuner: Out, tn: N, ppm: i32) -> Reply;
+    pub fn pasetone_apply_notch(tuner: Out, tn: N, on: u8) -> Reply;
+    pub fn pasetone_driver_set_ppm(driver: In, dn: N, ppm: i32, next: Out, nn: N) -> Reply;
+    pub fn pasetone_corrected_xtal_hz(driver: In, dn: N) -> Reply;
+    pub fn pasetone_set_sample_rate(driver: In, dn: N, tuner: In, tn: N, rate: u32, outcomes: In, on: N, room: Out, mn: N, next_driver: Out, qn: N, next_tuner: Out, nn: N) -> Reply;
+    pub fn pasetone_apply_input_path(tuner: In, tn: N, path: u8, outcomes: In, on: N, replies: In, rn: N, room: Out, mn: N, next: Out, nn: N) -> Reply;
+    pub fn pasetone_init_baseband(outcomes: In, on: N, room: Out, mn: N) -> Reply;
+    pub fn pasetone_power_on(outcomes: In, on: N, room: Out, mn: N) -> Reply;
+    pub fn pasetone_reset_demod(outcomes: In, on: N, room: Out, mn: N) -> Reply;
+    pub fn pasetone_set_tuner_low_if(outcomes: In, on: N, room: Out, mn: N) -> Reply;
+    pub fn pasetone_set_tuner_zero_if(outcomes: In, on: N, room: Out, mn: N) -> Reply;
+    pub fn pasetone_start_streaming(outcomes: In, on: N, room: Out, mn: N) -> Reply;
+    pub fn pasetone_stop_streaming(outcomes: In, on: N, room: Out, mn: N) -> Reply;
+    pub fn pasetone_write_reg_direct(page: u8, address: u16, value: u8, outcomes: In, on: N, room: Out, mn: N) -> Reply;
+    pub fn pasetone_set_if_freq_xtal(hz: u32, xtal: u32, outcomes: In, on: N, room: Out, mn: N) -> Reply;
+    pub fn pasetone_set_sample_rate_xtal(rate: u32, xtal: u32, outcomes: In, on: N, room: Out, mn: N) -> Reply;
+    pub fn pasetone_set_gpio_output(gpio: u8, outcomes: In, on: N, replies: In, rn: N, room: Out, mn: N) -> Reply;
+    pub fn pasetone_set_gpio_bit(gpio: u8, value: u8, outcomes: In, on: N, replies: In, rn: N, room: Out, mn: N) -> Reply;
+    pub fn pasetone_plan_tuning(board: u8, hz: u64, out: Out, mn: N) -> Reply;
+    pub fn pasetone_if_freq_regs(hz: u32, xtal: u32, out: Out, mn: N) -> Reply;
+    pub fn pasetone_resample_regs(rate: u32, xtal: u32, out: Out, mn: N) -> Reply;
+    pub fn pasetone_pack_fir(values: In, vn: N, out: Out, mn: N) -> Reply;
+    pub fn pasetone_unpack_fir(bytes: In, bn: N, out: Out, mn: N) -> Reply;
+    pub fn pasetone_read_section(bytes: In, bn: N) -> Section;
+}
