@@ -1,9 +1,11 @@
 -- Document 01's list, "Per call, the most entries": no run makes more (`most-entries`), and for each call some run makes as many (`reached`).
 -- Assumes nothing.
 use Prim.Native.Nat.{ℕ, _+_, _*_, _≤_}
-use mathlib.Core.Path.{_≡_, refl}
-use mathlib.Core.List.{List, []}
+use mathlib.Core.Path.{_≡_, refl, ap, _∙_}
+use mathlib.Core.Bool.{Bool}
+use mathlib.Core.List.{List, [], _++_}
 use native.Mathlib.Omega.{arith}
+use borrow.Author.Tests.{eq-eqb}
 use lib.Ieee.{binary32, ofBits}
 use lib.IntN.{pos}
 use lib.ListN.{length, replicate}
@@ -12,20 +14,26 @@ use Rattle.board.specs.declared.PathRead.the-variants as path-read
 use Rattle.board.specs.declared.Board.the-variants.{Generic}
 use Rattle.board.specs.Numbers.{pathOf}
 use Rattle.board.specs.Plans.{planOf}
-use Rattle.chip.specs.Calls.{lentOf}
-use Rattle.chip.specs.Steps.{run, step, trace}
+use Rattle.chip.specs.declared.Answer.{Answer}
+use Rattle.chip.specs.declared.Answer.the-variants.{Refused}
+use Rattle.chip.specs.declared.Chip.{Chip}
+use Rattle.chip.specs.declared.Went.the-variants.{Going}
+use Rattle.chip.specs.Calls.{Called, answerOf, callOf, lentOf, lockedIn, performed, triesIn}
+use Rattle.chip.specs.Steps.{Step, Trace, run, step, trace}
 use Rattle.pll.specs.declared.Kind.{Kind}
 use Rattle.pll.specs.declared.Kind.the-variants.{R820T, R828D}
+use Rattle.pll.specs.declared.Pll.{Pll}
+use Rattle.pll.specs.declared.Pll.the-variants as pll-variants
 use Rattle.pll.specs.Divide.{firstOf, inVco}
 use Rattle.pll.specs.Fraction.{turnOf, turnsOf}
 use Rattle.pll.specs.Plan.{planOf as pllOf, planWith}
 use Rattle.pll.specs.Setting.{settingOf}
 use Rattle.status.specs.Reversal.{reversed}
-use Rattle.tuning.specs.Program.{innerSteps}
+use Rattle.tuning.specs.Program.{innerSteps, tuneSteps}
 use Rattle.tuning.specs.Tries.{repairUpdates, triesFrom}
 use Rattle.r82xx.specs.declared.Tuner.{Tuner}
-use Rattle.r82xx.specs.Record.{freshTuner}
-use Rattle.r82xx.specs.Calls.{planFor}
+use Rattle.r82xx.specs.Record.{freshTuner, lockBy, withChip, withLock}
+use Rattle.r82xx.specs.Calls.{hzRefusal, planFor, refusalOf, tuneCall, wholeOf}
 use Rattle.driver.specs.Record.{driver, xtalBy, xtalOf}
 use Rattle.driver.proofs.Lengths.{sample-rate-length}
 use Rattle.driver.specs.Programs.{ifFor}
@@ -149,3 +157,40 @@ direction-reached = refl
 pub bit-reached : length (asideEntries (lentAside (Bit 5 1 (replicate 1 0)))) ≡ asideMost (Bit 5 1 (replicate 1 0))
 unfolding trace run step lentOf bitSteps
 bit-reached = refl
+
+-- ---- "A PLL refusal comes after the mux: all done, it leaves 13 entries (open, 11 writes, close)"
+
+-- whatever the chip, the notch and the range: the steps are open, the mux's writes, close
+thirteen : (address hz : ℕ) (kind : Kind) (notch : Bool) (rs os : List ℕ) (c : Chip) → length (trace (replicate 13 0 ++ os) (tuneSteps address kind notch pll-variants.Refused hz rs) c .log) ≡ 13
+unfolding trace run step innerSteps
+thirteen address hz kind notch rs os c = refl
+
+none-failed : (address hz : ℕ) (kind : Kind) (notch : Bool) (rs os : List ℕ) (c : Chip) → trace (replicate 13 0 ++ os) (tuneSteps address kind notch pll-variants.Refused hz rs) c .went ≡ Going
+unfolding trace run step innerSteps
+none-failed address hz kind notch rs os c = refl
+
+-- a tuning by its plan
+abbrev byPlan : Tuner → ℕ → List ℕ → List ℕ → List ℕ → Pll → Called Tuner
+byPlan t hz os rs room plan =
+    callOf (refusalOf t (hzRefusal hz (t .ifreq)) 53 35 (length room) (length os) (length rs)) (wholeOf plan hz) os
+    (tuneSteps (t .chip .address) (t .kind) (t .notch) plan hz rs) (t .chip)
+    (λ tr. withLock (withChip t (tr .chip)) (lockBy (lockedIn (tr .log)) (triesIn (tr .log)) (t .lock))) t room
+
+tune-by-plan : (t : Tuner) (hz : ℕ) (os rs room : List ℕ) → tuneCall os rs hz t room ≡ byPlan t hz os rs room (planFor t hz)
+unfolding tuneCall
+tune-by-plan t hz os rs room = refl
+
+went-on : {R : Type 0} (number : ℕ) (whole : Answer) (os : List ℕ) (ss : List Step) (c : Chip) (keep : Trace → R) (old : R) (room : List ℕ) → number ≡ 0 → callOf number whole os ss c keep old room ≡ performed whole keep room (trace os ss c)
+unfolding callOf
+went-on number whole os ss c keep old room e = rw (eq-eqb number 0 e)
+
+-- a tuning that is not refused before its steps, and whose plan is: its answer, and how many entries it made
+pub refused-in-the-pll : (t : Tuner) (hz : ℕ) (rs os room : List ℕ)
+    → refusalOf t (hzRefusal hz (t .ifreq)) 53 35 (length room) (length (replicate 13 0 ++ os)) (length rs) ≡ 0
+    → planFor t hz ≡ pll-variants.Refused
+    → (tuneCall (replicate 13 0 ++ os) rs hz t room .answer ≡ Refused 2) × (tuneCall (replicate 13 0 ++ os) rs hz t room .count ≡ 13)
+refused-in-the-pll t hz rs os room e p =
+    let is : _ = tune-by-plan t hz (replicate 13 0 ++ os) rs room ∙ ap (byPlan t hz (replicate 13 0 ++ os) rs room) p ∙ went-on _ _ _ _ _ _ _ _ e in (
+      ap (λ (c : Called Tuner). c .answer) is ∙ ap (answerOf (Refused 2)) (none-failed (t .chip .address) hz (t .kind) (t .notch) rs os (t .chip)),
+      ap (λ (c : Called Tuner). c .count) is ∙ thirteen (t .chip .address) hz (t .kind) (t .notch) rs os (t .chip),
+    )
