@@ -96,7 +96,7 @@ fn ended(cut: Tuner, whole: Tuner, went: Went, chip: Chip) -> Tuner
 }
 
 // "2 frequency | hz 0; hz + IF over u64".
-fn hz_refusal(hz: u64, ifreq: u64) -> u8
+pub fn hz_refusal(hz: u64, ifreq: u64) -> u8
     ensures { λ r. ⌜ r ≡ hzRefusal hz ifreq ⌝ }
 {
     if hz == 0 {

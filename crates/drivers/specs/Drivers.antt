@@ -1,0 +1,65 @@
+-- The driver's calls over bytes. Document 01, "The record": "`set_sample_rate` takes both records"; "with 4 for a bad correction".
+-- Assumes nothing.
+use Prim.Native.Nat.{ℕ}
+use mathlib.Core.Bool.{Bool, _&&_, _||_}
+use mathlib.Core.List.{List}
+use lib.Dec.{eqb, ltb}
+use lib.IntN.{ℤ}
+use lib.ListN.{length}
+use Rattle.answers.specs.Lent.{Given, given}
+use Rattle.chip.specs.declared.Answer.{Answer}
+use Rattle.chip.specs.declared.Answer.the-variants.{Refused}
+use Rattle.chip.specs.Calls.{Called, pickN}
+use Rattle.driver.specs.declared.Driver.{Driver}
+use Rattle.driver.specs.Calls.{Both, driverPpmCall, rateRefusal, sampleRateCall, xtalAnswer}
+use Rattle.driver.specs.Record.{driverOf as madeDriver, xtalOf}
+use Rattle.r82xx.specs.Record.{pick}
+use Rattle.records.specs.Drivers.{driverBytes, driverOf}
+use Rattle.records.specs.Tuners.{tunerBytes, tunerOf}
+use Rattle.replies.specs.declared.Reply.{Reply}
+use Rattle.replies.specs.Replies.{replyOf}
+use Rattle.tuners.specs.Over.{nextOf}
+use Rattle.tuners.specs.Still.{recordInto}
+
+-- a fresh one, and its correction
+abbrev pub freshInto : ℕ → ℕ → ℤ → ℕ → ℕ → List ℕ → Given
+freshInto board nominal ppm frequency rate out =
+    recordInto (madeDriver board nominal ppm frequency rate .answer) (driverBytes (madeDriver board nominal ppm frequency rate .driver)) out
+
+unfoldable pub ppmInto : ℤ → List ℕ → List ℕ → Given
+ppmInto ppm b out =
+    pick (driverOf b .ok)
+    (recordInto (driverPpmCall ppm (driverOf b .driver) .answer) (driverBytes (driverPpmCall ppm (driverOf b .driver) .next)) out)
+    (given (Refused 1) out)
+
+unfoldable pub xtalOver : List ℕ → Answer
+xtalOver b = pick (driverOf b .ok) (xtalAnswer (xtalOf (driverOf b .driver))) (Refused 1)
+
+-- what a rate leaves: its answer, the room, the slices for both next records
+pub record Rates : Type 0 where
+  pub answer : Reply
+  pub room : List ℕ
+  pub driver : List ℕ
+  pub tuner : List ℕ
+
+abbrev pub rates : Reply → List ℕ → List ℕ → List ℕ → Rates
+rates answer room driver tuner = record { answer = answer; room = room; driver = driver; tuner = tuner }
+
+-- 1 for either record, 3 for the rate, 8 for either slice; 0 where none is given
+unfoldable pub bothReady : Bool → ℕ → ℕ → ℕ → ℕ
+bothReady ok rate driver tuner =
+    pickN ok (pickN (eqb (rateRefusal rate) 0) (pickN (ltb driver 21 || ltb tuner 105) 8 0) (rateRefusal rate)) 1
+
+abbrev pub ratesMade : Called Both → List ℕ → List ℕ → Rates
+ratesMade c driver tuner =
+    rates (replyOf (c .answer) (c .count)) (c .room) (nextOf driverBytes (c .answer) (c .count) (c .next .driver) driver)
+    (nextOf tunerBytes (c .answer) (c .count) (c .next .tuner) tuner)
+
+abbrev pub ratesRefused : ℕ → List ℕ → List ℕ → List ℕ → Rates
+ratesRefused number room driver tuner = rates (replyOf (Refused number) 0) room driver tuner
+
+unfoldable pub rateOver : List ℕ → ℕ → List ℕ → List ℕ → List ℕ → List ℕ → List ℕ → Rates
+rateOver os rate d t room driver tuner =
+    pick (eqb (bothReady (driverOf d .ok && tunerOf t .ok) rate (length driver) (length tuner)) 0)
+    (ratesMade (sampleRateCall os rate (tunerOf t .tuner) (driverOf d .driver) room) driver tuner)
+    (ratesRefused (bothReady (driverOf d .ok && tunerOf t .ok) rate (length driver) (length tuner)) room driver tuner)

@@ -1,0 +1,157 @@
+// The driver's calls over bytes: as crate tuners, with the driver's record. Ours: src/lib.rs has them over its own fields.
+// Document 01, "The record": "`set_sample_rate` takes both records; the rate is recorded only when all steps are done."
+ghost use mathlib.Core.Path.{_≡_};
+ghost use Prim.Native.Nat.{_≤_};
+ghost use lib.ListN.{length};
+ghost use Rattle.answers.specs.Lent.{given};
+ghost use Rattle.driver.specs.Calls.{boardPathCall};
+ghost use Rattle.records.specs.Drivers.{driverBytes};
+ghost use Rattle.records.specs.Tuners.{tunerBytes};
+ghost use Rattle.replies.specs.Replies.{replyOf};
+ghost use Rattle.tuners.specs.Over.{after, nextOf, overTuner, pathRefusal};
+ghost use Rattle.tuners.specs.Still.{recordInto};
+ghost use Rattle.drivers.specs.Drivers.{bothReady, freshInto, ppmInto, rateOver, rates, xtalOver};
+use chip::Answer;
+use driver::Driver;
+use driver::Rated;
+use records::DRIVER;
+use records::TUNER;
+use replies::Reply;
+
+// A record that was worked out without a step, or the number that it was refused by.
+fn lend(answer: Answer, driver: Driver, out: &mut [u8]) -> Answer
+    ensures { λ r. ⌜ given r (now (out .exit)) ≡ recordInto answer (driverBytes driver) (now (out .entry)) ⌝ }
+{
+    let image = records::driver_image(driver);
+    answers::lend(
+        tuners::number_of(answer),
+        tuners::value_of(answer),
+        &image,
+        out,
+    )
+}
+
+pub fn fresh(
+    board: u64,
+    nominal: u64,
+    ppm: i32,
+    frequency: u64,
+    rate: u32,
+    next: &mut [u8],
+) -> Answer
+    ensures { λ r. ⌜ given r (now (next .exit)) ≡ freshInto board nominal ppm frequency rate (now (next .entry)) ⌝ }
+{
+    let made = Driver::new(board, nominal, ppm, frequency, rate);
+    let answer = made.answer;
+    lend(answer, made.driver, next)
+}
+
+pub fn set_ppm(driver: &[u8], ppm: i32, next: &mut [u8]) -> Answer
+    ensures { λ r. ⌜ given r (now (next .exit)) ≡ ppmInto ppm (now (driver .entry)) (now (next .entry)) ⌝ }
+{
+    let read = records::decode_driver(driver);
+    if !read.ok {
+        return Answer::Refused(chip::SETUP);
+    }
+    let given = read.driver;
+    let told = given.set_ppm(ppm);
+    let answer = told.answer;
+    lend(answer, told.driver, next)
+}
+
+pub fn corrected_xtal_hz(driver: &[u8]) -> Answer
+    ensures { λ r. ⌜ r ≡ xtalOver (now (driver .entry)) ⌝ }
+{
+    let read = records::decode_driver(driver);
+    if !read.ok {
+        return Answer::Refused(chip::SETUP);
+    }
+    let given = read.driver;
+    given.corrected_xtal_hz()
+}
+
+// Both records first, then the rate, then the two slices that the next ones go to.
+fn ready(ok: bool, rate: u32, driver: usize, tuner: usize) -> u8
+    ensures { λ r. ⌜ r ≡ bothReady ok rate driver tuner ⌝ }
+{
+    if !ok {
+        return chip::SETUP;
+    }
+    if rate == 0 {
+        return chip::RATE;
+    }
+    if driver < DRIVER {
+        return chip::ROOM;
+    }
+    if tuner < TUNER {
+        return chip::ROOM;
+    }
+    0
+}
+
+fn store(answer: Answer, count: usize, driver: Driver, next: &mut [u8])
+    requires { ⌜ 21 ≤ length (now next) ⌝ }
+    ensures { λ _. ⌜ now (next .exit) ≡ nextOf driverBytes answer count driver (now (next .entry)) ⌝ }
+{
+    if tuners::kept(answer, count) {
+        let image = records::driver_image(driver);
+        wire::copy(next, 0, &image);
+    }
+}
+
+fn hand(rated: Rated, driver: &mut [u8], tuner: &mut [u8]) -> Reply
+    requires { ⌜ (21 ≤ length (now driver)) × (105 ≤ length (now tuner)) ⌝ }
+    ensures { λ r. ⌜ (r ≡ replyOf (rated .answer) (rated .count))
+        × (now (driver .exit) ≡ nextOf driverBytes (rated .answer) (rated .count) (rated .driver) (now (driver .entry)))
+        × (now (tuner .exit) ≡ nextOf tunerBytes (rated .answer) (rated .count) (rated .tuner) (now (tuner .entry))) ⌝ }
+{
+    let answer = rated.answer;
+    store(answer, rated.count, rated.driver, driver);
+    tuners::store(answer, rated.count, rated.tuner, tuner);
+    replies::numbers(answer, rated.count)
+}
+
+pub fn set_sample_rate(
+    driver: &[u8],
+    tuner: &[u8],
+    rate: u32,
+    outcomes: &[u8],
+    room: &mut [u8],
+    left: &mut [u8],
+    next: &mut [u8],
+) -> Reply
+    ensures { λ r. ⌜ rates r (now (room .exit)) (now (left .exit)) (now (next .exit))
+        ≡ rateOver (now (outcomes .entry)) rate (now (driver .entry)) (now (tuner .entry)) (now (room .entry)) (now (left .entry)) (now (next .entry)) ⌝ }
+{
+    let d = records::decode_driver(driver);
+    let t = records::decode_tuner(tuner);
+    let given = d.driver;
+    let number = ready(d.ok & t.ok, rate, left.len(), next.len());
+    if number != 0 {
+        return tuners::refuse(number);
+    }
+    let rated = given.set_sample_rate(t.tuner, rate, outcomes, room);
+    hand(rated, left, next)
+}
+
+// The board's input path, which takes the tuner's record alone.
+pub fn apply_input_path(
+    tuner: &[u8],
+    path: u8,
+    outcomes: &[u8],
+    replies: &[u8],
+    room: &mut [u8],
+    next: &mut [u8],
+) -> Reply
+    ensures { λ r. ⌜ after r (now (room .exit)) (now (next .exit))
+        ≡ overTuner (λ t. pathRefusal path) (boardPathCall (now (outcomes .entry)) (now (replies .entry)) path) (now (tuner .entry)) (now (room .entry)) (now (next .entry)) ⌝ }
+{
+    let read = records::decode_tuner(tuner);
+    let given = read.tuner;
+    let number = tuners::ready(read.ok, tuners::path_refusal(path), next.len(), TUNER);
+    if number != 0 {
+        return tuners::refuse(number);
+    }
+    let told = driver::apply_input_path(given, path, outcomes, replies, room);
+    tuners::hand(told, next)
+}

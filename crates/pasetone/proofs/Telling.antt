@@ -1,0 +1,25 @@
+-- What is told of an answer is told of the definition that it equals. One law for each shape of what is lent.
+-- Assumes nothing.
+use Prim.Native.Nat.{ℕ}
+use mathlib.Core.Path.{_≡_, ap, _∙_}
+use mathlib.Core.List.{List}
+use Rattle.answers.specs.Lent.{Given, given}
+use Rattle.chip.specs.declared.Answer.{Answer}
+use Rattle.chip.specs.Calls.{Called, called}
+use Rattle.replies.specs.declared.Reply.{Reply}
+use Rattle.replies.specs.declared.TuneReply.{TuneReply}
+use Rattle.replies.specs.Replies.{replyOf, tunedOf}
+use Rattle.tuners.specs.Over.{After, after}
+use Rattle.pasetone.specs.Told.{lent, lentBy, shown, shownBy, tunedBy, tunedTo}
+
+pub answer-told : (r : Reply) (a b : Answer) → r ≡ replyOf a 0 → a ≡ b → r ≡ replyOf b 0
+answer-told r a b h e = h ∙ ap (λ (x : Answer). replyOf x 0) e
+
+pub lent-told : (r : Reply) (a : Answer) (out : List ℕ) (g : Given) → r ≡ replyOf a 0 → given a out ≡ g → lent r out ≡ lentBy g
+lent-told r a out g h e = ap (λ (x : Reply). lent x out) h ∙ ap lentBy e
+
+pub shown-told : (r : Reply) (a : Answer) (n : ℕ) (room : List ℕ) (c : Called (Unit {0})) → r ≡ replyOf a n → called tt room n a ≡ c → shown r room ≡ shownBy c
+shown-told r a n room c h e = ap (λ (x : Reply). shown x room) h ∙ ap shownBy e
+
+pub tuned-told : (t : TuneReply) (r : Reply) (room next : List ℕ) (a : After) → t ≡ tunedOf r → after r room next ≡ a → tunedTo t room next ≡ tunedBy a
+tuned-told t r room next a h e = ap (λ (x : TuneReply). tunedTo x room next) h ∙ ap tunedBy e

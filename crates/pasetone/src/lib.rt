@@ -1,0 +1,456 @@
+// Every call and leaf for a C or Rust host: what include/pasetone.h declares. Each function is one call of a function below with the same definition,
+// its answer told as numbers, so its must-fail edits stand below.
+// Document 01, "Modules, leaves first": "The library is callable from a C or Rust host by numbers and byte slices".
+ghost use mathlib.Core.Path.{_≡_};
+ghost use Rattle.answers.specs.Lent.{ifInto, packInto, planInto, resampleInto, unpackInto};
+ghost use Rattle.board.specs.Numbers.{boardOf};
+ghost use Rattle.demod.specs.Calls as demod;
+ghost use Rattle.demod.specs.Calls.{directCall, lowIfCall, rateCall, resetCall, startCall, stopCall, zeroIfCall};
+ghost use Rattle.device.specs.Gpio.{bitCall, outputCall};
+ghost use Rattle.driver.specs.Calls.{boardPathCall};
+ghost use Rattle.drivers.specs.Drivers as driver;
+ghost use Rattle.drivers.specs.Drivers.{ppmInto, rateOver, rates, xtalOver};
+ghost use Rattle.r82xx.specs.Calls.{bandwidthCall, gainCall, hzRefusal, ifCall, indexCall, initCall, pathCall, reloadCall, shadowCall, tuneCall};
+ghost use Rattle.replies.specs.Replies.{partsOf, replyOf};
+ghost use Rattle.transcript.specs.Sections.{sectionOf};
+ghost use Rattle.tuners.specs.Over.{after, anyArgument, overTuner, pathRefusal};
+ghost use Rattle.tuners.specs.Still as tuner;
+ghost use Rattle.tuners.specs.Still.{answerOver, changedInto, gainAnswer, ifAnswer, notchCall, ppmCall, tableOver};
+ghost use Rattle.pasetone.specs.Told.{lent, lentBy, shown, shownBy, tunedBy, tunedTo, yes};
+use replies::Parts;
+use replies::Reply;
+use replies::TuneReply;
+
+// 1.0.0: the major number times 65,536, the minor times 256, the patch.
+#[no_mangle]
+pub extern "C" fn pasetone_version() -> u32
+    ensures { λ r. ⌜ r ≡ 65536 ⌝ }
+{
+    0x0001_0000
+}
+
+// The tuner: src/tuners/r82xx.rs.
+#[no_mangle]
+pub extern "C" fn pasetone_tuner_new(kind: u64, address: u8, nominal: u64, next: &mut [u8]) -> Reply
+    ensures { λ r. ⌜ lent r (now (next .exit)) ≡ lentBy (tuner.freshInto kind address nominal (now (next .entry))) ⌝ }
+{
+    let answer = tuners::fresh(kind, address, nominal, next);
+    replies::numbers(answer, 0)
+}
+
+#[no_mangle]
+pub extern "C" fn pasetone_initialize(
+    tuner: &[u8],
+    outcomes: &[u8],
+    room: &mut [u8],
+    next: &mut [u8],
+) -> Reply
+    ensures { λ r. ⌜ after r (now (room .exit)) (now (next .exit))
+        ≡ overTuner anyArgument (initCall (now (outcomes .entry))) (now (tuner .entry)) (now (room .entry)) (now (next .entry)) ⌝ }
+{
+    tuners::initialize(tuner, outcomes, room, next)
+}
+
+#[no_mangle]
+pub extern "C" fn pasetone_set_frequency(
+    tuner: &[u8],
+    hz: u64,
+    outcomes: &[u8],
+    replies: &[u8],
+    room: &mut [u8],
+    next: &mut [u8],
+) -> TuneReply
+    ensures { λ r. ⌜ tunedTo r (now (room .exit)) (now (next .exit))
+        ≡ tunedBy (overTuner (λ t. hzRefusal hz (t .ifreq)) (tuneCall (now (outcomes .entry)) (now (replies .entry)) hz) (now (tuner .entry)) (now (room .entry)) (now (next .entry))) ⌝ }
+{
+    let told = tuners::set_frequency(tuner, hz, outcomes, replies, room, next);
+    replies::tuned(told)
+}
+
+#[no_mangle]
+pub extern "C" fn pasetone_set_gain(
+    tuner: &[u8],
+    db: f32,
+    outcomes: &[u8],
+    room: &mut [u8],
+    next: &mut [u8],
+) -> Reply
+    ensures { λ r. ⌜ after r (now (room .exit)) (now (next .exit))
+        ≡ overTuner anyArgument (gainCall (now (outcomes .entry)) db) (now (tuner .entry)) (now (room .entry)) (now (next .entry)) ⌝ }
+{
+    tuners::set_gain(tuner, db, outcomes, room, next)
+}
+
+#[no_mangle]
+pub extern "C" fn pasetone_set_gain_by_index(
+    tuner: &[u8],
+    index: usize,
+    outcomes: &[u8],
+    room: &mut [u8],
+    next: &mut [u8],
+) -> Reply
+    ensures { λ r. ⌜ after r (now (room .exit)) (now (next .exit))
+        ≡ overTuner anyArgument (indexCall (now (outcomes .entry)) index) (now (tuner .entry)) (now (room .entry)) (now (next .entry)) ⌝ }
+{
+    tuners::set_gain_by_index(tuner, index, outcomes, room, next)
+}
+
+#[no_mangle]
+pub extern "C" fn pasetone_set_bandwidth(
+    tuner: &[u8],
+    hz: u32,
+    outcomes: &[u8],
+    room: &mut [u8],
+    next: &mut [u8],
+) -> Reply
+    ensures { λ r. ⌜ after r (now (room .exit)) (now (next .exit))
+        ≡ overTuner anyArgument (bandwidthCall (now (outcomes .entry)) hz) (now (tuner .entry)) (now (room .entry)) (now (next .entry)) ⌝ }
+{
+    tuners::set_bandwidth(tuner, hz, outcomes, room, next)
+}
+
+#[no_mangle]
+pub extern "C" fn pasetone_set_if_freq(
+    tuner: &[u8],
+    hz: u64,
+    outcomes: &[u8],
+    room: &mut [u8],
+    next: &mut [u8],
+) -> Reply
+    ensures { λ r. ⌜ after r (now (room .exit)) (now (next .exit))
+        ≡ overTuner anyArgument (ifCall (now (outcomes .entry)) hz) (now (tuner .entry)) (now (room .entry)) (now (next .entry)) ⌝ }
+{
+    tuners::set_if_freq(tuner, hz, outcomes, room, next)
+}
+
+#[no_mangle]
+pub extern "C" fn pasetone_set_input_path(
+    tuner: &[u8],
+    path: u8,
+    outcomes: &[u8],
+    room: &mut [u8],
+    next: &mut [u8],
+) -> Reply
+    ensures { λ r. ⌜ after r (now (room .exit)) (now (next .exit))
+        ≡ overTuner (λ t. pathRefusal path) (pathCall (now (outcomes .entry)) path) (now (tuner .entry)) (now (room .entry)) (now (next .entry)) ⌝ }
+{
+    tuners::set_input_path(tuner, path, outcomes, room, next)
+}
+
+#[no_mangle]
+pub extern "C" fn pasetone_reload(
+    tuner: &[u8],
+    outcomes: &[u8],
+    room: &mut [u8],
+    next: &mut [u8],
+) -> Reply
+    ensures { λ r. ⌜ after r (now (room .exit)) (now (next .exit))
+        ≡ overTuner anyArgument (reloadCall (now (outcomes .entry))) (now (tuner .entry)) (now (room .entry)) (now (next .entry)) ⌝ }
+{
+    tuners::reload(tuner, outcomes, room, next)
+}
+
+#[no_mangle]
+pub extern "C" fn pasetone_update_shadow(
+    tuner: &[u8],
+    register: u8,
+    value: u8,
+    mask: u8,
+    next: &mut [u8],
+) -> Reply
+    ensures { λ r. ⌜ lent r (now (next .exit)) ≡ lentBy (changedInto (shadowCall register value mask) (now (tuner .entry)) (now (next .entry))) ⌝ }
+{
+    let answer = tuners::update_shadow(tuner, register, value, mask, next);
+    replies::numbers(answer, 0)
+}
+
+#[no_mangle]
+pub extern "C" fn pasetone_get_gain(tuner: &[u8]) -> Reply
+    ensures { λ r. ⌜ r ≡ replyOf (answerOver gainAnswer (now (tuner .entry))) 0 ⌝ }
+{
+    let answer = tuners::get_gain(tuner);
+    replies::numbers(answer, 0)
+}
+
+#[no_mangle]
+pub extern "C" fn pasetone_get_if_freq(tuner: &[u8]) -> Reply
+    ensures { λ r. ⌜ r ≡ replyOf (answerOver ifAnswer (now (tuner .entry))) 0 ⌝ }
+{
+    let answer = tuners::get_if_freq(tuner);
+    replies::numbers(answer, 0)
+}
+
+#[no_mangle]
+pub extern "C" fn pasetone_get_gain_table(tuner: &[u8], out: &mut [u8]) -> Reply
+    ensures { λ r. ⌜ lent r (now (out .exit)) ≡ lentBy (tableOver (now (tuner .entry)) (now (out .entry))) ⌝ }
+{
+    let answer = tuners::get_gain_table(tuner, out);
+    replies::numbers(answer, 0)
+}
+
+// These two change the caller's bytes where they lie.
+#[no_mangle]
+pub extern "C" fn pasetone_set_ppm(tuner: &mut [u8], ppm: i32) -> Reply
+    ensures { λ r. ⌜ lent r (now (tuner .exit)) ≡ lentBy (changedInto (ppmCall ppm) (now (tuner .entry)) (now (tuner .entry))) ⌝ }
+{
+    let answer = tuners::set_ppm(tuner, ppm);
+    replies::numbers(answer, 0)
+}
+
+#[no_mangle]
+pub extern "C" fn pasetone_apply_notch(tuner: &mut [u8], on: u8) -> Reply
+    ensures { λ r. ⌜ lent r (now (tuner .exit)) ≡ lentBy (changedInto (notchCall (yes on)) (now (tuner .entry)) (now (tuner .entry))) ⌝ }
+{
+    let answer = tuners::apply_notch(tuner, on != 0);
+    replies::numbers(answer, 0)
+}
+
+// The driver: src/lib.rs.
+#[no_mangle]
+pub extern "C" fn pasetone_driver_new(
+    board: u64,
+    nominal: u64,
+    ppm: i32,
+    frequency: u64,
+    rate: u32,
+    next: &mut [u8],
+) -> Reply
+    ensures { λ r. ⌜ lent r (now (next .exit)) ≡ lentBy (driver.freshInto board nominal ppm frequency rate (now (next .entry))) ⌝ }
+{
+    let answer = drivers::fresh(board, nominal, ppm, frequency, rate, next);
+    replies::numbers(answer, 0)
+}
+
+#[no_mangle]
+pub extern "C" fn pasetone_driver_set_ppm(driver: &[u8], ppm: i32, next: &mut [u8]) -> Reply
+    ensures { λ r. ⌜ lent r (now (next .exit)) ≡ lentBy (ppmInto ppm (now (driver .entry)) (now (next .entry))) ⌝ }
+{
+    let answer = drivers::set_ppm(driver, ppm, next);
+    replies::numbers(answer, 0)
+}
+
+#[no_mangle]
+pub extern "C" fn pasetone_corrected_xtal_hz(driver: &[u8]) -> Reply
+    ensures { λ r. ⌜ r ≡ replyOf (xtalOver (now (driver .entry))) 0 ⌝ }
+{
+    let answer = drivers::corrected_xtal_hz(driver);
+    replies::numbers(answer, 0)
+}
+
+// `left` is for the driver's next record, `next` for the tuner's.
+#[no_mangle]
+pub extern "C" fn pasetone_set_sample_rate(
+    driver: &[u8],
+    tuner: &[u8],
+    rate: u32,
+    outcomes: &[u8],
+    room: &mut [u8],
+    left: &mut [u8],
+    next: &mut [u8],
+) -> Reply
+    ensures { λ r. ⌜ rates r (now (room .exit)) (now (left .exit)) (now (next .exit))
+        ≡ rateOver (now (outcomes .entry)) rate (now (driver .entry)) (now (tuner .entry)) (now (room .entry)) (now (left .entry)) (now (next .entry)) ⌝ }
+{
+    drivers::set_sample_rate(driver, tuner, rate, outcomes, room, left, next)
+}
+
+#[no_mangle]
+pub extern "C" fn pasetone_apply_input_path(
+    tuner: &[u8],
+    path: u8,
+    outcomes: &[u8],
+    replies: &[u8],
+    room: &mut [u8],
+    next: &mut [u8],
+) -> Reply
+    ensures { λ r. ⌜ after r (now (room .exit)) (now (next .exit))
+        ≡ overTuner (λ t. pathRefusal path) (boardPathCall (now (outcomes .entry)) (now (replies .entry)) path) (now (tuner .entry)) (now (room .entry)) (now (next .entry)) ⌝ }
+{
+    drivers::apply_input_path(tuner, path, outcomes, replies, room, next)
+}
+
+// The demodulator: src/demod.rs.
+#[no_mangle]
+pub extern "C" fn pasetone_init_baseband(outcomes: &[u8], room: &mut [u8]) -> Reply
+    ensures { λ r. ⌜ shown r (now (room .exit)) ≡ shownBy (demod.initCall (now (outcomes .entry)) (now (room .entry))) ⌝ }
+{
+    let handed = demod::init_baseband(outcomes, room);
+    let answer = handed.answer;
+    replies::numbers(answer, handed.count)
+}
+
+#[no_mangle]
+pub extern "C" fn pasetone_power_on(outcomes: &[u8], room: &mut [u8]) -> Reply
+    ensures { λ r. ⌜ shown r (now (room .exit)) ≡ shownBy (demod.initCall (now (outcomes .entry)) (now (room .entry))) ⌝ }
+{
+    let handed = demod::power_on(outcomes, room);
+    let answer = handed.answer;
+    replies::numbers(answer, handed.count)
+}
+
+#[no_mangle]
+pub extern "C" fn pasetone_reset_demod(outcomes: &[u8], room: &mut [u8]) -> Reply
+    ensures { λ r. ⌜ shown r (now (room .exit)) ≡ shownBy (resetCall (now (outcomes .entry)) (now (room .entry))) ⌝ }
+{
+    let handed = demod::reset_demod(outcomes, room);
+    let answer = handed.answer;
+    replies::numbers(answer, handed.count)
+}
+
+#[no_mangle]
+pub extern "C" fn pasetone_set_tuner_low_if(outcomes: &[u8], room: &mut [u8]) -> Reply
+    ensures { λ r. ⌜ shown r (now (room .exit)) ≡ shownBy (lowIfCall (now (outcomes .entry)) (now (room .entry))) ⌝ }
+{
+    let handed = demod::set_tuner_low_if(outcomes, room);
+    let answer = handed.answer;
+    replies::numbers(answer, handed.count)
+}
+
+#[no_mangle]
+pub extern "C" fn pasetone_set_tuner_zero_if(outcomes: &[u8], room: &mut [u8]) -> Reply
+    ensures { λ r. ⌜ shown r (now (room .exit)) ≡ shownBy (zeroIfCall (now (outcomes .entry)) (now (room .entry))) ⌝ }
+{
+    let handed = demod::set_tuner_zero_if(outcomes, room);
+    let answer = handed.answer;
+    replies::numbers(answer, handed.count)
+}
+
+#[no_mangle]
+pub extern "C" fn pasetone_start_streaming(outcomes: &[u8], room: &mut [u8]) -> Reply
+    ensures { λ r. ⌜ shown r (now (room .exit)) ≡ shownBy (startCall (now (outcomes .entry)) (now (room .entry))) ⌝ }
+{
+    let handed = demod::start_streaming(outcomes, room);
+    let answer = handed.answer;
+    replies::numbers(answer, handed.count)
+}
+
+#[no_mangle]
+pub extern "C" fn pasetone_stop_streaming(outcomes: &[u8], room: &mut [u8]) -> Reply
+    ensures { λ r. ⌜ shown r (now (room .exit)) ≡ shownBy (stopCall (now (outcomes .entry)) (now (room .entry))) ⌝ }
+{
+    let handed = demod::stop_streaming(outcomes, room);
+    let answer = handed.answer;
+    replies::numbers(answer, handed.count)
+}
+
+#[no_mangle]
+pub extern "C" fn pasetone_write_reg_direct(
+    page: u8,
+    address: u16,
+    value: u8,
+    outcomes: &[u8],
+    room: &mut [u8],
+) -> Reply
+    ensures { λ r. ⌜ shown r (now (room .exit)) ≡ shownBy (directCall page address value (now (outcomes .entry)) (now (room .entry))) ⌝ }
+{
+    let handed = demod::write_reg_direct(page, address, value, outcomes, room);
+    let answer = handed.answer;
+    replies::numbers(answer, handed.count)
+}
+
+#[no_mangle]
+pub extern "C" fn pasetone_set_if_freq_xtal(
+    hz: u32,
+    xtal: u32,
+    outcomes: &[u8],
+    room: &mut [u8],
+) -> Reply
+    ensures { λ r. ⌜ shown r (now (room .exit)) ≡ shownBy (demod.ifCall hz xtal (now (outcomes .entry)) (now (room .entry))) ⌝ }
+{
+    let handed = demod::set_if_freq_xtal(hz, xtal, outcomes, room);
+    let answer = handed.answer;
+    replies::numbers(answer, handed.count)
+}
+
+#[no_mangle]
+pub extern "C" fn pasetone_set_sample_rate_xtal(
+    rate: u32,
+    xtal: u32,
+    outcomes: &[u8],
+    room: &mut [u8],
+) -> Reply
+    ensures { λ r. ⌜ shown r (now (room .exit)) ≡ shownBy (rateCall rate xtal (now (outcomes .entry)) (now (room .entry))) ⌝ }
+{
+    let handed = demod::set_sample_rate_xtal(rate, xtal, outcomes, room);
+    let answer = handed.answer;
+    replies::numbers(answer, handed.count)
+}
+
+// GPIO: src/device.rs.
+#[no_mangle]
+pub extern "C" fn pasetone_set_gpio_output(
+    gpio: u8,
+    outcomes: &[u8],
+    replies: &[u8],
+    room: &mut [u8],
+) -> Reply
+    ensures { λ r. ⌜ shown r (now (room .exit)) ≡ shownBy (outputCall gpio (now (outcomes .entry)) (now (replies .entry)) (now (room .entry))) ⌝ }
+{
+    let handed = device::set_gpio_output(gpio, outcomes, replies, room);
+    let answer = handed.answer;
+    replies::numbers(answer, handed.count)
+}
+
+#[no_mangle]
+pub extern "C" fn pasetone_set_gpio_bit(
+    gpio: u8,
+    value: u8,
+    outcomes: &[u8],
+    replies: &[u8],
+    room: &mut [u8],
+) -> Reply
+    ensures { λ r. ⌜ shown r (now (room .exit)) ≡ shownBy (bitCall gpio value (now (outcomes .entry)) (now (replies .entry)) (now (room .entry))) ⌝ }
+{
+    let handed = device::set_gpio_bit(gpio, value, outcomes, replies, room);
+    let answer = handed.answer;
+    replies::numbers(answer, handed.count)
+}
+
+// Leaves: src/tuner.rs, src/registers.rs, the FIR of src/demod.rs, the reader of sections.
+#[no_mangle]
+pub extern "C" fn pasetone_plan_tuning(board: u8, hz: u64, out: &mut [u8]) -> Reply
+    ensures { λ r. ⌜ lent r (now (out .exit)) ≡ lentBy (planInto (boardOf board) hz (now (out .entry))) ⌝ }
+{
+    let answer = answers::plan_tuning(board, hz, out);
+    replies::numbers(answer, 0)
+}
+
+#[no_mangle]
+pub extern "C" fn pasetone_if_freq_regs(hz: u32, xtal: u32, out: &mut [u8]) -> Reply
+    ensures { λ r. ⌜ lent r (now (out .exit)) ≡ lentBy (ifInto hz xtal (now (out .entry))) ⌝ }
+{
+    let answer = answers::if_freq_regs(hz, xtal, out);
+    replies::numbers(answer, 0)
+}
+
+#[no_mangle]
+pub extern "C" fn pasetone_resample_regs(rate: u32, xtal: u32, out: &mut [u8]) -> Reply
+    ensures { λ r. ⌜ lent r (now (out .exit)) ≡ lentBy (resampleInto rate xtal (now (out .entry))) ⌝ }
+{
+    let answer = answers::resample_regs(rate, xtal, out);
+    replies::numbers(answer, 0)
+}
+
+#[no_mangle]
+pub extern "C" fn pasetone_pack_fir(values: &[u8], out: &mut [u8]) -> Reply
+    ensures { λ r. ⌜ lent r (now (out .exit)) ≡ lentBy (packInto (now (values .entry)) (now (out .entry))) ⌝ }
+{
+    let answer = answers::pack_fir(values, out);
+    replies::numbers(answer, 0)
+}
+
+#[no_mangle]
+pub extern "C" fn pasetone_unpack_fir(bytes: &[u8], out: &mut [u8]) -> Reply
+    ensures { λ r. ⌜ lent r (now (out .exit)) ≡ lentBy (unpackInto (now (bytes .entry)) (now (out .entry))) ⌝ }
+{
+    let answer = answers::unpack_fir(bytes, out);
+    replies::numbers(answer, 0)
+}
+
+#[no_mangle]
+pub extern "C" fn pasetone_read_section(bytes: &[u8]) -> Parts
+    ensures { λ r. ⌜ r ≡ partsOf (sectionOf (now (bytes .entry))) ⌝ }
+{
+    let section = transcript::read_section(bytes);
+    replies::located(section)
+}

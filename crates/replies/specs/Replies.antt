@@ -1,0 +1,27 @@
+-- An answer as the numbers that a host is told. Document 01, "Refusal numbers": "A refused call's value is 0; 11 also gives the failing entry's index."
+-- Assumes nothing.
+use Prim.Native.Nat.{ℕ, _%_}
+use mathlib.Core.List.{List}
+use Rattle.chip.specs.declared.Answer.{Answer}
+use Rattle.chip.specs.Calls.{indexOf, numberOf, valueOf}
+use Rattle.transcript.specs.declared.Section.{Section}
+use Rattle.transcript.specs.declared.Section.the-variants as section
+use Rattle.replies.specs.declared.Parts.{Parts}
+use Rattle.replies.specs.declared.Reply.{Reply}
+use Rattle.replies.specs.declared.TuneReply.{TuneReply}
+
+-- The count is told in 32 bits. No call makes more than 53 entries (crate sequences), so none is cut.
+abbrev pub replyOf : Answer → ℕ → Reply
+replyOf a count =
+    record { value = valueOf a; index = indexOf a; refusal = numberOf a; count = count % 4294967296 }
+
+abbrev pub tunedOf : Reply → TuneReply
+tunedOf r = record { value = r .value; index = r .index; refusal = r .refusal; count = r .count }
+
+-- "refused: empty parts"
+abbrev pub noParts : Parts
+noParts = record { start = 0; count = 0; refusal = 12; zero = 0 }
+
+abbrev pub partsOf : Section → Parts
+partsOf (section.Read start count) = record { start = start; count = count; refusal = 0; zero = 0 }
+partsOf section.Refused = noParts

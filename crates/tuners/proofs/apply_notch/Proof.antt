@@ -1,0 +1,42 @@
+-- `tuners::apply_notch` meets its contract: bytes that are no record, or the call on the one that they are.
+-- Assumes nothing.
+use denote.Ref.{now}
+use borrow.Author.Tests.{not-false, not-true}
+use Rattle.tuners.specs.Still.{notchCall}
+use Rattle.tuners.proofs.Passed.{changed, no-change}
+use borrow.Author.Needs.{needs}
+use Rattle.tuners.proofs.apply_notch.Statement.{statement}
+use Rattle.tuners.proofs.apply_notch.Tie as tie
+
+decode-tuner-requires : tie.Need-decode-tuner-requires
+decode-tuner-requires c κs = search needs
+
+same-length : tie.Need-same-length
+same-length c = search needs
+
+returns : tie.Need-returns
+returns c = no-change (now (c .before .before .before .before .before .args .tuner)) _ (c .before .before .decode-tuner .ensures) (notchCall (c .before .before .before .before .before .args .on)) (now (c .before .before .before .before .before .args .tuner)) (not-true _ (c .if1 .taken))
+
+with-notch-requires : tie.Need-with-notch-requires
+with-notch-requires c κs = search needs
+
+lend-requires : tie.Need-lend-requires
+lend-requires c κs = search needs
+
+same-length-2 : tie.Need-same-length-2
+same-length-2 c = search needs
+
+returns-2 : tie.Need-returns-2
+returns-2 c = changed (now (c .before .before .before .before .before .before .before .before .before .before .before .args .tuner)) _ (c .before .before .before .before .before .before .before .before .decode-tuner .ensures) (notchCall (c .before .before .before .before .before .before .before .before .before .before .before .args .on)) (now (c .before .before .before .before .before .before .before .before .before .before .before .args .tuner)) (not-false _ (c .before .before .before .before .before .before .if1 .left)) _ _ _ (c .before .before .before .before .with-notch .ensures) _ (c .before .before .lend .ensures)
+
+pub apply-notch-spec : {M : Type 1} → statement M
+apply-notch-spec =
+    tie.close
+    (tie.spec
+    decode-tuner-requires
+    same-length
+    returns
+    with-notch-requires
+    lend-requires
+    same-length-2
+    returns-2)

@@ -1,0 +1,52 @@
+-- `tuners::initialize` meets its contract: refused before its steps, or made and handed back.
+-- Assumes nothing.
+use mathlib.Core.Path.{refl, sym, _∙_}
+use native.Mathlib.Omega.{arith}
+use borrow.Author.Needs.{needs}
+use denote.Ref.{now}
+use Rattle.r82xx.specs.Calls.{initCall}
+use Rattle.tuners.specs.Over.{anyArgument}
+use Rattle.tuners.proofs.Passed.{fits, handed-back, refused-by}
+use Rattle.tuners.proofs.initialize.Statement.{statement}
+use Rattle.tuners.proofs.initialize.Tie as tie
+
+decode-tuner-requires : tie.Need-decode-tuner-requires
+decode-tuner-requires c κs = search needs
+
+ready-requires : tie.Need-ready-requires
+ready-requires c κs = search needs
+
+refuse-requires : tie.Need-refuse-requires
+refuse-requires c κs = search needs
+
+returns : tie.Need-returns
+returns c = refused-by anyArgument (initCall (now (c .before .before .before .before .before .before .before .before .before .args .outcomes))) (now (c .before .before .before .before .before .before .before .before .before .args .tuner)) (now (c .before .before .before .before .before .before .before .before .before .args .room)) (now (c .before .before .before .before .before .before .before .before .before .args .next)) _ 0 _ (c .before .before .before .before .decode-tuner .ensures) refl (c .before .before .ready .ensures) _ (λ z. omega arith) (c .refuse .ensures)
+
+initialize-requires : tie.Need-initialize-requires
+initialize-requires c κs = search needs
+
+hand-requires : tie.Need-hand-requires
+hand-requires c κs = fits _ _ _ _ (sym (c .before .before .before .before .before .before .ready .ensures) ∙ omega arith)
+
+same-length : tie.Need-same-length
+same-length c = search needs
+
+same-length-2 : tie.Need-same-length-2
+same-length-2 c = search needs
+
+returns-2 : tie.Need-returns-2
+returns-2 c = handed-back anyArgument (initCall (now (c .before .before .before .before .before .before .before .before .before .before .before .before .before .before .before .before .args .outcomes))) (now (c .before .before .before .before .before .before .before .before .before .before .before .before .before .before .before .before .args .tuner)) (now (c .before .before .before .before .before .before .before .before .before .before .before .before .before .before .before .before .args .room)) (now (c .before .before .before .before .before .before .before .before .before .before .before .before .before .before .before .before .args .next)) _ 0 _ (c .before .before .before .before .before .before .before .before .before .before .before .decode-tuner .ensures) refl (c .before .before .before .before .before .before .before .before .before .ready .ensures) (omega arith) _ _ _ _ (c .before .before .before .before .before .before .initialize .ensures) _ _ (c .before .before .hand .ensures)
+
+pub initialize-spec : {M : Type 1} → statement M
+initialize-spec =
+    tie.close
+    (tie.spec
+    decode-tuner-requires
+    ready-requires
+    refuse-requires
+    returns
+    initialize-requires
+    hand-requires
+    same-length
+    same-length-2
+    returns-2)

@@ -1,0 +1,55 @@
+-- `tuners::set_frequency` meets its contract: refused before its steps, or made and handed back.
+-- Assumes nothing.
+use mathlib.Core.Path.{refl, sym, _∙_}
+use native.Mathlib.Omega.{arith}
+use borrow.Author.Needs.{needs}
+use denote.Ref.{now}
+use Rattle.r82xx.specs.Calls.{hzRefusal, tuneCall}
+use Rattle.tuners.proofs.Passed.{fits, handed-back, refused-by}
+use Rattle.tuners.proofs.set_frequency.Statement.{statement}
+use Rattle.tuners.proofs.set_frequency.Tie as tie
+
+decode-tuner-requires : tie.Need-decode-tuner-requires
+decode-tuner-requires c κs = search needs
+
+hz-refusal-requires : tie.Need-hz-refusal-requires
+hz-refusal-requires c κs = search needs
+
+ready-requires : tie.Need-ready-requires
+ready-requires c κs = search needs
+
+refuse-requires : tie.Need-refuse-requires
+refuse-requires c κs = search needs
+
+returns : tie.Need-returns
+returns c = refused-by (λ t. hzRefusal (c .before .before .before .before .before .before .before .before .before .before .before .args .hz) (t .ifreq)) (tuneCall (now (c .before .before .before .before .before .before .before .before .before .before .before .args .outcomes)) (now (c .before .before .before .before .before .before .before .before .before .before .before .args .replies)) (c .before .before .before .before .before .before .before .before .before .before .before .args .hz)) (now (c .before .before .before .before .before .before .before .before .before .before .before .args .tuner)) (now (c .before .before .before .before .before .before .before .before .before .before .before .args .room)) (now (c .before .before .before .before .before .before .before .before .before .before .before .args .next)) _ (c .before .before .before .hz-refusal .result) _ (c .before .before .before .before .before .decode-tuner .ensures) (c .before .before .before .hz-refusal .ensures) (c .before .before .ready .ensures) _ (λ z. omega arith) (c .refuse .ensures)
+
+set-frequency-requires : tie.Need-set-frequency-requires
+set-frequency-requires c κs = search needs
+
+hand-requires : tie.Need-hand-requires
+hand-requires c κs = fits _ _ _ _ (sym (c .before .before .before .before .before .before .ready .ensures) ∙ omega arith)
+
+same-length : tie.Need-same-length
+same-length c = search needs
+
+same-length-2 : tie.Need-same-length-2
+same-length-2 c = search needs
+
+returns-2 : tie.Need-returns-2
+returns-2 c = handed-back (λ t. hzRefusal (c .before .before .before .before .before .before .before .before .before .before .before .before .before .before .before .before .before .before .args .hz) (t .ifreq)) (tuneCall (now (c .before .before .before .before .before .before .before .before .before .before .before .before .before .before .before .before .before .before .args .outcomes)) (now (c .before .before .before .before .before .before .before .before .before .before .before .before .before .before .before .before .before .before .args .replies)) (c .before .before .before .before .before .before .before .before .before .before .before .before .before .before .before .before .before .before .args .hz)) (now (c .before .before .before .before .before .before .before .before .before .before .before .before .before .before .before .before .before .before .args .tuner)) (now (c .before .before .before .before .before .before .before .before .before .before .before .before .before .before .before .before .before .before .args .room)) (now (c .before .before .before .before .before .before .before .before .before .before .before .before .before .before .before .before .before .before .args .next)) _ (c .before .before .before .before .before .before .before .before .before .before .hz-refusal .result) _ (c .before .before .before .before .before .before .before .before .before .before .before .before .decode-tuner .ensures) (c .before .before .before .before .before .before .before .before .before .before .hz-refusal .ensures) (c .before .before .before .before .before .before .before .before .before .ready .ensures) (omega arith) _ _ _ _ (c .before .before .before .before .before .before .set-frequency .ensures) _ _ (c .before .before .hand .ensures)
+
+pub set-frequency-spec : {M : Type 1} → statement M
+set-frequency-spec =
+    tie.close
+    (tie.spec
+    decode-tuner-requires
+    hz-refusal-requires
+    ready-requires
+    refuse-requires
+    returns
+    set-frequency-requires
+    hand-requires
+    same-length
+    same-length-2
+    returns-2)

@@ -1,0 +1,62 @@
+-- The tuner's calls with steps, over bytes: what the given bytes are read as, the call's own definition, the next record's bytes.
+-- Document 01, "Modules, leaves first": "Records cross there as bytes. A given record out of its ranges .. is refused 1 first, all unchanged".
+-- Assumes nothing.
+use Prim.Native.Nat.{ℕ}
+use mathlib.Core.Bool.{Bool, true, not}
+use mathlib.Core.List.{List}
+use lib.Dec.{eqb, ltb}
+use lib.ListN.{length}
+use lib.Seq.{sets}
+use Rattle.chip.specs.declared.Answer.{Answer}
+use Rattle.chip.specs.declared.Answer.the-variants.{Done, Refused, Stopped}
+use Rattle.chip.specs.Calls.{Called, pickN}
+use Rattle.r82xx.specs.declared.Tuner.{Tuner}
+use Rattle.r82xx.specs.Record.{pick}
+use Rattle.records.specs.Tuners.{tunerBytes, tunerOf}
+use Rattle.replies.specs.declared.Reply.{Reply}
+use Rattle.replies.specs.Replies.{replyOf}
+
+-- what a call over bytes leaves: its answer, the room, the slice for the next record
+pub record After : Type 0 where
+  pub answer : Reply
+  pub room : List ℕ
+  pub next : List ℕ
+
+abbrev pub after : Reply → List ℕ → List ℕ → After
+after answer room next = record { answer = answer; room = room; next = next }
+
+-- "Order: arguments (1 to 7, and 2 for hz), then 8": the record, the argument, then the slice for the next record, of which `need` bytes are written
+unfoldable pub readyOf : Bool → ℕ → ℕ → ℕ → ℕ
+readyOf ok argument next need = pickN ok (pickN (eqb argument 0) (pickN (ltb next need) 8 0) argument) 1
+
+-- the next record is written once steps were taken or the call is done
+abbrev pub keptOf : Answer → ℕ → Bool
+keptOf (Done value) count = true
+keptOf (Refused number) count = not (eqb count 0)
+keptOf (Stopped index) count = not (eqb count 0)
+
+unfoldable pub nextOf : {R : Type 0} → (R → List ℕ) → Answer → ℕ → R → List ℕ → List ℕ
+nextOf bytes answer count new next = pick (keptOf answer count) (sets next 0 (bytes new)) next
+
+-- a call that was made, and one that was refused before it
+abbrev pub handed : Called Tuner → List ℕ → After
+handed c next =
+    after (replyOf (c .answer) (c .count)) (c .room) (nextOf tunerBytes (c .answer) (c .count) (c .next) next)
+
+abbrev pub refusal : ℕ → List ℕ → List ℕ → After
+refusal number room next = after (replyOf (Refused number) 0) room next
+
+-- one call over bytes, by the number that its argument is refused by and its definition over a record
+unfoldable pub overTuner : (Tuner → ℕ) → (Tuner → List ℕ → Called Tuner) → List ℕ → List ℕ → List ℕ → After
+overTuner argument call b room next =
+    pick (eqb (readyOf (tunerOf b .ok) (argument (tunerOf b .tuner)) (length next) 105) 0)
+    (handed (call (tunerOf b .tuner) room) next)
+    (refusal (readyOf (tunerOf b .ok) (argument (tunerOf b .tuner)) (length next) 105) room next)
+
+-- a call whose arguments are never refused
+abbrev pub anyArgument : Tuner → ℕ
+anyArgument t = 0
+
+-- a path's number above 2 names none
+abbrev pub pathRefusal : ℕ → ℕ
+pathRefusal path = pickN (ltb 2 path) 1 0

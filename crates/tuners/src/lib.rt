@@ -1,0 +1,339 @@
+// The tuner's calls over bytes: the given record is read, the call made on it, the next one written into a lent slice of its own.
+// Document 01, "Modules, leaves first": "Records cross there as bytes. A given record out of its ranges .., or bytes that no record is written to, is
+// refused 1 first, all unchanged"; "The record": "Each operation hands the record back with its answer; only `set_ppm` and `apply_notch` change the
+// caller's record where it lies."
+ghost use mathlib.Core.Path.{_≡_};
+ghost use Prim.Native.Nat.{_≤_};
+ghost use lib.ListN.{length};
+ghost use Rattle.answers.specs.Lent.{given};
+ghost use Rattle.chip.specs.Calls.{numberOf, valueOf};
+ghost use Rattle.r82xx.specs.Calls.{bandwidthCall, gainCall, hzRefusal, ifCall, indexCall, initCall, pathCall, reloadCall, shadowCall, tuneCall};
+ghost use Rattle.records.specs.Tuners.{tunerBytes};
+ghost use Rattle.replies.specs.Replies.{replyOf};
+ghost use Rattle.chip.specs.declared.Answer.the-variants.{Refused};
+ghost use Rattle.tuners.specs.Over.{after, anyArgument, keptOf, nextOf, overTuner, pathRefusal, readyOf};
+ghost use Rattle.tuners.specs.Still.{answerOver, changedInto, freshInto, gainAnswer, ifAnswer, notchCall, ppmCall, recordInto, tableOver};
+use chip::Answer;
+use r82xx::Told;
+use r82xx::Tuner;
+use records::TUNER;
+use replies::Reply;
+
+// 1 for the record, then an argument's number, then 8 for the slice that the next record's `need` bytes go to; 0 where none is given.
+pub fn ready(ok: bool, argument: u8, next: usize, need: usize) -> u8
+    ensures { λ r. ⌜ r ≡ readyOf ok argument next need ⌝ }
+{
+    if !ok {
+        return chip::SETUP;
+    }
+    if argument != 0 {
+        return argument;
+    }
+    if next < need {
+        return chip::ROOM;
+    }
+    0
+}
+
+pub fn refuse(number: u8) -> Reply
+    ensures { λ r. ⌜ r ≡ replyOf (Refused number) 0 ⌝ }
+{
+    replies::numbers(Answer::Refused(number), 0)
+}
+
+// Whether the next record is written: once steps were taken, or the call is done.
+pub fn kept(answer: Answer, count: usize) -> bool
+    ensures { λ r. ⌜ r ≡ keptOf answer count ⌝ }
+{
+    match answer {
+        Answer::Done(_) => true,
+        Answer::Refused(_) => count != 0,
+        Answer::Stopped(_) => count != 0,
+    }
+}
+
+pub fn store(answer: Answer, count: usize, tuner: Tuner, next: &mut [u8])
+    requires { ⌜ 105 ≤ length (now next) ⌝ }
+    ensures { λ _. ⌜ now (next .exit) ≡ nextOf tunerBytes answer count tuner (now (next .entry)) ⌝ }
+{
+    if kept(answer, count) {
+        let image = records::tuner_image(tuner);
+        wire::copy(next, 0, &image);
+    }
+}
+
+// What a call hands back: its record into the slice, the rest as numbers.
+pub fn hand(told: Told, next: &mut [u8]) -> Reply
+    requires { ⌜ 105 ≤ length (now next) ⌝ }
+    ensures { λ r. ⌜ (r ≡ replyOf (told .answer) (told .count)) × (now (next .exit) ≡ nextOf tunerBytes (told .answer) (told .count) (told .tuner) (now (next .entry))) ⌝ }
+{
+    let answer = told.answer;
+    store(answer, told.count, told.tuner, next);
+    replies::numbers(answer, told.count)
+}
+
+// A number that names no path is refused 1.
+pub fn path_refusal(path: u8) -> u8
+    ensures { λ r. ⌜ r ≡ pathRefusal path ⌝ }
+{
+    if 2 < path {
+        return chip::SETUP;
+    }
+    0
+}
+
+pub fn initialize(tuner: &[u8], outcomes: &[u8], room: &mut [u8], next: &mut [u8]) -> Reply
+    ensures { λ r. ⌜ after r (now (room .exit)) (now (next .exit))
+        ≡ overTuner anyArgument (initCall (now (outcomes .entry))) (now (tuner .entry)) (now (room .entry)) (now (next .entry)) ⌝ }
+{
+    let read = records::decode_tuner(tuner);
+    let given = read.tuner;
+    let number = ready(read.ok, 0, next.len(), TUNER);
+    if number != 0 {
+        return refuse(number);
+    }
+    let told = given.initialize(outcomes, room);
+    hand(told, next)
+}
+
+pub fn reload(tuner: &[u8], outcomes: &[u8], room: &mut [u8], next: &mut [u8]) -> Reply
+    ensures { λ r. ⌜ after r (now (room .exit)) (now (next .exit))
+        ≡ overTuner anyArgument (reloadCall (now (outcomes .entry))) (now (tuner .entry)) (now (room .entry)) (now (next .entry)) ⌝ }
+{
+    let read = records::decode_tuner(tuner);
+    let given = read.tuner;
+    let number = ready(read.ok, 0, next.len(), TUNER);
+    if number != 0 {
+        return refuse(number);
+    }
+    let told = given.reload(outcomes, room);
+    hand(told, next)
+}
+
+pub fn set_bandwidth(
+    tuner: &[u8],
+    hz: u32,
+    outcomes: &[u8],
+    room: &mut [u8],
+    next: &mut [u8],
+) -> Reply
+    ensures { λ r. ⌜ after r (now (room .exit)) (now (next .exit))
+        ≡ overTuner anyArgument (bandwidthCall (now (outcomes .entry)) hz) (now (tuner .entry)) (now (room .entry)) (now (next .entry)) ⌝ }
+{
+    let read = records::decode_tuner(tuner);
+    let given = read.tuner;
+    let number = ready(read.ok, 0, next.len(), TUNER);
+    if number != 0 {
+        return refuse(number);
+    }
+    let told = given.set_bandwidth(hz, outcomes, room);
+    hand(told, next)
+}
+
+pub fn set_if_freq(
+    tuner: &[u8],
+    hz: u64,
+    outcomes: &[u8],
+    room: &mut [u8],
+    next: &mut [u8],
+) -> Reply
+    ensures { λ r. ⌜ after r (now (room .exit)) (now (next .exit))
+        ≡ overTuner anyArgument (ifCall (now (outcomes .entry)) hz) (now (tuner .entry)) (now (room .entry)) (now (next .entry)) ⌝ }
+{
+    let read = records::decode_tuner(tuner);
+    let given = read.tuner;
+    let number = ready(read.ok, 0, next.len(), TUNER);
+    if number != 0 {
+        return refuse(number);
+    }
+    let told = given.set_if_freq(hz, outcomes, room);
+    hand(told, next)
+}
+
+pub fn set_gain(tuner: &[u8], db: f32, outcomes: &[u8], room: &mut [u8], next: &mut [u8]) -> Reply
+    ensures { λ r. ⌜ after r (now (room .exit)) (now (next .exit))
+        ≡ overTuner anyArgument (gainCall (now (outcomes .entry)) db) (now (tuner .entry)) (now (room .entry)) (now (next .entry)) ⌝ }
+{
+    let read = records::decode_tuner(tuner);
+    let given = read.tuner;
+    let number = ready(read.ok, 0, next.len(), TUNER);
+    if number != 0 {
+        return refuse(number);
+    }
+    let told = given.set_gain(db, outcomes, room);
+    hand(told, next)
+}
+
+pub fn set_gain_by_index(
+    tuner: &[u8],
+    index: usize,
+    outcomes: &[u8],
+    room: &mut [u8],
+    next: &mut [u8],
+) -> Reply
+    ensures { λ r. ⌜ after r (now (room .exit)) (now (next .exit))
+        ≡ overTuner anyArgument (indexCall (now (outcomes .entry)) index) (now (tuner .entry)) (now (room .entry)) (now (next .entry)) ⌝ }
+{
+    let read = records::decode_tuner(tuner);
+    let given = read.tuner;
+    let number = ready(read.ok, 0, next.len(), TUNER);
+    if number != 0 {
+        return refuse(number);
+    }
+    let told = given.set_gain_by_index(index, outcomes, room);
+    hand(told, next)
+}
+
+pub fn set_input_path(
+    tuner: &[u8],
+    path: u8,
+    outcomes: &[u8],
+    room: &mut [u8],
+    next: &mut [u8],
+) -> Reply
+    ensures { λ r. ⌜ after r (now (room .exit)) (now (next .exit))
+        ≡ overTuner (λ t. pathRefusal path) (pathCall (now (outcomes .entry)) path) (now (tuner .entry)) (now (room .entry)) (now (next .entry)) ⌝ }
+{
+    let read = records::decode_tuner(tuner);
+    let given = read.tuner;
+    let number = ready(read.ok, path_refusal(path), next.len(), TUNER);
+    if number != 0 {
+        return refuse(number);
+    }
+    let told = given.set_input_path(path, outcomes, room);
+    hand(told, next)
+}
+
+pub fn set_frequency(
+    tuner: &[u8],
+    hz: u64,
+    outcomes: &[u8],
+    replies: &[u8],
+    room: &mut [u8],
+    next: &mut [u8],
+) -> Reply
+    ensures { λ r. ⌜ after r (now (room .exit)) (now (next .exit))
+        ≡ overTuner (λ t. hzRefusal hz (t .ifreq)) (tuneCall (now (outcomes .entry)) (now (replies .entry)) hz) (now (tuner .entry)) (now (room .entry)) (now (next .entry)) ⌝ }
+{
+    let read = records::decode_tuner(tuner);
+    let given = read.tuner;
+    let number = ready(
+        read.ok,
+        r82xx::hz_refusal(hz, given.ifreq),
+        next.len(),
+        TUNER,
+    );
+    if number != 0 {
+        return refuse(number);
+    }
+    let told = given.set_frequency(hz, replies, outcomes, room);
+    hand(told, next)
+}
+
+pub fn number_of(answer: Answer) -> u8
+    ensures { λ r. ⌜ r ≡ numberOf answer ⌝ }
+{
+    match answer {
+        Answer::Done(_) => 0,
+        Answer::Refused(n) => n,
+        Answer::Stopped(_) => 11,
+    }
+}
+
+pub fn value_of(answer: Answer) -> u64
+    ensures { λ r. ⌜ r ≡ valueOf answer ⌝ }
+{
+    match answer {
+        Answer::Done(v) => v,
+        Answer::Refused(_) => 0,
+        Answer::Stopped(_) => 0,
+    }
+}
+
+// A record that was worked out without a step, or the number that it was refused by.
+fn lend(answer: Answer, tuner: Tuner, out: &mut [u8]) -> Answer
+    ensures { λ r. ⌜ given r (now (out .exit)) ≡ recordInto answer (tunerBytes tuner) (now (out .entry)) ⌝ }
+{
+    let image = records::tuner_image(tuner);
+    answers::lend(number_of(answer), value_of(answer), &image, out)
+}
+
+pub fn fresh(kind: u64, address: u8, nominal: u64, next: &mut [u8]) -> Answer
+    ensures { λ r. ⌜ given r (now (next .exit)) ≡ freshInto kind address nominal (now (next .entry)) ⌝ }
+{
+    let made = Tuner::new(kind, address, nominal);
+    let answer = made.answer;
+    lend(answer, made.tuner, next)
+}
+
+pub fn update_shadow(tuner: &[u8], register: u8, value: u8, mask: u8, next: &mut [u8]) -> Answer
+    ensures { λ r. ⌜ given r (now (next .exit)) ≡ changedInto (shadowCall register value mask) (now (tuner .entry)) (now (next .entry)) ⌝ }
+{
+    let read = records::decode_tuner(tuner);
+    if !read.ok {
+        return Answer::Refused(chip::SETUP);
+    }
+    let given = read.tuner;
+    let told = given.update_shadow(register, value, mask);
+    let answer = told.answer;
+    lend(answer, told.tuner, next)
+}
+
+pub fn set_ppm(tuner: &mut [u8], ppm: i32) -> Answer
+    ensures { λ r. ⌜ given r (now (tuner .exit)) ≡ changedInto (ppmCall ppm) (now (tuner .entry)) (now (tuner .entry)) ⌝ }
+{
+    let read = records::decode_tuner(tuner);
+    if !read.ok {
+        return Answer::Refused(chip::SETUP);
+    }
+    let given = read.tuner;
+    let told = given.with_ppm(ppm);
+    let answer = told.answer;
+    lend(answer, told.tuner, tuner)
+}
+
+pub fn apply_notch(tuner: &mut [u8], on: bool) -> Answer
+    ensures { λ r. ⌜ given r (now (tuner .exit)) ≡ changedInto (notchCall on) (now (tuner .entry)) (now (tuner .entry)) ⌝ }
+{
+    let read = records::decode_tuner(tuner);
+    if !read.ok {
+        return Answer::Refused(chip::SETUP);
+    }
+    let given = read.tuner;
+    let told = given.with_notch(on);
+    let answer = told.answer;
+    lend(answer, told.tuner, tuner)
+}
+
+pub fn get_gain(tuner: &[u8]) -> Answer
+    ensures { λ r. ⌜ r ≡ answerOver gainAnswer (now (tuner .entry)) ⌝ }
+{
+    let read = records::decode_tuner(tuner);
+    if !read.ok {
+        return Answer::Refused(chip::SETUP);
+    }
+    let given = read.tuner;
+    given.get_gain()
+}
+
+pub fn get_if_freq(tuner: &[u8]) -> Answer
+    ensures { λ r. ⌜ r ≡ answerOver ifAnswer (now (tuner .entry)) ⌝ }
+{
+    let read = records::decode_tuner(tuner);
+    if !read.ok {
+        return Answer::Refused(chip::SETUP);
+    }
+    let given = read.tuner;
+    given.get_if_freq()
+}
+
+pub fn get_gain_table(tuner: &[u8], out: &mut [u8]) -> Answer
+    ensures { λ r. ⌜ given r (now (out .exit)) ≡ tableOver (now (tuner .entry)) (now (out .entry)) ⌝ }
+{
+    let read = records::decode_tuner(tuner);
+    if !read.ok {
+        return Answer::Refused(chip::SETUP);
+    }
+    let given = read.tuner;
+    answers::gain_table(given, out)
+}

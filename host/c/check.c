@@ -1,0 +1,298 @@
+/*
+ * Whether pasetone.h says what libpasetone.a is: sizes, every declaration linked and called, and document 01's worked numbers. Prints the count
+ * of checks and of faults; exits 1 on a fault. What it does not do: damaged input, which is hostile.c's.
+ */
+#include <stddef.h>
+#include <stdio.h>
+#include <string.h>
+
+#include "pasetone.h"
+
+/* C99 has no static assertion: a size below zero is an error. */
+#define SAME_AT_COMPILE_TIME(name, a, b) typedef char name[(a) == (b) ? 1 : -1]
+SAME_AT_COMPILE_TIME(reply_is_24, sizeof(pasetone_reply), 24);
+SAME_AT_COMPILE_TIME(tune_reply_is_24, sizeof(pasetone_tune_reply), 24);
+SAME_AT_COMPILE_TIME(section_is_24, sizeof(pasetone_section), 24);
+SAME_AT_COMPILE_TIME(reply_refusal_at_16, offsetof(pasetone_reply, refusal), 16);
+SAME_AT_COMPILE_TIME(reply_count_at_20, offsetof(pasetone_reply, count), 20);
+SAME_AT_COMPILE_TIME(tune_reply_count_at_20, offsetof(pasetone_tune_reply, count), 20);
+SAME_AT_COMPILE_TIME(section_refusal_at_16, offsetof(pasetone_section, refusal), 16);
+SAME_AT_COMPILE_TIME(tuner_record_ends, PASETONE_TUNER_DOUBTFUL + PASETONE_REGISTER_COUNT, PASETONE_TUNER_SIZE);
+SAME_AT_COMPILE_TIME(driver_record_ends, PASETONE_DRIVER_RATE + 4, PASETONE_DRIVER_SIZE);
+SAME_AT_COMPILE_TIME(tune_room_is_856, PASETONE_TUNE_ROOM, 856);
+
+static unsigned checks, faults;
+static uint8_t tuner[PASETONE_TUNER_SIZE], driver[PASETONE_DRIVER_SIZE];
+static uint8_t next[PASETONE_TUNER_SIZE], next_driver[PASETONE_DRIVER_SIZE];
+static uint8_t outcomes[PASETONE_TUNE_ENTRIES], replies[PASETONE_TUNE_REPLIES], room[PASETONE_TUNE_ROOM];
+
+#define TUNER tuner, sizeof tuner
+#define DRIVER driver, sizeof driver
+#define NEXT next, sizeof next
+#define OUTCOMES outcomes, sizeof outcomes
+#define REPLIES replies, sizeof replies
+#define ROOM room, sizeof room
+
+static void same(const char *what, uint64_t is, uint64_t must)
+{
+    checks++;
+    if (is != must) {
+        faults++;
+        printf("%s: is %llu, must be %llu\n", what, (unsigned long long)is, (unsigned long long)must);
+    }
+}
+
+static void same_bytes(const char *what, const uint8_t *is, const uint8_t *must, size_t n)
+{
+    size_t i;
+    for (i = 0; i < n && is[i] == must[i]; i++) {
+    }
+    same(what, i, n);
+}
+
+/* A call that is done: its value and how many entries it made. */
+static void done(const char *what, pasetone_reply reply, uint64_t value, uint32_t count)
+{
+    same(what, reply.refusal, PASETONE_DONE);
+    same(what, reply.value, value);
+    same(what, reply.index, 0);
+    same(what, reply.count, count);
+}
+
+static void refused(const char *what, pasetone_reply reply, uint32_t number)
+{
+    same(what, reply.refusal, number);
+    same(what, reply.value | reply.index | reply.count, 0);
+}
+
+static void check_making(void)
+{
+    same("version", pasetone_version(), 0x00010000);
+    done("fresh tuner", pasetone_tuner_new(PASETONE_R828D, 0x74, 28800000, TUNER), 0, 0);
+    same("fresh kind", tuner[PASETONE_TUNER_KIND], PASETONE_R828D);
+    same("fresh address", tuner[PASETONE_TUNER_ADDRESS], 0x74);
+    same("fresh shadow", tuner[PASETONE_TUNER_SHADOW], 0x83);
+    same("fresh doubt", tuner[PASETONE_TUNER_DOUBTFUL + 26], 1);
+    same_bytes("fresh attempts", tuner + PASETONE_TUNER_ATTEMPTED, tuner + PASETONE_TUNER_SHADOW, PASETONE_REGISTER_COUNT);
+    done("fresh driver", pasetone_driver_new(PASETONE_V4, 28800000, 0, 102300000, 2048000, DRIVER), 0, 0);
+    done("IF", pasetone_get_if_freq(TUNER), 2300000, 0);
+    done("gain", pasetone_get_gain(TUNER), 0, 0);
+    refused("kind 2", pasetone_tuner_new(2, 0x74, 28800000, NEXT), PASETONE_SETUP);
+    refused("nominal 0", pasetone_tuner_new(PASETONE_R828D, 0x74, 0, NEXT), PASETONE_SETUP);
+    refused("short next", pasetone_tuner_new(PASETONE_R828D, 0x74, 28800000, next, 104), PASETONE_ROOM);
+    refused("no record", pasetone_get_gain(tuner, 104), PASETONE_SETUP);
+}
+
+/* Document 01: bandwidth 2,048,000, a fresh R828D at 0x74, all done. */
+static void check_bandwidth(void)
+{
+    static const uint8_t section[56] = {
+        1, 0, 0,    1, 0, 0, 0, 0, 1,    0,    0, 0, 0, 0, 0, 0, /* opens */
+        2, 0, 0x74, 2, 0, 0, 0, 0, 0x0a, 0xd8, 0, 0, 0, 0, 0, 0, /* register 0x0a */
+        1, 0, 0,    1, 0, 0, 0, 0, 0,    0,    0, 0, 0, 0, 0, 0, /* closes */
+        3, 0, 0,    0, 0x30, 0, 0, 0,
+    };
+    pasetone_section read;
+    memset(room, 0xa5, sizeof room);
+    done("bandwidth", pasetone_set_bandwidth(TUNER, 2048000, OUTCOMES, ROOM, NEXT), 0, 3);
+    same_bytes("bandwidth's section", room, section, sizeof section);
+    same("past the section", room[56], 0xa5);
+    same("bandwidth's doubt", next[PASETONE_TUNER_DOUBTFUL + 5], 0);
+    read = pasetone_read_section(room, sizeof section);
+    same("reader", read.refusal, PASETONE_DONE);
+    same("reader's count", read.count, 3);
+    same("reader's start", read.start, 0);
+    read = pasetone_read_section(section + 1, sizeof section - 1);
+    same("reader, a byte too few", read.refusal, PASETONE_SECTION);
+}
+
+static void check_tuning(void)
+{
+    pasetone_tune_reply reply = pasetone_set_frequency(TUNER, 100000000, OUTCOMES, REPLIES, ROOM, NEXT);
+    same("tune", reply.refusal, PASETONE_DONE);
+    same("tune's value", reply.value, 100000000);
+    same("tune's entries", reply.count, 53);
+    same("LO 102,300,000: 0x14", room[16 * 13 + 8] << 8 | room[16 * 13 + 9], 0x14ca);
+    same("LO 102,300,000: 0x16", room[16 * 14 + 8] << 8 | room[16 * 14 + 9], 0x16d5);
+    same("LO 102,300,000: 0x15", room[16 * 15 + 8] << 8 | room[16 * 15 + 9], 0x1556);
+    reply = pasetone_set_frequency(TUNER, 27656250 - 2300000 - 1, OUTCOMES, REPLIES, ROOM, NEXT);
+    same("LO 27,656,249", reply.refusal, PASETONE_FREQUENCY);
+    same("a PLL refusal's entries", reply.count, 13);
+    reply = pasetone_set_frequency(TUNER, 0, OUTCOMES, REPLIES, ROOM, NEXT);
+    same("0 Hz", reply.refusal, PASETONE_FREQUENCY);
+    same("0 Hz, entries", reply.count, 0);
+    outcomes[5] = 1;
+    reply = pasetone_set_frequency(TUNER, 100000000, OUTCOMES, REPLIES, ROOM, NEXT);
+    outcomes[5] = 0;
+    same("a step failed", reply.refusal, PASETONE_STEP);
+    same("a step failed: index", reply.index, 5);
+    same("a step failed: entries", reply.count, 7);
+    same("a step failed: value", reply.value, 0);
+}
+
+/*
+ * The header's rounds: a receiver that is asked step by step leaves what the whole script leaves at once. `truth` is how the receiver behaves:
+ * its outcomes, then its replies.
+ */
+static void check_rounds(const uint8_t *truth)
+{
+    uint8_t section[PASETONE_TUNE_ROOM], at_once[PASETONE_TUNER_SIZE];
+    const uint8_t *answers = truth + sizeof outcomes;
+    uint32_t taken = 0;
+    size_t used = 0;
+    pasetone_tune_reply whole = pasetone_set_frequency(TUNER, 100000000, truth, sizeof outcomes, answers, sizeof replies, section,
+                                                       sizeof section, at_once, sizeof at_once);
+    pasetone_tune_reply reply = pasetone_set_frequency(TUNER, 100000000, OUTCOMES, REPLIES, ROOM, NEXT);
+    while (taken < reply.count) {
+        const uint8_t *entry = room + 16 * taken;
+        if (entry[0] == 3) {
+            memcpy(replies + used, answers + used, entry[3]);
+            used += entry[3];
+        }
+        outcomes[taken] = truth[taken];
+        taken++;
+        reply = pasetone_set_frequency(TUNER, 100000000, OUTCOMES, REPLIES, ROOM, NEXT);
+    }
+    same("in rounds: refusal", reply.refusal, whole.refusal);
+    same("in rounds: index", reply.index, whole.index);
+    same("in rounds: entries", reply.count, whole.count);
+    same_bytes("in rounds: section", room, section, PASETONE_ROOM_FOR(whole.count));
+    same_bytes("in rounds: record", next, at_once, sizeof next);
+    memset(outcomes, 0, sizeof outcomes);
+    memset(replies, 0, sizeof replies);
+}
+
+/* A receiver that locks at the second try; one that fails at a step in each place. */
+static void check_receivers(void)
+{
+    uint8_t truth[sizeof outcomes + sizeof replies];
+    size_t step;
+    memset(truth, 0, sizeof truth);
+    truth[sizeof outcomes + 4] = 0x08;
+    truth[sizeof outcomes + 10] = 0x02;
+    check_rounds(truth);
+    for (step = 0; step < sizeof outcomes; step++) {
+        truth[step] = 1;
+        check_rounds(truth);
+        truth[step] = 0;
+    }
+}
+
+static void check_tuner(void)
+{
+    uint8_t table[PASETONE_GAIN_TABLE_SIZE];
+    done("initialise", pasetone_initialize(TUNER, OUTCOMES, ROOM, NEXT), 0, 19);
+    done("gain 3.2 dB", pasetone_set_gain(TUNER, 3.2f, OUTCOMES, ROOM, NEXT), 0x402ccccd, 7);
+    done("gain by index", pasetone_set_gain_by_index(TUNER, 99, OUTCOMES, ROOM, NEXT), 0x42466666, 7);
+    done("IF", pasetone_set_if_freq(TUNER, 3570000, OUTCOMES, ROOM, NEXT), 0, 4);
+    done("IF set", pasetone_get_if_freq(NEXT), 3570000, 0);
+    done("input path", pasetone_set_input_path(TUNER, PASETONE_UHF, OUTCOMES, ROOM, NEXT), 0, 4);
+    refused("path 3", pasetone_set_input_path(TUNER, 3, OUTCOMES, ROOM, NEXT), PASETONE_SETUP);
+    done("reload", pasetone_reload(TUNER, OUTCOMES, ROOM, NEXT), 0, 9);
+    same("reload's doubt", next[PASETONE_TUNER_DOUBTFUL], 0);
+    done("shadow", pasetone_update_shadow(TUNER, 0x05, 0xff, 0x0f, NEXT), 0x8f, 0);
+    refused("register 0x20", pasetone_update_shadow(TUNER, 0x20, 0, 0, NEXT), PASETONE_REGISTER);
+    done("gain table", pasetone_get_gain_table(TUNER, table, sizeof table), 0, 0);
+    same("gain 28", table[112] | table[113] << 8, 496);
+    memcpy(next, tuner, sizeof next);
+    done("ppm -1", pasetone_set_ppm(NEXT, -1), 0, 0);
+    same("28,799,972", next[33] | next[34] << 8 | next[35] << 16 | (uint32_t)next[36] << 24, 28799972);
+    refused("ppm -1,000,000", pasetone_set_ppm(NEXT, -1000000), PASETONE_CORRECTION);
+    done("notch", pasetone_apply_notch(NEXT, 2), 0, 0);
+    same("notch", next[PASETONE_TUNER_NOTCH], 1);
+}
+
+static void check_driver(void)
+{
+    done("driver's ppm", pasetone_driver_set_ppm(DRIVER, -1, next_driver, sizeof next_driver), 0, 0);
+    done("driver's reference", pasetone_corrected_xtal_hz(next_driver, sizeof next_driver), 28799972, 0);
+    refused("driver's ppm", pasetone_driver_set_ppm(DRIVER, -1000000, next_driver, sizeof next_driver), PASETONE_CORRECTION);
+    done("sample rate", pasetone_set_sample_rate(DRIVER, TUNER, 3200000, OUTCOMES, ROOM, next_driver, sizeof next_driver, NEXT), 0, 17);
+    done("its IF", pasetone_get_if_freq(NEXT), 3570000, 0);
+    same("its rate", next_driver[PASETONE_DRIVER_RATE] | next_driver[PASETONE_DRIVER_RATE + 1] << 8, 3200000 & 0xffff);
+    refused("rate 0", pasetone_set_sample_rate(DRIVER, TUNER, 0, OUTCOMES, ROOM, next_driver, sizeof next_driver, NEXT), PASETONE_RATE);
+    done("board path", pasetone_apply_input_path(TUNER, PASETONE_VHF, OUTCOMES, REPLIES, ROOM, NEXT), 0, 10);
+    refused("board path, room", pasetone_apply_input_path(TUNER, 0, OUTCOMES, REPLIES, room, 167, NEXT), PASETONE_ROOM);
+    refused("board path, outcomes", pasetone_apply_input_path(TUNER, 0, outcomes, 9, REPLIES, ROOM, NEXT), PASETONE_OUTCOMES);
+    refused("board path, replies", pasetone_apply_input_path(TUNER, 0, OUTCOMES, replies, 2, ROOM, NEXT), PASETONE_REPLIES);
+}
+
+static void check_demod(void)
+{
+    done("baseband", pasetone_init_baseband(OUTCOMES, ROOM), 0, 45);
+    same("FIR's first byte", room[16 * 16 + 8], 0xca);
+    same("FIR's last byte", room[16 * 35 + 8], 0xa5);
+    done("power on", pasetone_power_on(OUTCOMES, ROOM), 0, 45);
+    done("reset", pasetone_reset_demod(OUTCOMES, ROOM), 0, 2);
+    done("low IF", pasetone_set_tuner_low_if(OUTCOMES, ROOM), 0, 2);
+    done("zero IF", pasetone_set_tuner_zero_if(OUTCOMES, ROOM), 0, 2);
+    done("start", pasetone_start_streaming(OUTCOMES, ROOM), 0, 2);
+    done("stop", pasetone_stop_streaming(OUTCOMES, ROOM), 0, 2);
+    done("direct", pasetone_write_reg_direct(1, 0x1234, 0x56, OUTCOMES, ROOM), 0, 1);
+    same("direct's entry", room[2] << 24 | room[4] << 16 | room[5] << 8 | room[8], 0x01341256);
+    done("IF by reference", pasetone_set_if_freq_xtal(3570000, 28800000, OUTCOMES, ROOM), 0, 3);
+    same("38 11 12", room[8] << 16 | room[24] << 8 | room[40], 0x381112);
+    refused("reference 0", pasetone_set_if_freq_xtal(1, 0, OUTCOMES, ROOM), PASETONE_CORRECTION);
+    done("rate by reference", pasetone_set_sample_rate_xtal(2048000, 28800000, OUTCOMES, ROOM), 0, 4);
+    same("0x03840000", (uint32_t)room[8] << 24 | room[9] << 16 | room[24] << 8 | room[25], 0x03840000);
+    done("rate 225,000", pasetone_set_sample_rate_xtal(225000, 28800000, OUTCOMES, ROOM), 0, 4);
+    same("0", (uint32_t)room[8] << 24 | room[9] << 16 | room[24] << 8 | room[25], 0);
+    refused("rate 0, reference 0", pasetone_set_sample_rate_xtal(0, 0, OUTCOMES, ROOM), PASETONE_RATE);
+    done("GPIO output", pasetone_set_gpio_output(5, OUTCOMES, REPLIES, ROOM), 0, 4);
+    done("GPIO bit", pasetone_set_gpio_bit(7, 1, OUTCOMES, REPLIES, ROOM), 0, 2);
+    refused("GPIO 8", pasetone_set_gpio_bit(8, 1, OUTCOMES, REPLIES, ROOM), PASETONE_PIN);
+}
+
+static void check_numbers(void)
+{
+    static const uint8_t if_regs[] = {0x07, 0xee, 0xee}, resample[] = {0x03, 0x84, 0, 0};
+    uint8_t out[4];
+    done("V4, 28,799,999", pasetone_plan_tuning(PASETONE_V4, 28799999, out, 3), 57599999, 0);
+    same("inverted, HF, no notch", out[0] << 16 | out[1] << 8 | out[2], 0x010000);
+    done("V4, 28,800,000", pasetone_plan_tuning(PASETONE_V4, 28800000, out, 3), 28800000, 0);
+    done("V4, 112,000,000", pasetone_plan_tuning(PASETONE_V4, 112000000, out, 3), 112000000, 0);
+    same("VHF, notch", out[0] << 16 | out[1] << 8 | out[2], 0x000101);
+    done("V4, 112,000,001", pasetone_plan_tuning(PASETONE_V4, 112000001, out, 3), 112000001, 0);
+    same("VHF, no notch", out[0] << 16 | out[1] << 8 | out[2], 0x000100);
+    done("generic", pasetone_plan_tuning(PASETONE_GENERIC, 1, out, 3), 1, 0);
+    same("no path", out[1], PASETONE_NO_PATH);
+    refused("board 2", pasetone_plan_tuning(2, 1, out, 3), PASETONE_SETUP);
+    done("IF's bytes", pasetone_if_freq_regs(3570000, 28800000, out, 3), 0, 0);
+    same_bytes("07 ee ee", out, if_regs, 3);
+    done("rate's bytes", pasetone_resample_regs(2048000, 28800000, out, 4), 0, 0);
+    same_bytes("03 84 00 00", out, resample, 4);
+}
+
+static void check_fir(void)
+{
+    static const int values[16] = {-54, -36, -41, -40, -32, -14, 14, 53, 101, 156, 215, 273, 327, 372, 404, 421};
+    static const uint8_t packed[PASETONE_FIR_SIZE] = {0xca, 0xdc, 0xd7, 0xd8, 0xe0, 0xf2, 0x0e, 0x35, 0x06, 0x50,
+                                                      0x9c, 0x0d, 0x71, 0x11, 0x14, 0x71, 0x74, 0x19, 0x41, 0xa5};
+    uint8_t given[PASETONE_FIR_VALUES_SIZE], back[PASETONE_FIR_VALUES_SIZE], out[PASETONE_FIR_SIZE];
+    int i;
+    for (i = 0; i < 64; i++) {
+        given[i] = (uint8_t)((uint32_t)values[i / 4] >> 8 * (i % 4));
+    }
+    done("FIR", pasetone_pack_fir(given, sizeof given, out, sizeof out), 0, 0);
+    same_bytes("FIR's bytes", out, packed, sizeof packed);
+    done("FIR back", pasetone_unpack_fir(packed, sizeof packed, back, sizeof back), 0, 0);
+    same_bytes("FIR's values", back, given, sizeof given);
+    given[1] = 0;
+    refused("FIR, 202 in 8 bits", pasetone_pack_fir(given, sizeof given, out, sizeof out), PASETONE_COEFFICIENT);
+    refused("FIR, 19 bytes", pasetone_unpack_fir(packed, 19, back, sizeof back), PASETONE_COEFFICIENT);
+}
+
+int main(void)
+{
+    check_making();
+    check_bandwidth();
+    check_tuning();
+    check_receivers();
+    check_tuner();
+    check_driver();
+    check_demod();
+    check_numbers();
+    check_fir();
+    printf("check: %u checks, %u faults\n", checks, faults);
+    return faults == 0 ? 0 : 1;
+}

@@ -1,0 +1,194 @@
+/* Every function that libpasetone.a exports: what it takes, when document 01 refuses its arguments, what it answers. */
+#include <string.h>
+
+#include "hostile.h"
+
+#define S(slot) a->at[slot], a->told[slot]
+#define RUN(name, expression) \
+    static pasetone_reply name(struct attempt *a) { return expression; }
+
+static pasetone_reply run_version(struct attempt *a)
+{
+    pasetone_reply reply = {0, 0, 0, 0};
+    (void)a;
+    reply.value = pasetone_version();
+    return reply;
+}
+
+static float decibels(const struct attempt *a)
+{
+    uint32_t bits = (uint32_t)a->arg[0];
+    float db;
+    memcpy(&db, &bits, sizeof db);
+    return db;
+}
+
+static pasetone_reply run_tune(struct attempt *a)
+{
+    pasetone_tune_reply told = pasetone_set_frequency(S(TUNER), a->arg[0], S(OUTCOMES), S(REPLIES), S(ROOM), S(NEXT));
+    pasetone_reply reply = {told.value, told.index, told.refusal, told.count};
+    return reply;
+}
+
+/* A section's start as value; `zero` as index. */
+static pasetone_reply run_read(struct attempt *a)
+{
+    pasetone_section told = pasetone_read_section(S(INPUT));
+    pasetone_reply reply = {told.start, told.zero, told.refusal, (uint32_t)told.count};
+    return reply;
+}
+
+RUN(run_tuner_new, pasetone_tuner_new(a->arg[0], (uint8_t)a->arg[1], a->arg[2], S(NEXT)))
+RUN(run_driver_new, pasetone_driver_new(a->arg[0], a->arg[1], (int32_t)(uint32_t)a->arg[2], a->arg[3], (uint32_t)a->arg[4], S(NEXT_DRIVER)))
+RUN(run_initialize, pasetone_initialize(S(TUNER), S(OUTCOMES), S(ROOM), S(NEXT)))
+RUN(run_gain, pasetone_set_gain(S(TUNER), decibels(a), S(OUTCOMES), S(ROOM), S(NEXT)))
+RUN(run_gain_index, pasetone_set_gain_by_index(S(TUNER), a->arg[0], S(OUTCOMES), S(ROOM), S(NEXT)))
+RUN(run_bandwidth, pasetone_set_bandwidth(S(TUNER), (uint32_t)a->arg[0], S(OUTCOMES), S(ROOM), S(NEXT)))
+RUN(run_if, pasetone_set_if_freq(S(TUNER), a->arg[0], S(OUTCOMES), S(ROOM), S(NEXT)))
+RUN(run_path, pasetone_set_input_path(S(TUNER), (uint8_t)a->arg[0], S(OUTCOMES), S(ROOM), S(NEXT)))
+RUN(run_reload, pasetone_reload(S(TUNER), S(OUTCOMES), S(ROOM), S(NEXT)))
+RUN(run_shadow, pasetone_update_shadow(S(TUNER), (uint8_t)a->arg[0], (uint8_t)a->arg[1], (uint8_t)a->arg[2], S(NEXT)))
+RUN(run_get_gain, pasetone_get_gain(S(TUNER)))
+RUN(run_get_if, pasetone_get_if_freq(S(TUNER)))
+RUN(run_table, pasetone_get_gain_table(S(TUNER), S(OUT)))
+RUN(run_ppm, pasetone_set_ppm(S(TUNER), (int32_t)(uint32_t)a->arg[0]))
+RUN(run_notch, pasetone_apply_notch(S(TUNER), (uint8_t)a->arg[0]))
+RUN(run_driver_ppm, pasetone_driver_set_ppm(S(DRIVER), (int32_t)(uint32_t)a->arg[0], S(NEXT_DRIVER)))
+RUN(run_xtal, pasetone_corrected_xtal_hz(S(DRIVER)))
+RUN(run_rate, pasetone_set_sample_rate(S(DRIVER), S(TUNER), (uint32_t)a->arg[0], S(OUTCOMES), S(ROOM), S(NEXT_DRIVER), S(NEXT)))
+RUN(run_board_path, pasetone_apply_input_path(S(TUNER), (uint8_t)a->arg[0], S(OUTCOMES), S(REPLIES), S(ROOM), S(NEXT)))
+RUN(run_baseband, pasetone_init_baseband(S(OUTCOMES), S(ROOM)))
+RUN(run_power, pasetone_power_on(S(OUTCOMES), S(ROOM)))
+RUN(run_reset, pasetone_reset_demod(S(OUTCOMES), S(ROOM)))
+RUN(run_low, pasetone_set_tuner_low_if(S(OUTCOMES), S(ROOM)))
+RUN(run_zero, pasetone_set_tuner_zero_if(S(OUTCOMES), S(ROOM)))
+RUN(run_start, pasetone_start_streaming(S(OUTCOMES), S(ROOM)))
+RUN(run_stop, pasetone_stop_streaming(S(OUTCOMES), S(ROOM)))
+RUN(run_direct, pasetone_write_reg_direct((uint8_t)a->arg[0], (uint16_t)a->arg[1], (uint8_t)a->arg[2], S(OUTCOMES), S(ROOM)))
+RUN(run_if_xtal, pasetone_set_if_freq_xtal((uint32_t)a->arg[0], (uint32_t)a->arg[1], S(OUTCOMES), S(ROOM)))
+RUN(run_rate_xtal, pasetone_set_sample_rate_xtal((uint32_t)a->arg[0], (uint32_t)a->arg[1], S(OUTCOMES), S(ROOM)))
+RUN(run_output, pasetone_set_gpio_output((uint8_t)a->arg[0], S(OUTCOMES), S(REPLIES), S(ROOM)))
+RUN(run_bit, pasetone_set_gpio_bit((uint8_t)a->arg[0], (uint8_t)a->arg[1], S(OUTCOMES), S(REPLIES), S(ROOM)))
+RUN(run_plan, pasetone_plan_tuning((uint8_t)a->arg[0], a->arg[1], S(OUT)))
+RUN(run_if_regs, pasetone_if_freq_regs((uint32_t)a->arg[0], (uint32_t)a->arg[1], S(OUT)))
+RUN(run_resample, pasetone_resample_regs((uint32_t)a->arg[0], (uint32_t)a->arg[1], S(OUT)))
+RUN(run_pack, pasetone_pack_fir(S(INPUT), S(OUT)))
+RUN(run_unpack, pasetone_unpack_fir(S(INPUT), S(OUT)))
+
+/* Arguments. A record has been judged before these are asked. */
+
+#define ARGUMENT(name, expression) \
+    static uint32_t name(const struct attempt *a) { return (void)a, (uint32_t)(expression); }
+#define REFUSE(condition, number) ((condition) ? (number) : 0)
+#define NO_REFERENCE(x) ((x) < 1 || (x) > 4294967295u)
+
+ARGUMENT(any, 0)
+ARGUMENT(tuner_args, REFUSE(a->arg[0] > 1 || NO_REFERENCE(a->arg[2]), 1))
+ARGUMENT(driver_args, a->arg[0] > 1 || NO_REFERENCE(a->arg[1]) ? 1 : REFUSE(corrected(a->arg[1], (int32_t)(uint32_t)a->arg[2]) == 0, 4))
+ARGUMENT(hz_args, REFUSE(a->arg[0] == 0 || a->arg[0] > UINT64_MAX - number_at(a->before[TUNER] + PASETONE_TUNER_IF, 8), 2))
+ARGUMENT(path_args, REFUSE((uint8_t)a->arg[0] > 2, 1))
+ARGUMENT(register_args, REFUSE((uint8_t)a->arg[0] < 0x05 || (uint8_t)a->arg[0] > 0x1f, 5))
+ARGUMENT(ppm_args, REFUSE(corrected(number_at(a->before[TUNER] + PASETONE_TUNER_NOMINAL, 4), (int32_t)(uint32_t)a->arg[0]) == 0, 4))
+ARGUMENT(driver_ppm_args, REFUSE(corrected(number_at(a->before[DRIVER] + PASETONE_DRIVER_NOMINAL, 4), (int32_t)(uint32_t)a->arg[0]) == 0, 4))
+ARGUMENT(rate_args, REFUSE((uint32_t)a->arg[0] == 0, 3))
+ARGUMENT(xtal_args, REFUSE((uint32_t)a->arg[1] == 0, 4))
+ARGUMENT(rate_xtal_args, (uint32_t)a->arg[0] == 0 ? 3 : REFUSE((uint32_t)a->arg[1] == 0, 4))
+ARGUMENT(pin_args, REFUSE((uint8_t)a->arg[0] > 7, 6))
+ARGUMENT(board_args, REFUSE((uint8_t)a->arg[0] > 1, 1))
+ARGUMENT(unpack_args, REFUSE(a->n[INPUT] != PASETONE_FIR_SIZE, 7))
+
+static uint32_t pack_args(const struct attempt *a)
+{
+    int i;
+    if (a->n[INPUT] != PASETONE_FIR_VALUES_SIZE) {
+        return 7;
+    }
+    for (i = 0; i < 16; i++) {
+        int64_t v = (int32_t)(uint32_t)number_at(a->before[INPUT] + 4 * i, 4);
+        int64_t bound = i < 8 ? 128 : 2048;
+        if (v < -bound || v >= bound) {
+            return 7;
+        }
+    }
+    return 0;
+}
+
+static uint32_t read_args(const struct attempt *a)
+{
+    uint64_t start, count;
+    return read_model(a->before[INPUT], a->n[INPUT], &start, &count);
+}
+
+/* Values of done calls. */
+
+#define VALUE(name, expression) \
+    static uint64_t name(const struct attempt *a) { return (void)a, (expression); }
+
+VALUE(nothing, 0)
+VALUE(version_value, 0x00010000)
+VALUE(asked, a->arg[0])
+VALUE(gain_set, number_at(a->at[NEXT] + PASETONE_TUNER_GAIN, 4))
+VALUE(gain_held, number_at(a->before[TUNER] + PASETONE_TUNER_GAIN, 4))
+VALUE(if_held, number_at(a->before[TUNER] + PASETONE_TUNER_IF, 8))
+VALUE(xtal_value, corrected(number_at(a->before[DRIVER] + 1, 4), (int32_t)(uint32_t)number_at(a->before[DRIVER] + 5, 4)))
+VALUE(plan_value, a->arg[1] + (a->arg[0] % 256 == 1 && a->arg[1] < 28800000 ? 28800000 : 0))
+
+static uint64_t shadow_value(const struct attempt *a)
+{
+    uint8_t old = a->before[TUNER][PASETONE_TUNER_SHADOW + (uint8_t)a->arg[0] - 0x05];
+    uint8_t value = (uint8_t)a->arg[1], mask = (uint8_t)a->arg[2];
+    return (old & ~mask & 255) | (value & mask);
+}
+
+static uint64_t start_value(const struct attempt *a)
+{
+    uint64_t start, count;
+    read_model(a->before[INPUT], a->n[INPUT], &start, &count);
+    return start;
+}
+
+#define FREE (HAS(OUTCOMES) | HAS(ROOM))
+#define STEPS (HAS(TUNER) | FREE | HAS(NEXT))
+
+const struct call calls[] = {
+    {"version", COMMON, 0, 0, 0, 0, "", run_version, any, version_value},
+    {"tuner_new", COMMON, HAS(NEXT), 0, 0, 0, "1 8", run_tuner_new, tuner_args, nothing},
+    {"driver_new", COMMON, HAS(NEXT_DRIVER), 0, 0, 0, "1 4 8", run_driver_new, driver_args, nothing},
+    {"initialize", COMMON, STEPS, 19, 0, 0, "1 8 9 11", run_initialize, any, nothing},
+    {"set_frequency", TUNING, STEPS | HAS(REPLIES), 53, 35, 0, "1 2 8 9 10 11", run_tune, hz_args, asked},
+    {"set_gain", COMMON, STEPS, 7, 0, 0, "1 8 9 11", run_gain, any, gain_set},
+    {"set_gain_by_index", COMMON, STEPS, 7, 0, 0, "1 8 9 11", run_gain_index, any, gain_set},
+    {"set_bandwidth", COMMON, STEPS, 3, 0, 0, "1 8 9 11", run_bandwidth, any, nothing},
+    {"set_if_freq", COMMON, STEPS, 4, 0, 0, "1 8 9 11", run_if, any, nothing},
+    {"set_input_path", CHIP_PATH, STEPS, 4, 0, 0, "1 8 9 11", run_path, path_args, nothing},
+    {"reload", COMMON, STEPS, 9, 0, 0, "1 8 9 11", run_reload, any, nothing},
+    {"update_shadow", COMMON, HAS(TUNER) | HAS(NEXT), 0, 0, 0, "1 5 8", run_shadow, register_args, shadow_value},
+    {"get_gain", COMMON, HAS(TUNER), 0, 0, 0, "1", run_get_gain, any, gain_held},
+    {"get_if_freq", COMMON, HAS(TUNER), 0, 0, 0, "1", run_get_if, any, if_held},
+    {"get_gain_table", COMMON, HAS(TUNER) | HAS(OUT), 0, 0, 116, "1 8", run_table, any, nothing},
+    {"set_ppm", PPM, HAS(TUNER), 0, 0, 0, "1 4", run_ppm, ppm_args, nothing},
+    {"apply_notch", NOTCH, HAS(TUNER), 0, 0, 0, "1", run_notch, any, nothing},
+    {"driver_set_ppm", COMMON, HAS(DRIVER) | HAS(NEXT_DRIVER), 0, 0, 0, "1 4 8", run_driver_ppm, driver_ppm_args, nothing},
+    {"corrected_xtal_hz", COMMON, HAS(DRIVER), 0, 0, 0, "1", run_xtal, any, xtal_value},
+    {"set_sample_rate", COMMON, STEPS | HAS(DRIVER) | HAS(NEXT_DRIVER), 17, 0, 0, "1 3 8 9 11", run_rate, rate_args, nothing},
+    {"apply_input_path", COMMON, STEPS | HAS(REPLIES), 10, 3, 0, "1 8 9 10 11", run_board_path, path_args, nothing},
+    {"init_baseband", COMMON, FREE, 45, 0, 0, "8 9 11", run_baseband, any, nothing},
+    {"power_on", COMMON, FREE, 45, 0, 0, "8 9 11", run_power, any, nothing},
+    {"reset_demod", COMMON, FREE, 2, 0, 0, "8 9 11", run_reset, any, nothing},
+    {"set_tuner_low_if", COMMON, FREE, 2, 0, 0, "8 9 11", run_low, any, nothing},
+    {"set_tuner_zero_if", COMMON, FREE, 2, 0, 0, "8 9 11", run_zero, any, nothing},
+    {"start_streaming", COMMON, FREE, 2, 0, 0, "8 9 11", run_start, any, nothing},
+    {"stop_streaming", COMMON, FREE, 2, 0, 0, "8 9 11", run_stop, any, nothing},
+    {"write_reg_direct", COMMON, FREE, 1, 0, 0, "8 9 11", run_direct, any, nothing},
+    {"set_if_freq_xtal", COMMON, FREE, 3, 0, 0, "4 8 9 11", run_if_xtal, xtal_args, nothing},
+    {"set_sample_rate_xtal", COMMON, FREE, 4, 0, 0, "3 4 8 9 11", run_rate_xtal, rate_xtal_args, nothing},
+    {"set_gpio_output", COMMON, FREE | HAS(REPLIES), 4, 2, 0, "6 8 9 10 11", run_output, pin_args, nothing},
+    {"set_gpio_bit", COMMON, FREE | HAS(REPLIES), 2, 1, 0, "6 8 9 10 11", run_bit, pin_args, nothing},
+    {"plan_tuning", COMMON, HAS(OUT), 0, 0, 3, "1 8", run_plan, board_args, plan_value},
+    {"if_freq_regs", COMMON, HAS(OUT), 0, 0, 3, "4 8", run_if_regs, xtal_args, nothing},
+    {"resample_regs", COMMON, HAS(OUT), 0, 0, 4, "3 4 8", run_resample, rate_xtal_args, nothing},
+    {"pack_fir", COMMON, HAS(INPUT) | HAS(OUT), 0, 0, 20, "7 8", run_pack, pack_args, nothing},
+    {"unpack_fir", COMMON, HAS(INPUT) | HAS(OUT), 0, 0, 64, "7 8", run_unpack, unpack_args, nothing},
+    {"read_section", READER, HAS(INPUT), 0, 0, 0, "12", run_read, read_args, start_value},
+};
+const unsigned call_count = sizeof calls / sizeof *calls;

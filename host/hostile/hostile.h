@@ -1,0 +1,88 @@
+/* What the files of the hostile run share. hostile.c's head says what is tested and how. */
+#ifndef HOSTILE_H
+#define HOSTILE_H
+
+#include <stddef.h>
+#include <stdint.h>
+
+#include "pasetone.h"
+
+/* The slices that calls take. */
+enum slot { TUNER, DRIVER, INPUT, OUTCOMES, REPLIES, ROOM, NEXT, NEXT_DRIVER, OUT, SLOTS };
+#define HAS(slot) (1u << (slot))
+
+/* The longest slice: 4,097 entries with their trailer, one more than a section may have, and some bytes before. */
+#define LONGEST (16 * 4097 + 8 + 64)
+
+/* What sets a call apart. */
+enum way {
+    COMMON,
+    TUNING,    /* may be refused 2 by the PLL */
+    CHIP_PATH, /* takes no step on an R820T */
+    PPM,       /* changes the record where it lies, as does NOTCH */
+    NOTCH,
+    READER
+};
+
+struct attempt;
+
+struct call {
+    const char *name;
+    enum way way;
+    unsigned slots;                               /* those that it takes, by HAS */
+    uint32_t entries, replies, out;               /* what it needs: most entries, replies, bytes that it answers in OUT */
+    const char *refusals;                         /* the numbers that it can give, as pasetone.h has them */
+    pasetone_reply (*run)(struct attempt *);
+    uint32_t (*argument)(const struct attempt *); /* the number by which document 01 refuses the arguments, 0 for none */
+    uint64_t (*value)(const struct attempt *);    /* what a done call answers */
+};
+
+/* One call with all that it is given and lent, and what came back. */
+struct attempt {
+    const struct call *call;
+    uint64_t arg[5];
+    uint8_t *before[SLOTS]; /* what each slice holds when the call begins */
+    uint8_t *at[SLOTS];     /* where it lies */
+    size_t n[SLOTS];        /* how long it is */
+    size_t told[SLOTS];     /* how long the call is told it is: n, but for a self-test */
+    pasetone_reply reply;
+};
+
+enum memory { MIXED, HEAP, AT_END, AT_START };
+
+/* calls.c */
+extern const struct call calls[];
+extern const unsigned call_count;
+
+/* random.c */
+void random_seed(uint64_t seed);
+uint64_t random_u64(void);
+uint64_t below(uint64_t bound);
+void random_bytes(uint8_t *to, size_t n);
+uint64_t hostile_number(void);
+
+/* make.c */
+void make_records(void);
+void make_attempt(struct attempt *a, const struct call *call);
+void keep_records(const struct attempt *a);
+
+/* memory.c */
+void memory_open(struct attempt *a);
+void place(struct attempt *a, enum memory how);
+const char *canaries(const struct attempt *a);
+void release(struct attempt *a);
+
+/* model.c: the rules that are judged by, written down from document 01 */
+uint64_t number_at(const uint8_t *bytes, unsigned width);
+int tuner_is_record(const uint8_t *bytes, size_t n);
+int driver_is_record(const uint8_t *bytes, size_t n);
+uint64_t corrected(uint64_t nominal, int32_t ppm);
+uint32_t read_model(const uint8_t *bytes, size_t n, uint64_t *start, uint64_t *count);
+uint32_t refusal_before_steps(const struct attempt *a);
+int without_steps(const struct attempt *a);
+size_t needed(const struct call *call, enum slot slot);
+
+/* judge.c: what is wrong, or a null pointer */
+const char *judge(const struct attempt *a);
+
+#endif

@@ -1,0 +1,172 @@
+/* Whether a call did what pasetone.h says, and no more. */
+#include <string.h>
+
+#include "hostile.h"
+
+static int same_from(const struct attempt *a, int slot, size_t from)
+{
+    return a->n[slot] <= from || memcmp(a->at[slot] + from, a->before[slot] + from, a->n[slot] - from) == 0;
+}
+
+/* The bytes of a slot that a done or stopped call may write, from its start. */
+static size_t written(const struct attempt *a, int slot)
+{
+    switch (slot) {
+    case ROOM:
+        return without_steps(a) ? 0 : PASETONE_ROOM_FOR(a->reply.count);
+    case NEXT:
+    case NEXT_DRIVER:
+    case OUT:
+        return needed(a->call, (enum slot)slot);
+    default:
+        return 0;
+    }
+}
+
+static int in_place(const struct call *call)
+{
+    return call->way == PPM || call->way == NOTCH;
+}
+
+/* `set_ppm` and `apply_notch` change the given record: these bytes of it, and no others. */
+static const char *judge_in_place(const struct attempt *a)
+{
+    size_t at = a->call->way == PPM ? PASETONE_TUNER_CORRECTED : PASETONE_TUNER_NOTCH;
+    unsigned width = a->call->way == PPM ? 4 : 1;
+    uint64_t nominal = number_at(a->before[TUNER] + PASETONE_TUNER_NOMINAL, 4);
+    uint64_t must = a->call->way == PPM ? corrected(nominal, (int32_t)(uint32_t)a->arg[0]) : (uint8_t)a->arg[0] != 0;
+    if (memcmp(a->at[TUNER], a->before[TUNER], at) != 0 || !same_from(a, TUNER, at + width)) {
+        return "the record has changed past its field";
+    }
+    return number_at(a->at[TUNER] + at, width) == must ? NULL : "the record's field is wrong";
+}
+
+static const char *judge_bytes(const struct attempt *a, int stands)
+{
+    int slot;
+    for (slot = 0; slot < SLOTS; slot++) {
+        if (!(a->call->slots & HAS(slot)) || (stands && slot == TUNER && in_place(a->call))) {
+            continue;
+        }
+        if (!same_from(a, slot, stands ? written(a, slot) : 0)) {
+            return "a byte has changed that should have stayed";
+        }
+    }
+    return stands && in_place(a->call) ? judge_in_place(a) : NULL;
+}
+
+/* A next record is one, of the same chip or board. */
+static const char *judge_next(const struct attempt *a)
+{
+    unsigned slots = a->call->slots;
+    if ((slots & HAS(NEXT)) && !tuner_is_record(a->at[NEXT], PASETONE_TUNER_SIZE)) {
+        return "the next tuner record is none";
+    }
+    if ((slots & HAS(NEXT_DRIVER)) && !driver_is_record(a->at[NEXT_DRIVER], PASETONE_DRIVER_SIZE)) {
+        return "the next driver record is none";
+    }
+    if ((slots & HAS(NEXT)) && (slots & HAS(TUNER)) &&
+        (memcmp(a->at[NEXT], a->before[TUNER], 2) != 0 ||
+         memcmp(a->at[NEXT] + PASETONE_TUNER_NOMINAL, a->before[TUNER] + PASETONE_TUNER_NOMINAL, 8) != 0)) {
+        return "the next tuner record is of another chip";
+    }
+    if ((slots & HAS(NEXT_DRIVER)) && (slots & HAS(DRIVER)) &&
+        (memcmp(a->at[NEXT_DRIVER], a->before[DRIVER], 5) != 0 ||
+         memcmp(a->at[NEXT_DRIVER] + PASETONE_DRIVER_FREQUENCY, a->before[DRIVER] + PASETONE_DRIVER_FREQUENCY, 8) != 0)) {
+        return "the next driver record is of another board";
+    }
+    return NULL;
+}
+
+/* Entry i as its script has it: the outcome, and for a read the replies from *used on. */
+static int by_script(const struct attempt *a, uint64_t i, size_t *used)
+{
+    const uint8_t *e = a->at[ROOM] + 16 * i;
+    uint8_t failed = e[0] != 9 && a->before[OUTCOMES][i] != 0;
+    if (e[1] != failed) {
+        return 0;
+    }
+    if ((e[0] == 3 || e[0] == 8) && !failed) {
+        *used += e[3];
+        return *used <= a->n[REPLIES] && memcmp(e + 8, a->before[REPLIES] + *used - e[3], e[3]) == 0;
+    }
+    return 1;
+}
+
+static int is_closing(const uint8_t *e)
+{
+    return e[0] == 1 && e[8] == 0;
+}
+
+/* The section is one, its entries follow the script, and the refusal is the one that they show. */
+static const char *judge_section(const struct attempt *a)
+{
+    const pasetone_reply *r = &a->reply;
+    uint64_t start, count, stop = r->count, i;
+    size_t used = 0;
+    pasetone_section read;
+    if (r->count > a->call->entries) {
+        return "more entries than the call's most";
+    }
+    read = pasetone_read_section(a->at[ROOM], PASETONE_ROOM_FOR(r->count));
+    if (read.refusal != 0 || read.start != 0 || read.count != r->count) {
+        return "the reader does not accept the section";
+    }
+    if (read_model(a->at[ROOM], PASETONE_ROOM_FOR(r->count), &start, &count) != 0) {
+        return "the section is none";
+    }
+    for (i = 0; i < r->count; i++) {
+        const uint8_t *e = a->at[ROOM] + 16 * i;
+        if (!by_script(a, i, &used)) {
+            return "an entry is not as its script has it";
+        }
+        if (stop == r->count && e[1] == 1 && !is_closing(e)) {
+            stop = i;
+        }
+    }
+    if (stop == r->count) {
+        return r->refusal == 0 || (r->refusal == 2 && a->call->way == TUNING && r->count == 13) ? NULL : "refused although no step failed";
+    }
+    if (r->refusal != 11 || r->index != stop) {
+        return "a step failed, and the reply says something else";
+    }
+    if (r->count > stop + 2 || (r->count == stop + 2 && !is_closing(a->at[ROOM] + 16 * (stop + 1)))) {
+        return "steps were taken behind the one that failed";
+    }
+    return NULL;
+}
+
+/* A call that takes no step, not refused for what it was given. */
+static const char *judge_stepless(const struct attempt *a)
+{
+    uint64_t start, count = 0;
+    if (a->call->way == READER) {
+        read_model(a->before[INPUT], a->n[INPUT], &start, &count);
+    }
+    return a->reply.refusal == 0 && a->reply.count == count ? NULL : "refused, or a wrong count of entries";
+}
+
+const char *judge(const struct attempt *a)
+{
+    const pasetone_reply *r = &a->reply;
+    uint32_t before = refusal_before_steps(a);
+    const char *wrong;
+    if (before != 0) {
+        if (r->refusal != before) {
+            return "not refused by the number that it should be";
+        }
+        return r->value != 0 || r->index != 0 || r->count != 0 ? "a refusal with a value, an index or entries" : judge_bytes(a, 0);
+    }
+    wrong = without_steps(a) ? judge_stepless(a) : judge_section(a);
+    if (wrong != NULL) {
+        return wrong;
+    }
+    if (r->refusal != 11 && r->index != 0) {
+        return "an index beside no refusal 11";
+    }
+    if (r->value != (r->refusal == 0 ? a->call->value(a) : 0)) {
+        return "a wrong value";
+    }
+    wrong = judge_bytes(a, 1);
+    return wrong != NULL ? wrong : judge_next(a);
+}

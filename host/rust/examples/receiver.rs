@@ -1,0 +1,57 @@
+//! A receiver from Rust: set up, tuned with one step failing, and brought back. host/c/receiver.c prints the same lines.
+use pasetone::{Answer, Board, Driver, Error, Script, Tuner, TunerKind};
+
+fn print_answer<T>(what: &str, answer: &Answer<T>) {
+    match &answer.result {
+        Ok(_) => println!("{what}: done, {} entries", answer.transcript.len()),
+        Err(error) => println!("{what}: {error}, {} entries", answer.transcript.len()),
+    }
+}
+
+fn print_doubtful(tuner: &Tuner) {
+    let mut line = String::from("doubtful:");
+    for register in tuner.doubtful() {
+        line += &format!(" 0x{register:02x}");
+    }
+    if tuner.doubtful().next().is_none() {
+        line += " none";
+    }
+    println!("{line}");
+}
+
+fn tune(tuner: &mut Tuner, what: &str, script: &Script) {
+    let answer = tuner.set_frequency(102_300_000, script);
+    print_answer(what, &answer);
+    if let Err(Error::Step { index }) = answer.result
+        && let Some(entry) = answer.transcript.get(index)
+    {
+        let bytes: Vec<String> = entry.bytes.iter().map(|byte| format!("{byte:02x}")).collect();
+        let (kind, outcome) = (entry.kind.number(), u8::from(entry.failed));
+        println!("entry {index}: kind {kind}, outcome {outcome}, target 0x{:02x}, bytes {}", entry.target, bytes.join(" "));
+    }
+    println!("lock: {}", if tuner.has_lock() { "yes" } else { "no" });
+}
+
+fn main() -> Result<(), Error> {
+    let (major, minor, patch) = pasetone::version();
+    println!("pasetone {major}.{minor}.{patch}");
+    let done = Script::all_done();
+    let mut tuner = Tuner::new(TunerKind::R828d, 0x74, 28_800_000)?;
+    println!("R828D at 0x{:02x}, {} Hz: done, 0 entries", tuner.address(), tuner.nominal());
+    let mut driver = Driver::new(Board::V4, 28_800_000, 0, 102_300_000, 2_048_000)?;
+    println!("V4: done, 0 entries");
+    print_answer("initialise", &tuner.initialize(&done));
+    print_doubtful(&tuner);
+    print_answer("sample rate 2048000", &driver.set_sample_rate(&mut tuner, 2_048_000, &done));
+    print_answer("gain 29.7 dB", &tuner.set_gain(29.7, &done));
+    println!("gain set: {:.1} dB", tuner.gain());
+    // The write of register 0x14 fails. The tuner is updated all the same: the steps taken stand.
+    tune(&mut tuner, "tune 102300000 Hz, step 13 failing", &done.clone().failing(13));
+    print_doubtful(&tuner);
+    print_answer("reload", &tuner.reload(&done));
+    print_doubtful(&tuner);
+    // Status bytes come with their bits reversed: the VCO as it should be, and a lock at the first try.
+    tune(&mut tuner, "tune 102300000 Hz", &done.clone().replying(4, 0x08).replying(7, 0x02));
+    print_doubtful(&tuner);
+    Ok(())
+}

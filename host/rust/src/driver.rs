@@ -1,0 +1,124 @@
+use crate::{Answer, Error, InputPath, Script, Tuner, in_room, raw};
+
+/// The board that the tuner is on.
+#[derive(Clone, Copy, Debug, PartialEq, Eq, Hash)]
+pub enum Board {
+    /// 0: tuned as asked.
+    Generic,
+    /// 1: RTL-SDR Blog V4, with an upconverter below 28.8 MHz, three inputs and notches.
+    V4,
+}
+
+/// How a board is to be tuned to a frequency.
+#[derive(Clone, Copy, Debug, PartialEq, Eq, Hash)]
+pub struct Plan {
+    /// The Hz for the tuner.
+    pub hz: u64,
+    /// Whether the spectrum is inverted.
+    pub inverted: bool,
+    /// The input to take, if the board has several.
+    pub path: Option<InputPath>,
+    /// Whether the frequency lies in a notch.
+    pub notch: bool,
+}
+
+impl Board {
+    /// How this board is to be tuned to `hz`.
+    pub fn plan_tuning(self, hz: u64) -> Plan {
+        let mut out = [0; 3];
+        // SAFETY: see raw.rs. Board and slice are as they must be, so this is not refused.
+        let reply = unsafe { raw::pasetone_plan_tuning(self as u8, hz, out.as_mut_ptr(), out.len()) };
+        let path = match out[1] {
+            0 => Some(InputPath::Hf),
+            1 => Some(InputPath::Vhf),
+            2 => Some(InputPath::Uhf),
+            _ => None,
+        };
+        Plan { hz: reply.value, inverted: out[0] != 0, path, notch: out[2] != 0 }
+    }
+}
+
+/// What is known of a receiver beside its tuner: board, reference, correction, frequency and rate.
+#[derive(Clone, Debug, PartialEq, Eq, Hash)]
+pub struct Driver {
+    record: [u8; Driver::SIZE],
+}
+
+impl Driver {
+    /// The record's bytes.
+    pub const SIZE: usize = 21;
+
+    /// A driver. Refused: [`Error::Setup`] for a reference of 0, [`Error::Correction`] where the corrected one is out of its range.
+    pub fn new(board: Board, nominal: u32, ppm: i32, frequency: u64, rate: u32) -> Result<Driver, Error> {
+        let mut record = [0; Driver::SIZE];
+        let nominal = nominal.into();
+        // SAFETY: see raw.rs.
+        let made = unsafe { raw::pasetone_driver_new(board as u64, nominal, ppm, frequency, rate, record.as_mut_ptr(), record.len()) };
+        made.result().map(|_| Driver { record })
+    }
+
+    /// A driver of its record's bytes. Refused: [`Error::Setup`] for bytes that are no record.
+    pub fn from_bytes(bytes: &[u8]) -> Result<Driver, Error> {
+        // SAFETY: see raw.rs. The library judges the record.
+        let read = unsafe { raw::pasetone_corrected_xtal_hz(bytes.as_ptr(), bytes.len()) };
+        read.result()?;
+        <[u8; Driver::SIZE]>::try_from(bytes).map(|record| Driver { record }).map_err(|_| Error::Setup)
+    }
+
+    /// The record's bytes, to be kept: [`Driver::from_bytes`] takes them.
+    pub fn as_bytes(&self) -> &[u8; Driver::SIZE] {
+        &self.record
+    }
+
+    /// Another correction; the tuner keeps its own. Refused: 4.
+    pub fn set_ppm(&mut self, ppm: i32) -> Result<(), Error> {
+        let mut next = self.record;
+        let d = &self.record;
+        // SAFETY: see raw.rs.
+        unsafe { raw::pasetone_driver_set_ppm(d.as_ptr(), d.len(), ppm, next.as_mut_ptr(), next.len()) }.result()?;
+        self.record = next;
+        Ok(())
+    }
+
+    /// The corrected reference in Hz.
+    pub fn corrected_xtal_hz(&self) -> u32 {
+        // SAFETY: see raw.rs. The record is one, so this is not refused.
+        unsafe { raw::pasetone_corrected_xtal_hz(self.record.as_ptr(), self.record.len()) }.value as u32
+    }
+
+    /// The sample rate, on tuner and demodulator: 17 outcomes. Updates both records whenever it took steps: the tuner's IF changes with the
+    /// first, the driver's rate when all are done. Refused: 3, 9, 11.
+    pub fn set_sample_rate(&mut self, tuner: &mut Tuner, rate: u32, script: &Script) -> Answer<()> {
+        let (mut next_driver, mut next_tuner) = (self.record, *tuner.as_bytes());
+        let (d, t, o) = (&self.record, tuner.as_bytes(), script.outcomes());
+        let (reply, transcript) = in_room(17, |room| unsafe {
+            // SAFETY: see raw.rs.
+            #[rustfmt::skip]
+            let reply = raw::pasetone_set_sample_rate(d.as_ptr(), d.len(), t.as_ptr(), t.len(), rate, o.as_ptr(), o.len(),
+                room.as_mut_ptr(), room.len(), next_driver.as_mut_ptr(), next_driver.len(), next_tuner.as_mut_ptr(), next_tuner.len());
+            reply
+        });
+        if reply.stands() {
+            self.record = next_driver;
+            tuner.replace(next_tuner);
+        }
+        Answer::of(reply, transcript, drop)
+    }
+
+    /// The board.
+    pub fn board(&self) -> Board {
+        if self.record[0] == 0 { Board::Generic } else { Board::V4 }
+    }
+
+    /// The frequency given at its making, in Hz.
+    pub fn frequency(&self) -> u64 {
+        let b = &self.record[9..17];
+        u64::from_le_bytes([b[0], b[1], b[2], b[3], b[4], b[5], b[6], b[7]])
+    }
+
+    /// The rate last set in full, in samples per second.
+    pub fn rate(&self) -> u32 {
+        let b = &self.record[17..21];
+        u32::from_le_bytes([b[0], b[1], b[2], b[3]])
+    }
+}

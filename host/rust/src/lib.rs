@@ -1,0 +1,75 @@
+//! Tuner and demodulator control of an RTL2832U receiver with an R820T or R828D tuner, after rtlsdr-next.
+//!
+//! The work is done by libpasetone.a, written in Rattle with every function proved; this crate owns its records and lends its slices. Nothing
+//! here talks to hardware. A call is given a record ([`Tuner`], [`Driver`]) and a [`Script`] that says how each step ends, and hands back an
+//! [`Answer`]: the result and the [`Transcript`] of the steps taken.
+//!
+//! When a step fails ([`Error::Step`]), or the PLL cannot make a frequency, the steps taken before it stand. So a call updates its record
+//! whenever it took steps, whatever its result is, and the record tells which registers are doubtful:
+//!
+//! ```
+//! use pasetone::{Error, Script, Tuner, TunerKind};
+//!
+//! let mut tuner = Tuner::new(TunerKind::R828d, 0x74, 28_800_000)?;
+//! tuner.initialize(&Script::all_done()).result?;
+//! assert_eq!(tuner.doubtful().count(), 0);
+//!
+//! // The write of register 0x14 fails; the repeater is closed behind it.
+//! let answer = tuner.set_frequency(100_000_000, &Script::all_done().failing(13));
+//! assert_eq!(answer.result, Err(Error::Step { index: 13 }));
+//! assert_eq!(answer.transcript.len(), 15);
+//! assert_eq!(tuner.doubtful().collect::<Vec<_>>(), [0x14]);
+//!
+//! tuner.reload(&Script::all_done()).result?;
+//! assert_eq!(tuner.doubtful().count(), 0);
+//! # Ok::<(), Error>(())
+//! ```
+
+#![warn(missing_docs)]
+
+pub mod demod;
+mod driver;
+mod error;
+pub mod gpio;
+mod raw;
+mod registers;
+mod script;
+mod transcript;
+mod tuner;
+
+pub use driver::{Board, Driver, Plan};
+pub use error::Error;
+pub use registers::{if_freq_regs, pack_fir, resample_regs, unpack_fir};
+pub use script::Script;
+pub use transcript::{Entries, Entry, EntryKind, Transcript};
+pub use tuner::{InputPath, Tuner, TunerKind};
+
+/// What a call with steps hands back. Its record is updated already.
+#[derive(Clone, Debug, PartialEq)]
+#[must_use = "a call may be refused"]
+pub struct Answer<T> {
+    /// The call's value, or why it was refused.
+    pub result: Result<T, Error>,
+    /// The steps taken, also where one of them failed.
+    pub transcript: Transcript,
+}
+
+impl<T> Answer<T> {
+    fn of(reply: raw::Reply, transcript: Transcript, value: impl FnOnce(u64) -> T) -> Answer<T> {
+        Answer { result: reply.result().map(value), transcript }
+    }
+}
+
+/// A call with at most this many entries, over room of its own.
+fn in_room(entries: usize, call: impl FnOnce(&mut [u8]) -> raw::Reply) -> (raw::Reply, Transcript) {
+    let mut room = vec![0; transcript::room_for(entries)];
+    let reply = call(&mut room);
+    (reply, Transcript::of_room(room, reply.count))
+}
+
+/// The library's version: major, minor, patch.
+pub fn version() -> (u32, u32, u32) {
+    // SAFETY: it takes nothing.
+    let version = unsafe { raw::pasetone_version() };
+    (version >> 16, (version >> 8) & 255, version & 255)
+}

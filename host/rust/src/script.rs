@@ -1,0 +1,58 @@
+/// How the steps of a call are to end, and what its reads are to give.
+///
+/// A script must be as long as its call's longest run needs, also where a run is shorter: at most [`Script::OUTCOMES`] outcomes and
+/// [`Script::REPLIES`] replies, which is what a tuning needs. Longer than needed is fine, so one script serves for all calls.
+#[derive(Clone, Debug, PartialEq, Eq)]
+pub struct Script {
+    outcomes: Vec<u8>,
+    replies: Vec<u8>,
+}
+
+impl Script {
+    /// Outcomes enough for every call.
+    pub const OUTCOMES: usize = 53;
+    /// Replies enough for every call.
+    pub const REPLIES: usize = 35;
+
+    /// Every step done, every reply 0: long enough for every call.
+    pub fn all_done() -> Script {
+        Script { outcomes: vec![0; Script::OUTCOMES], replies: vec![0; Script::REPLIES] }
+    }
+
+    /// A script of these outcomes (0 done, any other failed; byte i belongs to entry i) and replies (in the order of reading).
+    pub fn new(outcomes: impl Into<Vec<u8>>, replies: impl Into<Vec<u8>>) -> Script {
+        Script { outcomes: outcomes.into(), replies: replies.into() }
+    }
+
+    /// The same, with the step of entry `index` failing. An index past the outcomes changes nothing.
+    pub fn failing(mut self, index: usize) -> Script {
+        if let Some(outcome) = self.outcomes.get_mut(index) {
+            *outcome = 1;
+        }
+        self
+    }
+
+    /// The same, with `byte` as reply `index`. An index past the replies changes nothing.
+    pub fn replying(mut self, index: usize, byte: u8) -> Script {
+        if let Some(reply) = self.replies.get_mut(index) {
+            *reply = byte;
+        }
+        self
+    }
+
+    /// The outcomes.
+    pub fn outcomes(&self) -> &[u8] {
+        &self.outcomes
+    }
+
+    /// The replies.
+    pub fn replies(&self) -> &[u8] {
+        &self.replies
+    }
+}
+
+impl Default for Script {
+    fn default() -> Script {
+        Script::all_done()
+    }
+}

@@ -1,0 +1,291 @@
+use crate::raw::{self, Reply};
+use crate::{Answer, Error, Script, in_room};
+
+/// The tuner's chip.
+#[derive(Clone, Copy, Debug, PartialEq, Eq, Hash)]
+pub enum TunerKind {
+    /// 0: one input.
+    R820t,
+    /// 1: three inputs.
+    R828d,
+}
+
+/// An input of the R828D.
+#[derive(Clone, Copy, Debug, PartialEq, Eq, Hash)]
+pub enum InputPath {
+    /// 0: cable 2.
+    Hf,
+    /// 1: cable 1.
+    Vhf,
+    /// 2: air in.
+    Uhf,
+}
+
+const SHADOW: usize = 2;
+const NOMINAL: usize = 29;
+const CORRECTED: usize = 33;
+const LOCK: usize = 37;
+const NOTCH: usize = 50;
+const ATTEMPTED: usize = 51;
+const DOUBTFUL: usize = 78;
+const FIRST: u8 = 0x05;
+const REGISTERS: usize = 27;
+
+/// What is known of a tuner: its record. Every call with steps takes a [`Script`], and updates the record whenever it took steps.
+#[derive(Clone, Debug, PartialEq, Eq, Hash)]
+pub struct Tuner {
+    record: [u8; Tuner::SIZE],
+}
+
+impl Tuner {
+    /// The record's bytes.
+    pub const SIZE: usize = 105;
+
+    /// A tuner as it is before [`Tuner::initialize`]: every register is doubtful. `address` is the chip's on I2C, `nominal` its reference in
+    /// Hz. Refused: [`Error::Setup`] for a reference of 0.
+    pub fn new(kind: TunerKind, address: u8, nominal: u32) -> Result<Tuner, Error> {
+        let mut record = [0; Tuner::SIZE];
+        // SAFETY: see raw.rs.
+        let made = unsafe { raw::pasetone_tuner_new(kind as u64, address, nominal.into(), record.as_mut_ptr(), record.len()) };
+        made.result().map(|_| Tuner { record })
+    }
+
+    /// A tuner of its record's bytes. Refused: [`Error::Setup`] for bytes that are no record.
+    pub fn from_bytes(bytes: &[u8]) -> Result<Tuner, Error> {
+        // SAFETY: see raw.rs. The library judges the record: any call that takes one would do.
+        let read = unsafe { raw::pasetone_get_if_freq(bytes.as_ptr(), bytes.len()) };
+        read.result()?;
+        <[u8; Tuner::SIZE]>::try_from(bytes).map(|record| Tuner { record }).map_err(|_| Error::Setup)
+    }
+
+    /// The record's bytes, to be kept: [`Tuner::from_bytes`] takes them.
+    pub fn as_bytes(&self) -> &[u8; Tuner::SIZE] {
+        &self.record
+    }
+
+    /// A call with steps: the next record takes the place of this one whenever the call wrote it.
+    fn operate(&mut self, entries: usize, call: impl FnOnce(&[u8], &mut [u8], &mut [u8]) -> Reply) -> Answer<u64> {
+        let mut next = self.record;
+        let (reply, transcript) = in_room(entries, |room| call(&self.record, room, &mut next));
+        if reply.stands() {
+            self.record = next;
+        }
+        Answer::of(reply, transcript, |value| value)
+    }
+
+    /// Sends the chip's initial bytes and sets it up: 19 outcomes. Refused: 9, 11.
+    pub fn initialize(&mut self, script: &Script) -> Answer<()> {
+        let o = script.outcomes();
+        // SAFETY: see raw.rs; here and in all calls below.
+        unit(self.operate(19, |t, room, next| unsafe {
+            raw::pasetone_initialize(t.as_ptr(), t.len(), o.as_ptr(), o.len(), room.as_mut_ptr(), room.len(), next.as_mut_ptr(), next.len())
+        }))
+    }
+
+    /// Tunes to `hz`: 53 outcomes, 35 replies. The value is the Hz asked; whether the PLL locked is told by [`Tuner::has_lock`]. Refused: 2 (in
+    /// the PLL with the mux's steps taken), 9, 10, 11.
+    pub fn set_frequency(&mut self, hz: u64, script: &Script) -> Answer<u64> {
+        let (o, p) = (script.outcomes(), script.replies());
+        self.operate(53, |t, room, next| unsafe {
+            #[rustfmt::skip]
+            let reply = raw::pasetone_set_frequency(t.as_ptr(), t.len(), hz, o.as_ptr(), o.len(), p.as_ptr(), p.len(),
+                room.as_mut_ptr(), room.len(), next.as_mut_ptr(), next.len());
+            reply
+        })
+    }
+
+    /// The gain step nearest to `db`: 7 outcomes. The value is the gain set. Refused: 9, 11.
+    pub fn set_gain(&mut self, db: f32, script: &Script) -> Answer<f32> {
+        let o = script.outcomes();
+        decibels(self.operate(7, |t, room, next| unsafe {
+            raw::pasetone_set_gain(
+                t.as_ptr(),
+                t.len(),
+                db,
+                o.as_ptr(),
+                o.len(),
+                room.as_mut_ptr(),
+                room.len(),
+                next.as_mut_ptr(),
+                next.len(),
+            )
+        }))
+    }
+
+    /// The gain step of an index, at most 28: 7 outcomes. The value is the gain set. Refused: 9, 11.
+    pub fn set_gain_by_index(&mut self, index: usize, script: &Script) -> Answer<f32> {
+        let (o, k) = (script.outcomes(), index as u64);
+        decibels(self.operate(7, |t, room, next| unsafe {
+            #[rustfmt::skip]
+            let reply = raw::pasetone_set_gain_by_index(t.as_ptr(), t.len(), k, o.as_ptr(), o.len(),
+                room.as_mut_ptr(), room.len(), next.as_mut_ptr(), next.len());
+            reply
+        }))
+    }
+
+    /// The IF filter: 3 outcomes. Refused: 9, 11.
+    pub fn set_bandwidth(&mut self, hz: u32, script: &Script) -> Answer<()> {
+        let o = script.outcomes();
+        unit(self.operate(3, |t, room, next| unsafe {
+            #[rustfmt::skip]
+            let reply = raw::pasetone_set_bandwidth(t.as_ptr(), t.len(), hz, o.as_ptr(), o.len(),
+                room.as_mut_ptr(), room.len(), next.as_mut_ptr(), next.len());
+            reply
+        }))
+    }
+
+    /// The IF that tunings go by, changed also where a step fails: 4 outcomes. Refused: 9, 11.
+    pub fn set_if_freq(&mut self, hz: u64, script: &Script) -> Answer<()> {
+        let o = script.outcomes();
+        unit(self.operate(4, |t, room, next| unsafe {
+            #[rustfmt::skip]
+            let reply = raw::pasetone_set_if_freq(t.as_ptr(), t.len(), hz, o.as_ptr(), o.len(),
+                room.as_mut_ptr(), room.len(), next.as_mut_ptr(), next.len());
+            reply
+        }))
+    }
+
+    /// The chip's input: 4 outcomes on an R828D; an R820T takes no step and looks at no script. Refused: 9, 11.
+    pub fn set_input_path(&mut self, path: InputPath, script: &Script) -> Answer<()> {
+        let o = script.outcomes();
+        unit(self.operate(4, |t, room, next| unsafe {
+            #[rustfmt::skip]
+            let reply = raw::pasetone_set_input_path(t.as_ptr(), t.len(), path as u8, o.as_ptr(), o.len(),
+                room.as_mut_ptr(), room.len(), next.as_mut_ptr(), next.len());
+            reply
+        }))
+    }
+
+    /// The board's input: GPIO 5, then the chip's: 10 outcomes, 3 replies. Refused: 9, 10, 11.
+    pub fn apply_input_path(&mut self, path: InputPath, script: &Script) -> Answer<()> {
+        let (o, p) = (script.outcomes(), script.replies());
+        unit(self.operate(10, |t, room, next| unsafe {
+            #[rustfmt::skip]
+            let reply = raw::pasetone_apply_input_path(t.as_ptr(), t.len(), path as u8, o.as_ptr(), o.len(), p.as_ptr(), p.len(),
+                room.as_mut_ptr(), room.len(), next.as_mut_ptr(), next.len());
+            reply
+        }))
+    }
+
+    /// Sends every register's attempted byte again, after which none is doubtful: 9 outcomes. Refused: 9, 11.
+    pub fn reload(&mut self, script: &Script) -> Answer<()> {
+        let o = script.outcomes();
+        unit(self.operate(9, |t, room, next| unsafe {
+            raw::pasetone_reload(t.as_ptr(), t.len(), o.as_ptr(), o.len(), room.as_mut_ptr(), room.len(), next.as_mut_ptr(), next.len())
+        }))
+    }
+
+    /// The bits of `mask` in a register's shadow byte; nothing is sent. The value is the new byte. Refused: 5.
+    pub fn update_shadow(&mut self, register: u8, value: u8, mask: u8) -> Result<u8, Error> {
+        let mut next = self.record;
+        let (t, n) = (&self.record, &mut next);
+        // SAFETY: see raw.rs.
+        let reply = unsafe { raw::pasetone_update_shadow(t.as_ptr(), t.len(), register, value, mask, n.as_mut_ptr(), n.len()) };
+        let byte = reply.result()? as u8;
+        self.record = next;
+        Ok(byte)
+    }
+
+    /// The tuner's corrected reference. Refused: 4.
+    pub fn set_ppm(&mut self, ppm: i32) -> Result<(), Error> {
+        // SAFETY: see raw.rs. The record is changed where it lies.
+        let reply = unsafe { raw::pasetone_set_ppm(self.record.as_mut_ptr(), self.record.len(), ppm) };
+        reply.result().map(drop)
+    }
+
+    /// The notch, for the next tuning.
+    pub fn apply_notch(&mut self, on: bool) {
+        // SAFETY: see raw.rs. The record is changed where it lies; it is one, so this is not refused.
+        unsafe { raw::pasetone_apply_notch(self.record.as_mut_ptr(), self.record.len(), on.into()) };
+    }
+
+    /// The gain last set, in dB.
+    pub fn gain(&self) -> f32 {
+        // SAFETY: see raw.rs. The record is one, so this is not refused.
+        f32::from_bits(unsafe { raw::pasetone_get_gain(self.record.as_ptr(), self.record.len()) }.value as u32)
+    }
+
+    /// The IF in Hz.
+    pub fn if_freq(&self) -> u64 {
+        // SAFETY: see raw.rs. The record is one, so this is not refused.
+        unsafe { raw::pasetone_get_if_freq(self.record.as_ptr(), self.record.len()) }.value
+    }
+
+    /// The 29 gain steps in tenths of a dB.
+    pub fn gain_table(&self) -> [i32; 29] {
+        let mut bytes = [0; 116];
+        let t = &self.record;
+        // SAFETY: see raw.rs. The record is one and the slice long enough, so this is not refused.
+        unsafe { raw::pasetone_get_gain_table(t.as_ptr(), t.len(), bytes.as_mut_ptr(), bytes.len()) };
+        std::array::from_fn(|i| i32::from_le_bytes([bytes[4 * i], bytes[4 * i + 1], bytes[4 * i + 2], bytes[4 * i + 3]]))
+    }
+
+    /// The chip.
+    pub fn kind(&self) -> TunerKind {
+        if self.record[0] == 0 { TunerKind::R820t } else { TunerKind::R828d }
+    }
+
+    /// The chip's address on I2C.
+    pub fn address(&self) -> u8 {
+        self.record[1]
+    }
+
+    /// The reference without correction, in Hz.
+    pub fn nominal(&self) -> u32 {
+        self.number(NOMINAL)
+    }
+
+    /// The corrected reference in Hz.
+    pub fn corrected(&self) -> u32 {
+        self.number(CORRECTED)
+    }
+
+    /// Whether the PLL locked when the last tuning waited for it.
+    pub fn has_lock(&self) -> bool {
+        self.record[LOCK] != 0
+    }
+
+    /// Whether the notch is on.
+    pub fn notch(&self) -> bool {
+        self.record[NOTCH] != 0
+    }
+
+    /// A register's shadow byte; `None` out of 0x05..=0x1f.
+    pub fn shadow(&self, register: u8) -> Option<u8> {
+        self.register(SHADOW, register)
+    }
+
+    /// The byte last attempted for a register; `None` out of 0x05..=0x1f.
+    pub fn attempted(&self, register: u8) -> Option<u8> {
+        self.register(ATTEMPTED, register)
+    }
+
+    /// The registers of which the chip may hold another byte than the one last attempted.
+    pub fn doubtful(&self) -> impl Iterator<Item = u8> + '_ {
+        let marks = &self.record[DOUBTFUL..DOUBTFUL + REGISTERS];
+        (FIRST..).zip(marks).filter(|(_, mark)| **mark != 0).map(|(register, _)| register)
+    }
+
+    fn register(&self, field: usize, register: u8) -> Option<u8> {
+        let k = usize::from(register.checked_sub(FIRST)?);
+        (k < REGISTERS).then(|| self.record[field + k])
+    }
+
+    fn number(&self, at: usize) -> u32 {
+        let b = &self.record[at..at + 4];
+        u32::from_le_bytes([b[0], b[1], b[2], b[3]])
+    }
+
+    /// For the driver's call, which takes both records.
+    pub(crate) fn replace(&mut self, record: [u8; Tuner::SIZE]) {
+        self.record = record;
+    }
+}
+
+fn unit(answer: Answer<u64>) -> Answer<()> {
+    Answer { result: answer.result.map(drop), transcript: answer.transcript }
+}
+
+fn decibels(answer: Answer<u64>) -> Answer<f32> {
+    Answer { result: answer.result.map(|bits| f32::from_bits(bits as u32)), transcript: answer.transcript }
+}

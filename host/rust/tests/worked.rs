@@ -1,0 +1,229 @@
+//! Document 01's worked numbers, and what a call leaves where it is refused.
+use pasetone::{
+    Board, Driver, EntryKind, Error, InputPath, Script, Transcript, Tuner, TunerKind, demod, gpio, if_freq_regs, pack_fir, resample_regs,
+    unpack_fir,
+};
+
+fn r828d() -> Tuner {
+    Tuner::new(TunerKind::R828d, 0x74, 28_800_000).unwrap()
+}
+
+fn done() -> Script {
+    Script::all_done()
+}
+
+const FIR_DEFAULT: [i32; 16] = [-54, -36, -41, -40, -32, -14, 14, 53, 101, 156, 215, 273, 327, 372, 404, 421];
+const FIR_BYTES: [u8; 20] =
+    [0xca, 0xdc, 0xd7, 0xd8, 0xe0, 0xf2, 0x0e, 0x35, 0x06, 0x50, 0x9c, 0x0d, 0x71, 0x11, 0x14, 0x71, 0x74, 0x19, 0x41, 0xa5];
+
+#[test]
+fn fresh_tuner() {
+    let tuner = r828d();
+    assert_eq!((tuner.kind(), tuner.address(), tuner.nominal(), tuner.corrected()), (TunerKind::R828d, 0x74, 28_800_000, 28_800_000));
+    assert_eq!((tuner.has_lock(), tuner.gain(), tuner.if_freq(), tuner.notch()), (false, 0.0, 2_300_000, false));
+    assert_eq!(tuner.doubtful().collect::<Vec<_>>(), (0x05..=0x1f).collect::<Vec<_>>());
+    assert_eq!((tuner.shadow(0x05), tuner.attempted(0x1f), tuner.shadow(0x04), tuner.shadow(0x20)), (Some(0x83), Some(0xc0), None, None));
+    assert_eq!(Tuner::new(TunerKind::R820t, 0x1a, 0), Err(Error::Setup));
+}
+
+#[test]
+fn records_as_bytes() {
+    let tuner = r828d();
+    assert_eq!(Tuner::from_bytes(tuner.as_bytes()), Ok(tuner.clone()));
+    assert_eq!(Tuner::from_bytes(&tuner.as_bytes()[1..]), Err(Error::Setup));
+    let mut damaged = *tuner.as_bytes();
+    damaged[37] = 2;
+    assert_eq!(Tuner::from_bytes(&damaged), Err(Error::Setup));
+    let driver = Driver::new(Board::V4, 28_800_000, -1, 7, 9).unwrap();
+    assert_eq!(Driver::from_bytes(driver.as_bytes()), Ok(driver.clone()));
+    assert_eq!((driver.board(), driver.frequency(), driver.rate()), (Board::V4, 7, 9));
+    assert_eq!(Driver::from_bytes(&[0; 21]), Err(Error::Setup));
+}
+
+/// Document 01's whole section: bandwidth 2,048,000, a fresh R828D at 0x74, all done.
+#[test]
+fn bandwidth_section() {
+    let mut tuner = r828d();
+    let answer = tuner.set_bandwidth(2_048_000, &done());
+    assert_eq!(answer.result, Ok(()));
+    let mut section = vec![0; 56];
+    for (at, byte) in [(0, 1), (3, 1), (8, 1), (16, 2), (18, 0x74), (19, 2), (24, 0x0a), (25, 0xd8), (32, 1), (35, 1), (48, 3), (52, 0x30)]
+    {
+        section[at] = byte;
+    }
+    assert_eq!(answer.transcript.bytes(), section);
+    let kinds: Vec<_> = answer.transcript.iter().map(|entry| (entry.kind, entry.failed, entry.target, entry.bytes.to_vec())).collect();
+    assert_eq!(kinds[0], (EntryKind::Repeater, false, 0, vec![1]));
+    assert_eq!(kinds[1], (EntryKind::I2cWrite, false, 0x74, vec![0x0a, 0xd8]));
+    assert_eq!(kinds[2], (EntryKind::Repeater, false, 0, vec![0]));
+    section.insert(0, 0xff);
+    assert_eq!(Transcript::read(&section), Ok((&[0xff][..], answer.transcript)));
+    assert!(!tuner.doubtful().any(|register| register == 0x0a));
+    assert_eq!(tuner.doubtful().count(), 26);
+}
+
+/// The PLL's registers for an LO of 102,300,000: 0x14 = 0xca, S = 0xd556.
+#[test]
+fn tuning() {
+    let mut tuner = r828d();
+    let answer = tuner.set_frequency(100_000_000, &done());
+    assert_eq!(answer.result, Ok(100_000_000));
+    assert_eq!(answer.transcript.len(), 53);
+    let writes: Vec<_> = (13..16).map(|k| answer.transcript.get(k).unwrap().bytes.to_vec()).collect();
+    assert_eq!(writes, [[0x14, 0xca], [0x16, 0xd5], [0x15, 0x56]]);
+    let wait = answer.transcript.get(17).unwrap();
+    assert_eq!((wait.kind, wait.address, wait.bytes), (EntryKind::Wait, 2, &[][..]));
+    assert!(answer.transcript.get(53).is_none());
+    assert!(!tuner.has_lock());
+    let locked = tuner.set_frequency(100_000_000, &done().replying(4, 0x08).replying(7, 0x02));
+    assert_eq!(locked.result, Ok(100_000_000));
+    assert!(tuner.has_lock());
+}
+
+/// Steps that were taken stand: the record changes although the call is refused.
+#[test]
+fn refused_by_a_step() {
+    let mut tuner = r828d();
+    tuner.initialize(&done()).result.unwrap();
+    assert_eq!(tuner.doubtful().count(), 0);
+    let answer = tuner.set_gain(29.7, &done().failing(3));
+    assert_eq!(answer.result, Err(Error::Step { index: 3 }));
+    assert_eq!(answer.transcript.len(), 5);
+    assert!(answer.transcript.get(3).unwrap().failed);
+    assert_eq!(tuner.doubtful().collect::<Vec<_>>(), [0x05]);
+    assert_eq!(tuner.gain(), 0.0);
+    tuner.reload(&done()).result.unwrap();
+    assert_eq!(tuner.doubtful().count(), 0);
+}
+
+/// A PLL refusal comes after the mux: 13 entries, and the mux's shadow.
+#[test]
+fn refused_by_the_pll() {
+    let mut tuner = r828d();
+    let before = tuner.clone();
+    let answer = tuner.set_frequency(27_656_250 - 2_300_000 - 1, &done());
+    assert_eq!(answer.result, Err(Error::Frequency));
+    assert_eq!(answer.transcript.len(), 13);
+    assert_ne!(tuner, before);
+    let answer = tuner.set_frequency(27_656_250 - 2_300_000, &done());
+    assert_eq!(answer.result, Ok(25_356_250));
+}
+
+/// Refused before any step: no transcript, and the record is as it was.
+#[test]
+fn refused_before_steps() {
+    let mut tuner = r828d();
+    let before = tuner.clone();
+    for (script, error) in [(Script::new([0; 52], [0; 35]), Error::Outcomes), (Script::new([0; 53], [0; 34]), Error::Replies)] {
+        let answer = tuner.set_frequency(100_000_000, &script);
+        assert_eq!((answer.result, answer.transcript), (Err(error), Transcript::default()));
+    }
+    assert_eq!(tuner.set_frequency(0, &done()).result, Err(Error::Frequency));
+    assert_eq!(tuner.update_shadow(0x04, 0, 0), Err(Error::Register));
+    assert_eq!(tuner.set_ppm(-1_000_000), Err(Error::Correction));
+    assert_eq!(tuner, before);
+}
+
+#[test]
+fn gain() {
+    let mut tuner = r828d();
+    assert_eq!(tuner.set_gain(3.2, &done()).result, Ok(2.7));
+    assert_eq!(tuner.gain(), 2.7);
+    assert_eq!(tuner.set_gain(f32::NAN, &done()).result, Ok(0.0));
+    assert_eq!(tuner.set_gain(-214_748_352.0, &done()).result, Ok(0.0));
+    assert_eq!(tuner.set_gain_by_index(usize::MAX, &done()).result, Ok(49.6));
+    let table = tuner.gain_table();
+    assert_eq!((table[0], table[3], table[28]), (0, 27, 496));
+}
+
+#[test]
+fn other_calls_of_the_tuner() {
+    let mut tuner = r828d();
+    assert_eq!(tuner.set_if_freq(3_570_000, &done()).transcript.len(), 4);
+    assert_eq!(tuner.if_freq(), 3_570_000);
+    assert_eq!(tuner.set_input_path(InputPath::Uhf, &done()).transcript.len(), 4);
+    assert_eq!(tuner.apply_input_path(InputPath::Hf, &done()).transcript.len(), 10);
+    assert_eq!(tuner.update_shadow(0x0f, 0xff, 0x0f), Ok(0x6f));
+    tuner.apply_notch(true);
+    assert!(tuner.notch());
+    tuner.set_ppm(-1).unwrap();
+    assert_eq!(tuner.corrected(), 28_799_972);
+    let mut small = Tuner::new(TunerKind::R820t, 0x1a, 16_000_000).unwrap();
+    let answer = small.set_input_path(InputPath::Hf, &Script::new([], []));
+    assert_eq!((answer.result, answer.transcript), (Ok(()), Transcript::default()));
+    assert_eq!(small.apply_input_path(InputPath::Hf, &done()).transcript.len(), 6);
+}
+
+#[test]
+fn driver() {
+    let mut tuner = r828d();
+    let mut driver = Driver::new(Board::V4, 28_800_000, 0, 102_300_000, 2_048_000).unwrap();
+    assert_eq!(driver.set_sample_rate(&mut tuner, 3_200_000, &done()).transcript.len(), 17);
+    assert_eq!((tuner.if_freq(), driver.rate()), (3_570_000, 3_200_000));
+    let answer = driver.set_sample_rate(&mut tuner, 2_048_000, &done().failing(0));
+    assert_eq!(answer.result, Err(Error::Step { index: 0 }));
+    assert_eq!((tuner.if_freq(), driver.rate()), (2_300_000, 3_200_000));
+    assert_eq!(driver.set_sample_rate(&mut tuner, 0, &done()).result, Err(Error::Rate));
+    driver.set_ppm(-1).unwrap();
+    assert_eq!(driver.corrected_xtal_hz(), 28_799_972);
+    assert_eq!(driver.set_ppm(-1_000_000), Err(Error::Correction));
+    assert_eq!(Driver::new(Board::Generic, 28_800_000, -1_000_000, 0, 0), Err(Error::Correction));
+}
+
+#[test]
+fn plans() {
+    let below = Board::V4.plan_tuning(28_799_999);
+    assert_eq!((below.hz, below.inverted, below.path), (57_599_999, true, Some(InputPath::Hf)));
+    let above = Board::V4.plan_tuning(28_800_000);
+    assert_eq!((above.hz, above.inverted, above.path), (28_800_000, false, Some(InputPath::Vhf)));
+    let notches = [84_999_999, 85_000_000, 112_000_000, 112_000_001].map(|hz| Board::V4.plan_tuning(hz).notch);
+    assert_eq!(notches, [false, true, true, false]);
+    assert_eq!(Board::Generic.plan_tuning(1).path, None);
+}
+
+#[test]
+fn demodulator_and_gpio() {
+    let counts = [
+        demod::init_baseband(&done()),
+        demod::power_on(&done()),
+        demod::reset_demod(&done()),
+        demod::set_tuner_low_if(&done()),
+        demod::set_tuner_zero_if(&done()),
+        demod::start_streaming(&done()),
+        demod::stop_streaming(&done()),
+        demod::write_reg_direct(1, 0x1234, 0x56, &done()),
+        gpio::set_output(5, &done()),
+        gpio::set_bit(5, true, &done()),
+    ]
+    .map(|answer| answer.transcript.len());
+    assert_eq!(counts, [45, 45, 2, 2, 2, 2, 2, 1, 4, 2]);
+    let sent: Vec<_> = demod::set_if_freq_xtal(3_570_000, 28_800_000, &done()).transcript.iter().map(|e| e.bytes.to_vec()).collect();
+    assert_eq!(sent, [[0x38], [0x11], [0x12]]);
+    let rate = demod::set_sample_rate_xtal(2_048_000, 28_800_000, &done());
+    assert_eq!((rate.transcript.get(0).unwrap().bytes, rate.transcript.get(1).unwrap().bytes), (&[0x03, 0x84][..], &[0, 0][..]));
+    assert_eq!(demod::set_sample_rate_xtal(0, 0, &done()).result, Err(Error::Rate));
+    assert_eq!(demod::set_if_freq_xtal(1, 0, &done()).result, Err(Error::Correction));
+    assert_eq!(gpio::set_bit(8, true, &done()).result, Err(Error::Pin));
+    assert_eq!(gpio::set_output(8, &done()).result, Err(Error::Pin));
+}
+
+#[test]
+fn register_values_and_fir() {
+    assert_eq!(if_freq_regs(3_570_000, 28_800_000), Ok([0x07, 0xee, 0xee]));
+    assert_eq!(if_freq_regs(1, 0), Err(Error::Correction));
+    assert_eq!(resample_regs(2_048_000, 28_800_000), Ok([0x03, 0x84, 0x00, 0x00]));
+    assert_eq!(resample_regs(0, 0), Err(Error::Rate));
+    assert_eq!(pack_fir(&FIR_DEFAULT), Ok(FIR_BYTES));
+    assert_eq!(unpack_fir(&FIR_BYTES), FIR_DEFAULT);
+    let mut wide = FIR_DEFAULT;
+    wide[7] = 128;
+    assert_eq!(pack_fir(&wide), Err(Error::Coefficient));
+}
+
+#[test]
+fn errors_have_numbers_and_words() {
+    assert_eq!(Error::Step { index: 7 }.to_string(), "refusal 11 (step) at entry 7");
+    assert_eq!(Error::Coefficient.to_string(), "refusal 7 (coefficient)");
+    assert_eq!(Transcript::read(&[]).map(|_| ()).unwrap_err().number(), 12);
+    assert_eq!(pasetone::version(), (1, 0, 0));
+}

@@ -1,0 +1,378 @@
+/*
+ * Pasetone: control of an RTL2832U receiver with an R820T or R828D tuner, after rtlsdr-next. This header is the manual of libpasetone.a.
+ *
+ * The library talks to no hardware, reads no clock and waits for nothing. A call is given
+ *   - a record: what is known of a tuner (105 bytes) or of a driver (21 bytes), kept by the host as plain bytes;
+ *   - a script: how each step is to end (outcomes) and what each read is to give (replies);
+ *   - room, into which it writes a transcript of the steps that it took;
+ *   - a slice for the next record, which takes the place of the given one.
+ * What step i is depends on the outcomes and replies before it alone. So a real receiver is driven in rounds: call with what is known so far
+ * (done and 0 for the rest), take the first step that was not taken yet, put its outcome and what it read into the script, call again with the
+ * same record. When every step has been taken, the next record tells what the chip holds: which registers are sure and which are doubtful.
+ *
+ * Script. Outcome byte i belongs to entry i of the call: 0 done, any other failed; the outcome of a wait is not looked at. Replies are used
+ * in the order of reading. A script must be long enough for the longest run of its call (constants below), even where a run is shorter.
+ *
+ * Transcript. A call with steps writes one section at the start of its room: its entries of 16 bytes, then 8 bytes, the count of entries and
+ * 16 times the count (u32 each). Bytes of the room past the section stay as they were. An entry:
+ *
+ *   byte 0 kind | 1 outcome, 0 done 1 failed | 2 target | 3 n | 4, 5 address | 6, 7 zero | 8..15 n data bytes, padded with zeros
+ *
+ *   kind                          target  n       address       data
+ *   1 repeater                    0       1       0             1 opens, 0 closes
+ *   2 I2C write                   chip    1..8    0             register, then bytes for it and the ones above it
+ *   3 I2C read                    chip    1..5    0             raw bytes, zeros if failed
+ *   4, 5 demodulator write        page    1, 2    register      high byte first
+ *   6, 7 block write              block   1, 2    register      high byte first
+ *   8 block read                  block   1       register      the byte, zero if failed
+ *   9 wait                        0       0       milliseconds  none
+ *
+ * When a step fails the rest of the call is not taken, but an open repeater is closed. A closing that fails is recorded and else ignored.
+ *
+ * Slices. A slice is two arguments: a pointer that is not null and a length; an empty slice is any such pointer and 0. Numbers in bytes stand
+ * low byte first, but for the data of a transfer. The slices of one call must be disjoint: nothing checks that. Slices by `const` pointer are
+ * only read. Nothing is kept between calls and nothing is allocated, so calls for different receivers may run side by side.
+ *
+ * Refusals. The reply's `refusal` is 0 or one of the numbers below, in this order: a given record that is none (1); an argument (1 to 7); lent
+ * slices too short: room, and the slices for records and bytes that come back (8), outcomes (9), replies (10); then the steps (11, or 2 in
+ * the PLL of a tuning). Refused before any step: value, index and count are 0, and every lent byte is as it was. Refused by a step: value 0,
+ * and the section and the next records are written, since the steps taken stand.
+ */
+#ifndef PASETONE_H
+#define PASETONE_H
+
+#include <stddef.h>
+#include <stdint.h>
+
+#ifdef __cplusplus
+extern "C" {
+#endif
+
+/* Refusal numbers. */
+#define PASETONE_DONE 0         /* not refused */
+#define PASETONE_SETUP 1        /* a kind, board or path that is none, a nominal reference out of 1..4,294,967,295, bytes that are no record */
+#define PASETONE_FREQUENCY 2    /* 0 Hz; Hz plus IF over 64 bits; or no divider or N in the PLL, when the mux is set already */
+#define PASETONE_RATE 3         /* rate 0 */
+#define PASETONE_CORRECTION 4   /* a corrected reference out of 1..4,294,967,295 */
+#define PASETONE_REGISTER 5     /* a register out of 0x05..0x1f */
+#define PASETONE_PIN 6          /* a GPIO above 7 */
+#define PASETONE_COEFFICIENT 7  /* an FIR value past its width, or not sixteen of them */
+#define PASETONE_ROOM 8         /* room, or a slice for what comes back, is too short */
+#define PASETONE_OUTCOMES 9     /* too few outcomes */
+#define PASETONE_REPLIES 10     /* too few replies */
+#define PASETONE_STEP 11        /* a step failed: `index` says which entry */
+#define PASETONE_SECTION 12     /* bytes that do not end in a section */
+
+/* Cases as numbers. */
+#define PASETONE_R820T 0
+#define PASETONE_R828D 1
+#define PASETONE_GENERIC 0
+#define PASETONE_V4 1
+#define PASETONE_HF 0
+#define PASETONE_VHF 1
+#define PASETONE_UHF 2
+#define PASETONE_NO_PATH 3 /* in a plan only */
+
+/*
+ * The tuner's record: its size, and the place of each field. Bytes that are a record: exactly this long, kind 0 or 1, both references 1 or
+ * more, flags (lock, notch, each doubtful mark) 0 or 1, and no NaN as gain but 0x7fc00000.
+ */
+#define PASETONE_TUNER_SIZE 105
+#define PASETONE_TUNER_KIND 0
+#define PASETONE_TUNER_ADDRESS 1
+#define PASETONE_TUNER_SHADOW 2     /* 27 bytes for registers 0x05..0x1f */
+#define PASETONE_TUNER_NOMINAL 29   /* u32, Hz */
+#define PASETONE_TUNER_CORRECTED 33 /* u32, Hz */
+#define PASETONE_TUNER_LOCK 37
+#define PASETONE_TUNER_GAIN 38      /* binary32, dB */
+#define PASETONE_TUNER_IF 42        /* u64, Hz */
+#define PASETONE_TUNER_NOTCH 50
+#define PASETONE_TUNER_ATTEMPTED 51 /* 27 bytes: the byte last attempted */
+#define PASETONE_TUNER_DOUBTFUL 78  /* 27 flags: 1 where the chip may hold another */
+#define PASETONE_FIRST_REGISTER 0x05
+#define PASETONE_REGISTER_COUNT 27
+
+/* The driver's record. Bytes that are a record: exactly this long, board 0 or 1, nominal and ppm with a corrected reference in its range. */
+#define PASETONE_DRIVER_SIZE 21
+#define PASETONE_DRIVER_BOARD 0
+#define PASETONE_DRIVER_NOMINAL 1   /* u32, Hz */
+#define PASETONE_DRIVER_PPM 5       /* i32 */
+#define PASETONE_DRIVER_FREQUENCY 9 /* u64, Hz */
+#define PASETONE_DRIVER_RATE 17     /* u32, samples per second */
+
+/* The most entries of a call are its outcomes' least length; room for n entries; replies are 0 where none are named. */
+#define PASETONE_ENTRY_SIZE 16
+#define PASETONE_ROOM_FOR(n) ((size_t)16 * (n) + 8)
+#define PASETONE_INITIALIZE_ENTRIES 19
+#define PASETONE_INITIALIZE_ROOM PASETONE_ROOM_FOR(19)
+#define PASETONE_TUNE_ENTRIES 53
+#define PASETONE_TUNE_REPLIES 35 /* five of status, then three for each of up to ten tries for a lock */
+#define PASETONE_TUNE_ROOM PASETONE_ROOM_FOR(53)
+#define PASETONE_GAIN_ENTRIES 7
+#define PASETONE_GAIN_ROOM PASETONE_ROOM_FOR(7)
+#define PASETONE_BANDWIDTH_ENTRIES 3
+#define PASETONE_BANDWIDTH_ROOM PASETONE_ROOM_FOR(3)
+#define PASETONE_IF_ENTRIES 4
+#define PASETONE_IF_ROOM PASETONE_ROOM_FOR(4)
+#define PASETONE_INPUT_PATH_ENTRIES 4
+#define PASETONE_INPUT_PATH_ROOM PASETONE_ROOM_FOR(4)
+#define PASETONE_RELOAD_ENTRIES 9
+#define PASETONE_RELOAD_ROOM PASETONE_ROOM_FOR(9)
+#define PASETONE_SAMPLE_RATE_ENTRIES 17
+#define PASETONE_SAMPLE_RATE_ROOM PASETONE_ROOM_FOR(17)
+#define PASETONE_BOARD_PATH_ENTRIES 10
+#define PASETONE_BOARD_PATH_REPLIES 3
+#define PASETONE_BOARD_PATH_ROOM PASETONE_ROOM_FOR(10)
+#define PASETONE_BASEBAND_ENTRIES 45
+#define PASETONE_BASEBAND_ROOM PASETONE_ROOM_FOR(45)
+#define PASETONE_DEMOD_PAIR_ENTRIES 2 /* reset, low IF, zero IF, start and stop streaming */
+#define PASETONE_DEMOD_PAIR_ROOM PASETONE_ROOM_FOR(2)
+#define PASETONE_DIRECT_ENTRIES 1
+#define PASETONE_DIRECT_ROOM PASETONE_ROOM_FOR(1)
+#define PASETONE_IF_XTAL_ENTRIES 3
+#define PASETONE_IF_XTAL_ROOM PASETONE_ROOM_FOR(3)
+#define PASETONE_RATE_XTAL_ENTRIES 4
+#define PASETONE_RATE_XTAL_ROOM PASETONE_ROOM_FOR(4)
+#define PASETONE_GPIO_OUTPUT_ENTRIES 4
+#define PASETONE_GPIO_OUTPUT_REPLIES 2
+#define PASETONE_GPIO_OUTPUT_ROOM PASETONE_ROOM_FOR(4)
+#define PASETONE_GPIO_BIT_ENTRIES 2
+#define PASETONE_GPIO_BIT_REPLIES 1
+#define PASETONE_GPIO_BIT_ROOM PASETONE_ROOM_FOR(2)
+
+/* Sizes of answered bytes. */
+#define PASETONE_GAIN_TABLE_SIZE 116
+#define PASETONE_PLAN_SIZE 3
+#define PASETONE_IF_REGS_SIZE 3
+#define PASETONE_RESAMPLE_REGS_SIZE 4
+#define PASETONE_FIR_SIZE 20
+#define PASETONE_FIR_VALUES_SIZE 64
+
+/* What a call answers: 24 bytes without padding. */
+typedef struct {
+    uint64_t value;   /* the call's answer; 0 where it is refused or has none */
+    uint64_t index;   /* the failing entry where refusal is 11, else 0 */
+    uint32_t refusal; /* 0 done, else a number above */
+    uint32_t count;   /* entries in the section; 0 where no step was taken */
+} pasetone_reply;
+
+/* What a tuning answers. */
+typedef struct {
+    uint64_t value;
+    uint64_t index;
+    uint32_t refusal;
+    uint32_t count;
+} pasetone_tune_reply;
+
+/* What the reader of sections answers: entries stand from `start` to `start + 16 * count`, the trailer's 8 bytes behind them. */
+typedef struct {
+    uint64_t start;   /* how many bytes stand before the section */
+    uint64_t count;   /* entries in it */
+    uint32_t refusal; /* 0, or 12: then the other fields are 0 */
+    uint32_t zero;
+} pasetone_section;
+
+/* The library's version: major * 65536 + minor * 256 + patch. Refuses nothing. */
+uint32_t pasetone_version(void);
+
+/* ---- Fresh records ---- */
+
+/*
+ * A tuner as it is before `initialize`: shadow and attempted bytes are the chip's initial ones, every register is doubtful, no lock, gain
+ * 0.0, IF 2,300,000, no notch, corrected reference = nominal. `address` is the chip's on I2C, any byte (an R828D: 0x74). `next`: 105 bytes.
+ * Value 0. Refuses 1 (kind, nominal), 8.
+ */
+pasetone_reply pasetone_tuner_new(uint64_t kind, uint8_t address, uint64_t nominal, uint8_t *next, size_t next_len);
+
+/*
+ * A driver: its board, reference, correction in parts per million, and the frequency and rate to start from (0 is taken). `next`: 21 bytes.
+ * Value 0. Refuses 1 (board, nominal), 4, 8.
+ */
+pasetone_reply pasetone_driver_new(uint64_t board, uint64_t nominal, int32_t ppm, uint64_t frequency, uint32_t rate, uint8_t *next,
+                                   size_t next_len);
+
+/*
+ * ---- The tuner's calls with steps ----
+ * `tuner` is a record of 105 bytes and stays as it is; `next` takes the next one, 105 bytes, where the call is done or refused by a step.
+ * In it, the bytes of a register follow the writes to it: the shadow before each is tried, the attempted byte with it, and the register is doubtful
+ * until a write is done and whenever the last one failed. Other fields stay unless they are named below.
+ */
+
+/*
+ * Sends the chip's initial bytes past the shadow, then sets it up by way of it. IF, gain, lock and notch stay. Outcomes 19, room 312. Value 0.
+ * Refuses 1, 8, 9, 11.
+ */
+pasetone_reply pasetone_initialize(const uint8_t *tuner, size_t tuner_len, const uint8_t *outcomes, size_t outcomes_len, uint8_t *room,
+                                   size_t room_len, uint8_t *next, size_t next_len);
+
+/*
+ * Tunes to `hz`: the mux, then the PLL at hz + IF. That the PLL did not lock is no refusal: read the record's lock, which changes only when
+ * the tries for a lock have ended. 0x14, 0x15 and 0x16 are written past the shadow. Outcomes 53, replies 35, room 856. Value: the hz asked.
+ * Refuses 1, 2, 8, 9, 10, 11; 2 also in the PLL, when the mux's steps are taken and stand (13 entries).
+ */
+pasetone_tune_reply pasetone_set_frequency(const uint8_t *tuner, size_t tuner_len, uint64_t hz, const uint8_t *outcomes,
+                                           size_t outcomes_len, const uint8_t *replies, size_t replies_len, uint8_t *room,
+                                           size_t room_len, uint8_t *next, size_t next_len);
+
+/*
+ * The gain step nearest to `db`, the lower one on a tie; a NaN is 0 dB. The record's gain changes only when all steps are done.
+ * Outcomes 7, room 120. Value: the gain set, as the 32 bits of a binary32. Refuses 1, 8, 9, 11.
+ */
+pasetone_reply pasetone_set_gain(const uint8_t *tuner, size_t tuner_len, float db, const uint8_t *outcomes, size_t outcomes_len,
+                                 uint8_t *room, size_t room_len, uint8_t *next, size_t next_len);
+
+/* As `set_gain`, by the step's index; above 28 it is 28. Outcomes 7, room 120. Value: the gain set, as 32 bits. Refuses 1, 8, 9, 11. */
+pasetone_reply pasetone_set_gain_by_index(const uint8_t *tuner, size_t tuner_len, uint64_t index, const uint8_t *outcomes,
+                                          size_t outcomes_len, uint8_t *room, size_t room_len, uint8_t *next, size_t next_len);
+
+/* The IF filter: to 6 MHz, to 7 MHz, above; the record keeps no bandwidth. Outcomes 3, room 56. Value 0. Refuses 1, 8, 9, 11. */
+pasetone_reply pasetone_set_bandwidth(const uint8_t *tuner, size_t tuner_len, uint32_t hz, const uint8_t *outcomes, size_t outcomes_len,
+                                      uint8_t *room, size_t room_len, uint8_t *next, size_t next_len);
+
+/* The IF that tunings go by. The record's IF changes before the steps, so also with 11. Outcomes 4, room 72. Value 0. Refuses 1, 8, 9, 11. */
+pasetone_reply pasetone_set_if_freq(const uint8_t *tuner, size_t tuner_len, uint64_t hz, const uint8_t *outcomes, size_t outcomes_len,
+                                    uint8_t *room, size_t room_len, uint8_t *next, size_t next_len);
+
+/*
+ * The chip's input: path 0 HF, 1 VHF, 2 UHF. Outcomes 4, room 72. Value 0. Refuses 1 (also a path above 2), 8, 9, 11. An R820T has one input:
+ * done with no entry and no section, outcomes and room are not looked at and may be empty, and `next` is the given record.
+ */
+pasetone_reply pasetone_set_input_path(const uint8_t *tuner, size_t tuner_len, uint8_t path, const uint8_t *outcomes, size_t outcomes_len,
+                                       uint8_t *room, size_t room_len, uint8_t *next, size_t next_len);
+
+/*
+ * Sends every register's attempted byte again. All done, no register is doubtful and the shadow is what the chip holds: the way back after
+ * refusal 11. Outcomes 9, room 152. Value 0. Refuses 1, 8, 9, 11 (then the shadow stays).
+ */
+pasetone_reply pasetone_reload(const uint8_t *tuner, size_t tuner_len, const uint8_t *outcomes, size_t outcomes_len, uint8_t *room,
+                               size_t room_len, uint8_t *next, size_t next_len);
+
+/* ---- The tuner's calls without steps ---- */
+
+/*
+ * The shadow byte of `reg` with the bits of `mask` taken from `value`; nothing is sent, and no other byte of the record changes. `next`: 105
+ * bytes. Value: the new byte. Refuses 1, 5, 8.
+ */
+pasetone_reply pasetone_update_shadow(const uint8_t *tuner, size_t tuner_len, uint8_t reg, uint8_t value, uint8_t mask, uint8_t *next,
+                                      size_t next_len);
+
+/* Value: the gain last set, as the 32 bits of a binary32. Refuses 1. */
+pasetone_reply pasetone_get_gain(const uint8_t *tuner, size_t tuner_len);
+
+/* Value: the IF in Hz. Refuses 1. */
+pasetone_reply pasetone_get_if_freq(const uint8_t *tuner, size_t tuner_len);
+
+/* The 29 gain steps in tenths of a dB, i32 each, into `out` (116 bytes). Value 0. Refuses 1, 8. */
+pasetone_reply pasetone_get_gain_table(const uint8_t *tuner, size_t tuner_len, uint8_t *out, size_t out_len);
+
+/*
+ * The tuner's corrected reference, nominal + nominal * ppm / 1,000,000 with the quotient cut toward zero. CHANGES the given record where it
+ * lies, in its four bytes at 33, unless refused. Value 0. Refuses 1, 4.
+ */
+pasetone_reply pasetone_set_ppm(uint8_t *tuner, size_t tuner_len, int32_t ppm);
+
+/* The notch, for the next tuning: 0 off, else on. CHANGES the given record where it lies, in its byte at 50. Value 0. Refuses 1. */
+pasetone_reply pasetone_apply_notch(uint8_t *tuner, size_t tuner_len, uint8_t on);
+
+/* ---- The driver's calls. `driver` is a record of 21 bytes and stays as it is. ---- */
+
+/* The driver with another correction; the tuner keeps its own. `next`: 21 bytes. Value 0. Refuses 1, 4, 8. */
+pasetone_reply pasetone_driver_set_ppm(const uint8_t *driver, size_t driver_len, int32_t ppm, uint8_t *next, size_t next_len);
+
+/* Value: the driver's corrected reference in Hz. Refuses 1. */
+pasetone_reply pasetone_corrected_xtal_hz(const uint8_t *driver, size_t driver_len);
+
+/*
+ * The sample rate: IF and filter of the tuner, reset, rate and IF of the demodulator, spectrum by the board's plan for the driver's frequency.
+ * An IF of 0 stays 0. Outcomes 17, room 280; `next_driver` 21 bytes, `next_tuner` 105. Both are written once steps were taken; the driver's
+ * rate changes only when all are done, the tuner's IF before them. Value 0. Refuses 1 (either record), 3, 8, 9, 11.
+ */
+pasetone_reply pasetone_set_sample_rate(const uint8_t *driver, size_t driver_len, const uint8_t *tuner, size_t tuner_len, uint32_t rate,
+                                        const uint8_t *outcomes, size_t outcomes_len, uint8_t *room, size_t room_len,
+                                        uint8_t *next_driver, size_t next_driver_len, uint8_t *next_tuner, size_t next_tuner_len);
+
+/*
+ * The board's input: GPIO 5, then the tuner's own path. Outcomes 10, replies 3, room 168, on an R820T too, which makes six entries.
+ * `next`: 105 bytes. Value 0. Refuses 1 (also a path above 2), 8, 9, 10, 11.
+ */
+pasetone_reply pasetone_apply_input_path(const uint8_t *tuner, size_t tuner_len, uint8_t path, const uint8_t *outcomes,
+                                         size_t outcomes_len, const uint8_t *replies, size_t replies_len, uint8_t *room, size_t room_len,
+                                         uint8_t *next, size_t next_len);
+
+/* ---- Demodulator and GPIO: no record; the room alone is written. Value 0. ---- */
+
+/* Powers the demodulator and sets it up. Outcomes 45, room 728. Refuses 8, 9, 11. */
+pasetone_reply pasetone_init_baseband(const uint8_t *outcomes, size_t outcomes_len, uint8_t *room, size_t room_len);
+
+/* The same as `init_baseband`. Outcomes 45, room 728. Refuses 8, 9, 11. */
+pasetone_reply pasetone_power_on(const uint8_t *outcomes, size_t outcomes_len, uint8_t *room, size_t room_len);
+
+/* Soft reset, on and off. Outcomes 2, room 40. Refuses 8, 9, 11. */
+pasetone_reply pasetone_reset_demod(const uint8_t *outcomes, size_t outcomes_len, uint8_t *room, size_t room_len);
+
+/* For a tuner with an IF. Outcomes 2, room 40. Refuses 8, 9, 11. */
+pasetone_reply pasetone_set_tuner_low_if(const uint8_t *outcomes, size_t outcomes_len, uint8_t *room, size_t room_len);
+
+/* For a tuner without one. Outcomes 2, room 40. Refuses 8, 9, 11. */
+pasetone_reply pasetone_set_tuner_zero_if(const uint8_t *outcomes, size_t outcomes_len, uint8_t *room, size_t room_len);
+
+/* The endpoint: stalled and cleared, so that samples come. Outcomes 2, room 40. Refuses 8, 9, 11. */
+pasetone_reply pasetone_start_streaming(const uint8_t *outcomes, size_t outcomes_len, uint8_t *room, size_t room_len);
+
+/* The endpoint stalled, the demodulator's power off. Outcomes 2, room 40. Refuses 8, 9, 11. */
+pasetone_reply pasetone_stop_streaming(const uint8_t *outcomes, size_t outcomes_len, uint8_t *room, size_t room_len);
+
+/* One byte into a register of the demodulator, any page and address. Outcomes 1, room 24. Refuses 8, 9, 11. */
+pasetone_reply pasetone_write_reg_direct(uint8_t page, uint16_t address, uint8_t value, const uint8_t *outcomes, size_t outcomes_len,
+                                         uint8_t *room, size_t room_len);
+
+/* The demodulator's IF at a reference of `xtal` Hz. Outcomes 3, room 56. Refuses 4 (xtal 0), 8, 9, 11. */
+pasetone_reply pasetone_set_if_freq_xtal(uint32_t hz, uint32_t xtal, const uint8_t *outcomes, size_t outcomes_len, uint8_t *room,
+                                         size_t room_len);
+
+/* The resampler's rate at a reference of `xtal` Hz. Outcomes 4, room 72. Refuses 3, 4 (xtal 0), 8, 9, 11. */
+pasetone_reply pasetone_set_sample_rate_xtal(uint32_t rate, uint32_t xtal, const uint8_t *outcomes, size_t outcomes_len, uint8_t *room,
+                                             size_t room_len);
+
+/* Makes a GPIO (0..7) an output. Outcomes 4, replies 2, room 72. Refuses 6, 8, 9, 10, 11. */
+pasetone_reply pasetone_set_gpio_output(uint8_t gpio, const uint8_t *outcomes, size_t outcomes_len, const uint8_t *replies,
+                                        size_t replies_len, uint8_t *room, size_t room_len);
+
+/* Sets a GPIO's level: 0 low, else high. Outcomes 2, replies 1, room 40. Refuses 6, 8, 9, 10, 11. */
+pasetone_reply pasetone_set_gpio_bit(uint8_t gpio, uint8_t value, const uint8_t *outcomes, size_t outcomes_len, const uint8_t *replies,
+                                     size_t replies_len, uint8_t *room, size_t room_len);
+
+/* ---- Numbers and bytes: no record and no steps ---- */
+
+/*
+ * How a board (0 generic, 1 V4) is to be tuned to `hz`. `out`, 3 bytes: 1 if the spectrum is inverted; the path, or 3 for none; 1 if hz lies in
+ * a notch. Value: the Hz for the tuner. Refuses 1, 8.
+ */
+pasetone_reply pasetone_plan_tuning(uint8_t board, uint64_t hz, uint8_t *out, size_t out_len);
+
+/* hz * 2^22 / xtal, kept to 22 bits, high byte first (`set_if_freq_xtal` sends it negated). `out`: 3 bytes. Value 0. Refuses 4 (xtal 0), 8. */
+pasetone_reply pasetone_if_freq_regs(uint32_t hz, uint32_t xtal, uint8_t *out, size_t out_len);
+
+/* xtal * 2^22 / rate, kept to 30 bits, high byte first (`set_sample_rate_xtal` sends fewer). `out`: 4 bytes. Value 0. Refuses 3, 4, 8. */
+pasetone_reply pasetone_resample_regs(uint32_t rate, uint32_t xtal, uint8_t *out, size_t out_len);
+
+/*
+ * FIR coefficients. `values`: sixteen i32 (64 bytes), the first eight of 8 bits (-128..127), the others of 12 (-2048..2047). `out`: 20 bytes.
+ * Value 0. Refuses 7 (a value, or not 64 bytes), 8.
+ */
+pasetone_reply pasetone_pack_fir(const uint8_t *values, size_t values_len, uint8_t *out, size_t out_len);
+
+/* The inverse: 20 bytes into sixteen i32 (64 bytes). Value 0. Refuses 7 (not 20 bytes), 8. */
+pasetone_reply pasetone_unpack_fir(const uint8_t *bytes, size_t bytes_len, uint8_t *out, size_t out_len);
+
+/*
+ * The section in which `bytes` end; what stands before it is not looked at. Accepts exactly what the tables above allow, up to 4,096 entries
+ * (none is a section too; a wait's outcome is 0). Refuses 12.
+ */
+pasetone_section pasetone_read_section(const uint8_t *bytes, size_t bytes_len);
+
+#ifdef __cplusplus
+}
+#endif
+
+#endif
