@@ -11,7 +11,7 @@ fn options() {
     say(b"  --address N          its address on the bus                  (0x74; r820t: 0x34)");
     say(b"  --board v4|generic   the board                               (v4)");
     say(b"  --reference HZ       the reference                           (28800000)");
-    say(b"  --ppm N              the reference's correction, -2147483647 to 2147483647 (not called)");
+    say(b"  --ppm N              the reference's correction, -2147483648 to 2147483647 (not called)");
     say(b"  --rate N             samples a second, to 4294967295         (2048000)");
     say(b"  --gain DB            0 to 6553.5, with at most one digit behind the point (29.7)");
     say(b"  --fail N             step N fails, counted from 0 over the whole run, to 4095 (none)");

@@ -114,7 +114,7 @@ fn set_reference(r: Request, value: &[u8]) -> Parsed {
 fn set_ppm(r: Request, value: &[u8]) -> Parsed {
     let mut r = r;
     let Signed::Is(v) = numbers::with_sign(value) else {
-        return bad(r, b"--ppm wants a number from -2147483647 to 2147483647", value);
+        return bad(r, b"--ppm wants a number from -2147483648 to 2147483647", value);
     };
     r.corrected = true;
     r.ppm = v;

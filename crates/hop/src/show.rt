@@ -71,11 +71,17 @@ fn told(s: &[u8], ends: &[usize], n: usize) {
     l.decimal(steps).text(b" steps").print();
 }
 
-fn parts(ends: &[usize; 131072], n: usize) -> &[usize] {
-    if 131072 < n {
+// The first n of them; none where there are fewer.
+fn first(ends: &[usize], n: usize) -> &[usize] {
+    if ends.len() < n {
         return &ends[0..0];
     }
     &ends[0..n]
+}
+
+// The array's length is in its type, so that its part needs no fact about what was stored there.
+fn parts(ends: &[usize; 131072], n: usize) -> &[usize] {
+    first(ends, n)
 }
 
 fn file(s: &[u8]) {

@@ -8,9 +8,11 @@ use Rattle.words.specs.declared.numbers.Number.{Number}
 use Rattle.words.specs.declared.numbers.Number.the-variants.{Is, Refused}
 
 -- a digit's value, by its ASCII code: `0` to `9`, `A` to `F`, `a` to `f`; 16 is no digit's
-abbrev pub digitOf : ℕ → ℕ
+unfoldable pub digitOf : ℕ → ℕ
 digitOf b =
-    cond (leb 48 b && leb b 57) (b - 48) (cond (leb 65 b && leb b 70) (b - 55) (cond (leb 97 b && leb b 102) (b - 87) 16))
+    cond (ltb b 48) 16
+    (cond (leb b 57) (b - 48)
+    (cond (ltb b 65) 16 (cond (leb b 70) (b - 55) (cond (ltb b 97) 16 (cond (leb b 102) (b - 87) 16)))))
 
 -- whether all are digits of the base
 unfoldable pub allDigits : ℕ → List ℕ → Bool

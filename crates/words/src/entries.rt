@@ -1,4 +1,5 @@
 // An entry of a transcript in words, and the table's rows. Document 01, "Transcript and script": the table of kinds 1 to 9.
+ghost use Prim.Native.Nat.{_≤_};
 use crate::lines;
 use lines::Line;
 use transcript::Entry;
@@ -18,11 +19,22 @@ fn repeater(l: Line, e: Entry) -> Line {
     l.text(b"repeater opens")
 }
 
-// The data bytes from `from` on, each behind a space.
-fn data(l: Line, bytes: [u8; 8], from: usize, to: usize) -> Line {
+// An entry has eight data bytes.
+fn eight(n: u8) -> usize
+    ensures { λ r. ⌜ r ≤ 8 ⌝ }
+{
+    if n < 8 {
+        return n as usize;
+    }
+    8
+}
+
+// The data bytes from `from` to the entry's last, each behind a space.
+fn data(l: Line, bytes: [u8; 8], from: usize, n: u8) -> Line {
     let mut l = l;
+    let to = eight(n);
     let mut i = from;
-    while i < to && i < 8 {
+    while i < to {
         l = l.byte(b' ').hex(bytes[i]);
         i += 1;
     }
@@ -37,7 +49,7 @@ fn chip_write(l: Line, e: Entry) -> Line {
     if e.n == 1 {
         return first.text(b" (read from there)");
     }
-    data(first.text(b" <-"), bytes, 1, e.n as usize)
+    data(first.text(b" <-"), bytes, 1, e.n)
 }
 
 // A failed read has no bytes to show.
@@ -48,7 +60,7 @@ fn chip_read(l: Line, e: Entry) -> Line {
     if e.outcome != 0 {
         return sized;
     }
-    data(sized.text(b" ->"), bytes, 0, e.n as usize)
+    data(sized.text(b" ->"), bytes, 0, e.n)
 }
 
 // A register of the interface, in its page or block.
@@ -59,7 +71,7 @@ fn place(l: Line, e: Entry) -> Line {
 fn interface_write(l: Line, e: Entry) -> Line {
     let bytes = e.bytes;
     let named = place(l, e).text(b" <-");
-    data(named, bytes, 0, e.n as usize)
+    data(named, bytes, 0, e.n)
 }
 
 fn interface_read(l: Line, e: Entry) -> Line {
@@ -68,7 +80,7 @@ fn interface_read(l: Line, e: Entry) -> Line {
     if e.outcome != 0 {
         return named;
     }
-    data(named.text(b" ->"), bytes, 0, e.n as usize)
+    data(named.text(b" ->"), bytes, 0, e.n)
 }
 
 // What a step does, in words.

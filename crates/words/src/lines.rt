@@ -43,16 +43,17 @@ fn printable(b: u8) -> u8
 }
 
 impl Line {
-    pub fn byte(mut self, b: u8) -> Line
+    pub fn byte(self, b: u8) -> Line
         ensures { λ r. ⌜ shown r ≡ take 100 (shown self ++ (b ∷ [])) ⌝ }
     {
         let at = self.n;
         if 100 <= at {
             return self;
         }
-        self.bytes[at] = b;
-        self.n = at + 1;
-        self
+        let mut next = self;
+        next.bytes[at] = b;
+        next.n = at + 1;
+        next
     }
 
     pub fn text(self, s: &[u8]) -> Line
@@ -124,12 +125,17 @@ impl Line {
     }
 }
 
-// The first n bytes; a line never has more than all.
-fn first(bytes: &[u8; 100], n: usize) -> &[u8] {
-    if 100 < n {
-        return &bytes[0..0];
+// The first n bytes; none where there are fewer.
+fn start(s: &[u8], n: usize) -> &[u8] {
+    if s.len() < n {
+        return &s[0..0];
     }
-    &bytes[0..n]
+    &s[0..n]
+}
+
+// The array's length is in its type, so that its part needs no fact about how the line was made.
+fn first(bytes: &[u8; 100], n: usize) -> &[u8] {
+    start(bytes, n)
 }
 
 // Where a number of at most five digits starts, so that it ends at `end`.

@@ -24,13 +24,22 @@ fn wide(b: u8) -> u64
 fn digit(b: u8) -> u64
     ensures { λ r. ⌜ (r ≡ digitOf b) × (r ≤ 16) ⌝ }
 {
-    if (48 <= b) & (b <= 57) {
+    if b < 48 {
+        return 16;
+    }
+    if b <= 57 {
         return wide(b - 48);
     }
-    if (65 <= b) & (b <= 70) {
+    if b < 65 {
+        return 16;
+    }
+    if b <= 70 {
         return wide(b - 55);
     }
-    if (97 <= b) & (b <= 102) {
+    if b < 97 {
+        return 16;
+    }
+    if b <= 102 {
         return wide(b - 87);
     }
     16
@@ -107,11 +116,18 @@ fn upward(n: Number) -> Signed {
     Signed::Is(v as i32)
 }
 
+// Below zero by its bits, which count down from 2^32.
 fn downward(n: Number) -> Signed {
-    let Signed::Is(v) = upward(n) else {
+    let Number::Is(v) = n else {
         return Signed::Refused;
     };
-    Signed::Is(0 - v)
+    if v == 0 {
+        return Signed::Is(0);
+    }
+    if 0x8000_0000 < v {
+        return Signed::Refused;
+    }
+    Signed::Is(wire::to_signed((0x1_0000_0000 - v) as u32))
 }
 
 // A number with a minus or without.

@@ -1,51 +1,46 @@
+-- `entries::data` is safe and ends: the measure is the bytes that are left. Assumes nothing.
+use Prim.Native.Nat.{_-_}
+use borrow.Author.Needs.{needs}
 use Rattle.words.proofs.entries.data.Statement.{statement}
 use Rattle.words.proofs.entries.data.Tie as tie
 use Rattle.words.proofs.entries.data.Reads as reads
 use Rattle.words.proofs.entries.data.Lts as lts
+use Rattle.words.proofs.entries.eight.Reads as eight-reads
 use Rattle.words.proofs.lines.Line.byte.Reads as byte-reads
 use Rattle.words.proofs.lines.Line.hex.Reads as hex-reads
 
 abbrev Inv-loop : tie.InvT-loop
-Inv-loop from to bytes l₀ i₀ l i = ?
+Inv-loop from n bytes l₀ to i₀ l i = Unit {0}
 
 abbrev μ-loop : tie.MeasureT-loop
-μ-loop from to bytes l₀ i₀ l i = ?
+μ-loop from n bytes l₀ to i₀ l i = to - i
 
--- src/entries.rt:25:5
+eight-requires : tie.Need-eight-requires Inv-loop μ-loop
+eight-requires c κs = search needs
+
 loop-holds : tie.Need-loop-holds Inv-loop μ-loop
-loop-holds c = ?
+loop-holds c = search needs
 
--- src/entries.rt:26:13
 byte-requires : tie.Need-byte-requires Inv-loop μ-loop
-byte-requires c κs = ?
+byte-requires c κs = search needs
 
--- src/entries.rt:26:30
 array-read-hex : tie.Need-array-read-hex Inv-loop μ-loop
-array-read-hex c = ?
+array-read-hex c = search needs
 
--- src/entries.rt:26:9
 hex-requires : tie.Need-hex-requires Inv-loop μ-loop
-hex-requires c κs = ?
+hex-requires c κs = search needs
 
--- src/entries.rt:27:9
 add-i : tie.Need-add-i Inv-loop μ-loop
-add-i c = ?
+add-i c = search needs
 
--- src/entries.rt:25:5
 loop-less : tie.Need-loop-less Inv-loop μ-loop
-loop-less c = ?
+loop-less c = search needs
 
--- src/entries.rt:25:5
 loop-again : tie.Need-loop-again Inv-loop μ-loop
-loop-again c = ?
+loop-again c = search needs
 
--- src/entries.rt:22:1
 returns : tie.Need-returns Inv-loop μ-loop
-returns c = ?
-
--- src/entries.rt:22:1
-returns-2 : tie.Need-returns-2 Inv-loop μ-loop
-returns-2 c = ?
+returns c = search needs
 
 pub data-spec : {M : Type 1} → statement M
 data-spec =
@@ -53,6 +48,7 @@ data-spec =
     (tie.spec
     Inv-loop
     μ-loop
+    eight-requires
     loop-holds
     byte-requires
     array-read-hex
@@ -60,5 +56,4 @@ data-spec =
     add-i
     loop-less
     loop-again
-    returns
-    returns-2)
+    returns)

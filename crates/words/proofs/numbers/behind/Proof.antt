@@ -1,3 +1,6 @@
+-- `numbers::behind` meets its contract. Assumes nothing.
+use native.Mathlib.Omega.{arith}
+use Rattle.words.proofs.Spelt.{no-digit, too-much, room, one-more}
 use borrow.Author.Needs.{needs}
 use Rattle.words.proofs.numbers.behind.Statement.{statement}
 use Rattle.words.proofs.numbers.behind.Tie as tie
@@ -5,37 +8,29 @@ use Rattle.words.proofs.numbers.behind.Reads as reads
 use Rattle.words.proofs.numbers.behind.Lts as lts
 use Rattle.words.proofs.numbers.digit.Reads as digit-reads
 
--- src/numbers.rt:44:9
 digit-requires : tie.Need-digit-requires
 digit-requires c κs = search needs
 
--- src/numbers.rt:46:9
 returns : tie.Need-returns
-returns c = ?
+returns c = no-digit (c .before .before .args .base) (c .before .before .args .sofar) (c .before .before .args .b) (c .before .digit .result) (c .before .digit .ensures .0) (search needs)
 
--- src/numbers.rt:48:9
 sub-if2 : tie.Need-sub-if2
 sub-if2 c = search needs
 
--- src/numbers.rt:48:8
 div-if2 : tie.Need-div-if2
 div-if2 c = search needs
 
--- src/numbers.rt:49:9
 returns-2 : tie.Need-returns-2
-returns-2 c = ?
+returns-2 c = too-much (c .before .before .before .args .base) (c .before .before .before .args .sofar) (c .before .before .before .args .b) (c .before .before .digit .result) (c .before .before .digit .ensures .0) (search needs) (search needs) (search needs)
 
--- src/numbers.rt:51:16
 mul-t6 : tie.Need-mul-t6
-mul-t6 c = ?
+mul-t6 c = omega (arith, room (c .before .before .before .args .base) (c .before .before .before .args .sofar) (c .before .before .before .args .b) (c .before .before .digit .result) (c .before .before .digit .ensures .0) (search needs) (search needs) (search needs))
 
--- src/numbers.rt:51:16
 add-t7 : tie.Need-add-t7
-add-t7 c = ?
+add-t7 c = omega (arith, room (c .before .before .before .args .base) (c .before .before .before .args .sofar) (c .before .before .before .args .b) (c .before .before .digit .result) (c .before .before .digit .ensures .0) (search needs) (search needs) (search needs))
 
--- src/numbers.rt:40:1
 returns-3 : tie.Need-returns-3
-returns-3 c = ?
+returns-3 c = one-more (c .before .before .before .args .base) (c .before .before .before .args .sofar) (c .before .before .before .args .b) (c .before .before .digit .result) (c .before .before .digit .ensures .0) (search needs) (room (c .before .before .before .args .base) (c .before .before .before .args .sofar) (c .before .before .before .args .b) (c .before .before .digit .result) (c .before .before .digit .ensures .0) (search needs) (search needs) (search needs))
 
 pub behind-spec : {M : Type 1} → statement M
 behind-spec =

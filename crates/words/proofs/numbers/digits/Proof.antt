@@ -1,3 +1,11 @@
+-- `numbers::digits` meets its contract. The invariant: the digits that are left, behind what was read, spell what all of them spell. Assumes nothing.
+use Prim.Native.Nat.{_-_, _^_, _≤_, _<_}
+use mathlib.Core.Path.{_≡_, refl, sym, _∙_}
+use native.Mathlib.Omega.{arith}
+use denote.Ref.{now}
+use lib.ListN.{length, drop, getD}
+use Rattle.words.proofs.Spelt.{onward, no-digits, all, turn, stop, end, small}
+use borrow.Author.Needs.{needs}
 use Rattle.words.proofs.numbers.digits.Statement.{statement}
 use Rattle.words.proofs.numbers.digits.Tie as tie
 use Rattle.words.proofs.numbers.digits.Reads as reads
@@ -5,54 +13,46 @@ use Rattle.words.proofs.numbers.digits.Lts as lts
 use Rattle.words.proofs.numbers.behind.Reads as behind-reads
 
 abbrev Inv-loop : tie.InvT-loop
-Inv-loop base s sofar₀ i₀ sofar i = ?
+Inv-loop base s sofar₀ i₀ sofar i = (i ≤ length s) × (sofar < 2 ^ 64) × (onward base sofar (drop i s) ≡ onward base 0 s)
 
 abbrev μ-loop : tie.MeasureT-loop
-μ-loop base s sofar₀ i₀ sofar i = ?
+μ-loop base s sofar₀ i₀ sofar i = length s - i
 
--- src/numbers.rt:60:9
 returns : tie.Need-returns Inv-loop μ-loop
-returns c = ?
+returns c = no-digits (c .before .before .args .base) (now (c .before .before .args .s)) (search needs)
 
--- src/numbers.rt:64:5
 loop-holds : tie.Need-loop-holds Inv-loop μ-loop
-loop-holds c = ?
+loop-holds c = (search needs, search needs, refl)
 
--- src/numbers.rt:65:49
 shared-slice-read-behind : tie.Need-shared-slice-read-behind Inv-loop μ-loop
-shared-slice-read-behind c = ?
+shared-slice-read-behind c = search needs
 
--- src/numbers.rt:65:29
 behind-requires : tie.Need-behind-requires Inv-loop μ-loop
-behind-requires c κs = ?
+behind-requires c κs = search needs
 
--- src/numbers.rt:65:24
 enum-known-v : tie.Need-enum-known-v Inv-loop μ-loop
-enum-known-v c = ?
+enum-known-v c = search needs
 
--- src/numbers.rt:66:13
 enum-told : tie.Need-enum-told Inv-loop μ-loop
-enum-told c = ?
+enum-told c = search needs
 
--- src/numbers.rt:66:13
 returns-2 : tie.Need-returns-2 Inv-loop μ-loop
-returns-2 c = ?
+returns-2 c = stop (c .before .before .before .before .before .before .before .before .args .base) (now (c .before .before .before .before .before .before .before .before .args .s)) (c .before .before .before .before .before .loop .sofar) (c .before .before .before .before .before .loop .i) (search needs) (search needs) (sym (c .enum-told .given .1) ∙ c .before .before .behind .ensures) ∙ c .before .before .before .before .before .loop .inv .2 ∙ all (c .before .before .before .before .before .before .before .before .args .base) (now (c .before .before .before .before .before .before .before .before .args .s)) (search needs)
 
--- src/numbers.rt:69:9
 add-i : tie.Need-add-i Inv-loop μ-loop
-add-i c = ?
+add-i c = search needs
 
--- src/numbers.rt:64:5
 loop-less : tie.Need-loop-less Inv-loop μ-loop
-loop-less c = ?
+loop-less c = search needs
 
--- src/numbers.rt:64:5
 loop-again : tie.Need-loop-again Inv-loop μ-loop
-loop-again c = ?
+loop-again c = 
+    let step = sym (c .before .v .given .1) ∙ c .before .before .before .behind .ensures in
+    (search needs, small (c .before .before .before .before .before .before .before .before .before .args .base) (c .before .before .before .before .before .before .loop .sofar) (getD (now (c .before .before .before .before .before .before .before .before .before .args .s)) (c .before .before .before .before .before .before .loop .i) 0) _ step,
+    sym (turn (c .before .before .before .before .before .before .before .before .before .args .base) (now (c .before .before .before .before .before .before .before .before .before .args .s)) (c .before .before .before .before .before .before .loop .sofar) (c .before .before .before .before .before .before .loop .i) _ (search needs) step) ∙ c .before .before .before .before .before .before .loop .inv .2)
 
--- src/numbers.rt:55:1
 returns-3 : tie.Need-returns-3 Inv-loop μ-loop
-returns-3 c = ?
+returns-3 c = end (c .before .before .before .before .args .base) (now (c .before .before .before .before .args .s)) (c .before .loop .sofar) (c .before .loop .i) (search needs) (c .before .loop .inv .1) ∙ c .before .loop .inv .2 ∙ all (c .before .before .before .before .args .base) (now (c .before .before .before .before .args .s)) (search needs)
 
 pub digits-spec : {M : Type 1} → statement M
 digits-spec =

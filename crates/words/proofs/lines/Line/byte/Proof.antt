@@ -1,24 +1,22 @@
+-- `Line::byte` meets its contract: it stands next, or the line is full. Assumes nothing.
+use Rattle.words.proofs.Joined.{full, next}
 use borrow.Author.Needs.{needs}
 use Rattle.words.proofs.lines.Line.byte.Statement.{statement}
 use Rattle.words.proofs.lines.Line.byte.Tie as tie
 use Rattle.words.proofs.lines.Line.byte.Reads as reads
 use Rattle.words.proofs.lines.Line.byte.Lts as lts
 
--- src/lines.rt:51:13
 returns : tie.Need-returns
-returns c = ?
+returns c = full (c .before .args .self .n) (c .before .args .b) (c .before .args .self .bytes) (search needs) (search needs)
 
--- src/lines.rt:53:9
-element-write-self : tie.Need-element-write-self
-element-write-self c = search needs
+element-write-next : tie.Need-element-write-next
+element-write-next c = search needs
 
--- src/lines.rt:54:18
-add-self : tie.Need-add-self
-add-self c = search needs
+add-next : tie.Need-add-next
+add-next c = search needs
 
--- src/lines.rt:46:5
 returns-2 : tie.Need-returns-2
-returns-2 c = ?
+returns-2 c = next (c .before .args .self .n) (c .before .args .b) (c .before .args .self .bytes) (search needs) (search needs)
 
 pub byte-spec : {M : Type 1} → statement M
-byte-spec = tie.close (tie.spec returns element-write-self add-self returns-2)
+byte-spec = tie.close (tie.spec returns element-write-next add-next returns-2)

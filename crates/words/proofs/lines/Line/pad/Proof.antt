@@ -1,3 +1,6 @@
+-- `Line::pad` is safe and ends: the measure is the columns that are left. Assumes nothing.
+use Prim.Native.Nat.{_≤_, _-_}
+use borrow.Author.Needs.{needs}
 use Rattle.words.proofs.lines.Line.pad.Statement.{statement}
 use Rattle.words.proofs.lines.Line.pad.Tie as tie
 use Rattle.words.proofs.lines.Line.pad.Reads as reads
@@ -5,34 +8,28 @@ use Rattle.words.proofs.lines.Line.pad.Lts as lts
 use Rattle.words.proofs.lines.Line.byte.Reads as byte-reads
 
 abbrev Inv-loop : tie.InvT-loop
-Inv-loop to l₀ i₀ l i = ?
+Inv-loop to l₀ i₀ l i = Unit {0}
 
 abbrev μ-loop : tie.MeasureT-loop
-μ-loop to l₀ i₀ l i = ?
+μ-loop to l₀ i₀ l i = to - i
 
--- src/lines.rt:107:9
 loop-holds : tie.Need-loop-holds Inv-loop μ-loop
-loop-holds c = ?
+loop-holds c = search needs
 
--- src/lines.rt:108:13
 byte-requires : tie.Need-byte-requires Inv-loop μ-loop
-byte-requires c κs = ?
+byte-requires c κs = search needs
 
--- src/lines.rt:109:13
 add-i : tie.Need-add-i Inv-loop μ-loop
-add-i c = ?
+add-i c = search needs
 
--- src/lines.rt:107:9
 loop-less : tie.Need-loop-less Inv-loop μ-loop
-loop-less c = ?
+loop-less c = search needs
 
--- src/lines.rt:107:9
 loop-again : tie.Need-loop-again Inv-loop μ-loop
-loop-again c = ?
+loop-again c = search needs
 
--- src/lines.rt:104:5
 returns : tie.Need-returns Inv-loop μ-loop
-returns c = ?
+returns c = search needs
 
 pub pad-spec : {M : Type 1} → statement M
 pad-spec =

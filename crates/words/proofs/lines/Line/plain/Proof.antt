@@ -1,3 +1,7 @@
+-- `Line::plain` is safe and ends: the measure is the bytes that are left. Assumes nothing.
+use Prim.Native.Nat.{_≤_, _-_}
+use lib.ListN.{length}
+use borrow.Author.Needs.{needs}
 use Rattle.words.proofs.lines.Line.plain.Statement.{statement}
 use Rattle.words.proofs.lines.Line.plain.Tie as tie
 use Rattle.words.proofs.lines.Line.plain.Reads as reads
@@ -6,42 +10,34 @@ use Rattle.words.proofs.lines.Line.byte.Reads as byte-reads
 use Rattle.words.proofs.lines.printable.Reads as printable-reads
 
 abbrev Inv-loop : tie.InvT-loop
-Inv-loop s l₀ i₀ l i = ?
+Inv-loop s l₀ i₀ l i = i ≤ length s
 
 abbrev μ-loop : tie.MeasureT-loop
-μ-loop s l₀ i₀ l i = ?
+μ-loop s l₀ i₀ l i = length s - i
 
--- src/lines.rt:74:9
 loop-holds : tie.Need-loop-holds Inv-loop μ-loop
-loop-holds c = ?
+loop-holds c = search needs
 
--- src/lines.rt:75:34
 shared-slice-read-printable : tie.Need-shared-slice-read-printable Inv-loop μ-loop
-shared-slice-read-printable c = ?
+shared-slice-read-printable c = search needs
 
--- src/lines.rt:75:24
 printable-requires : tie.Need-printable-requires Inv-loop μ-loop
-printable-requires c κs = ?
+printable-requires c κs = search needs
 
--- src/lines.rt:75:13
 byte-requires : tie.Need-byte-requires Inv-loop μ-loop
-byte-requires c κs = ?
+byte-requires c κs = search needs
 
--- src/lines.rt:76:13
 add-i : tie.Need-add-i Inv-loop μ-loop
-add-i c = ?
+add-i c = search needs
 
--- src/lines.rt:74:9
 loop-less : tie.Need-loop-less Inv-loop μ-loop
-loop-less c = ?
+loop-less c = search needs
 
--- src/lines.rt:74:9
 loop-again : tie.Need-loop-again Inv-loop μ-loop
-loop-again c = ?
+loop-again c = search needs
 
--- src/lines.rt:71:5
 returns : tie.Need-returns Inv-loop μ-loop
-returns c = ?
+returns c = search needs
 
 pub plain-spec : {M : Type 1} → statement M
 plain-spec =
