@@ -1,8 +1,9 @@
 // The words behind `hop`: a frequency, then options with their values.
-use words::lines;
-use words::numbers;
+ghost use Prim.Native.Nat.{_≤_};
 use numbers::Number;
 use numbers::Signed;
+use words::lines;
+use words::numbers;
 
 // What is asked for. A file is held by the place of its name among the arguments, 0 where none is given.
 pub struct Request {
@@ -58,7 +59,10 @@ fn good(r: Request) -> Parsed {
 
 // Says what an option wants.
 fn bad(r: Request, wants: &[u8], value: &[u8]) -> Parsed {
-    let l = lines::blank().text(b"pasetone: ").text(wants).text(b", not `");
+    let l = lines::blank()
+        .text(b"pasetone: ")
+        .text(wants)
+        .text(b", not `");
     l.plain(value).text(b"`").print();
     Parsed {
         ok: false,
@@ -94,9 +98,12 @@ fn set_board(r: Request, value: &[u8]) -> Parsed {
 
 fn set_address(r: Request, value: &[u8]) -> Parsed {
     let mut r = r;
-    let Number::Is(v) = numbers::at_most(value, 255) else {
+    let Number::Is(v) = numbers::whole(value) else {
         return bad(r, b"--address wants a number to 255 (0xff)", value);
     };
+    if 255 < v {
+        return bad(r, b"--address wants a number to 255 (0xff)", value);
+    }
     r.addressed = true;
     r.address = v as u8;
     good(r)
@@ -114,7 +121,11 @@ fn set_reference(r: Request, value: &[u8]) -> Parsed {
 fn set_ppm(r: Request, value: &[u8]) -> Parsed {
     let mut r = r;
     let Signed::Is(v) = numbers::with_sign(value) else {
-        return bad(r, b"--ppm wants a number from -2147483648 to 2147483647", value);
+        return bad(
+            r,
+            b"--ppm wants a number from -2147483648 to 2147483647",
+            value,
+        );
     };
     r.corrected = true;
     r.ppm = v;
@@ -123,9 +134,12 @@ fn set_ppm(r: Request, value: &[u8]) -> Parsed {
 
 fn set_rate(r: Request, value: &[u8]) -> Parsed {
     let mut r = r;
-    let Number::Is(v) = numbers::at_most(value, 4_294_967_295) else {
+    let Number::Is(v) = numbers::whole(value) else {
         return bad(r, b"--rate wants a number to 4294967295", value);
     };
+    if 4_294_967_295 < v {
+        return bad(r, b"--rate wants a number to 4294967295", value);
+    }
     r.rate = v as u32;
     good(r)
 }
@@ -144,9 +158,12 @@ fn set_gain(r: Request, value: &[u8]) -> Parsed {
 
 fn set_fail(r: Request, value: &[u8]) -> Parsed {
     let mut r = r;
-    let Number::Is(v) = numbers::at_most(value, 4095) else {
+    let Number::Is(v) = numbers::whole(value) else {
         return bad(r, b"--fail wants a step's number, to 4095", value);
     };
+    if 4095 < v {
+        return bad(r, b"--fail wants a step's number, to 4095", value);
+    }
     r.fails = true;
     r.fail = v as usize;
     good(r)
@@ -245,9 +262,13 @@ fn next(r: Request, at: usize, count: usize) -> Parsed {
     let n = os::arg(at, &mut name);
     let option = option_of(&name[..n]);
     if option == 0 {
-        return bad(r, b"hop wants options that `pasetone help` lists", &name[..n]);
+        return bad(
+            r,
+            b"hop wants options that `pasetone help` lists",
+            &name[..n],
+        );
     }
-    valued(r, option, at + 1, count)
+    valued(r, option, std::num::wrapping_add_usize(at, 1), count)
 }
 
 fn frequency() -> Parsed {
@@ -262,13 +283,19 @@ fn frequency() -> Parsed {
         };
     }
     let Number::Is(hz) = numbers::whole(&value[..n]) else {
-        return bad(start, b"hop wants a frequency in Hz, to 18446744073709551615", &value[..n]);
+        return bad(
+            start,
+            b"hop wants a frequency in Hz, to 18446744073709551615",
+            &value[..n],
+        );
     };
     good(defaults(hz))
 }
 
 // How many words there are, as far as they are looked at.
-fn counted() -> usize {
+fn counted() -> usize
+    ensures { λ r. ⌜ r ≤ 64 ⌝ }
+{
     let n = os::arg_count();
     if 64 < n {
         return 64;
@@ -276,13 +303,21 @@ fn counted() -> usize {
     n
 }
 
+// The option at `at`, unless a word before it was at fault.
+fn further(p: Parsed, at: usize, count: usize) -> Parsed {
+    if !p.ok {
+        return p;
+    }
+    let r = p.request;
+    next(r, at, count)
+}
+
 pub fn all_words() -> Parsed {
     let mut p = frequency();
     let count = counted();
     let mut i = 3;
-    while p.ok && i < count {
-        let r = p.request;
-        p = next(r, i, count);
+    while i < count {
+        p = further(p, i, count);
         i += 2;
     }
     p

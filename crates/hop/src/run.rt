@@ -19,13 +19,6 @@ use words::chips;
 use words::entries;
 use words::lines;
 
-// The two scripts: each in an array, with how much of it counts.
-struct Scripts {
-    ok: bool,
-    outcomes: usize,
-    replies: usize,
-}
-
 fn tenths(l: Line, n: u64) -> Line {
     l.decimal(n / 10).text(b".").decimal(n % 10)
 }
@@ -54,14 +47,11 @@ fn board_name(l: Line, number: u64) -> Line {
 // The step that a gain asked for is nearest to, in tenths of a dB.
 fn chosen(gain: u16) -> u64 {
     let k = gain::choose(calls::in_db(gain));
-    let steps = gain::get_gain_table();
-    if k < 29 {
-        let v = steps[k];
-        if 0 <= v {
-            return v as u64;
-        }
+    if 29 <= k {
+        return 0;
     }
-    0
+    let steps = gain::get_gain_table();
+    wire::to_bits(steps[k]) as u64
 }
 
 fn address(r: Request) -> u8 {
@@ -76,10 +66,18 @@ fn address(r: Request) -> u8 {
 
 // What is asked for, defaults included.
 fn asked(r: Request) {
-    let l = kind(lines::blank(), r.kind).text(b" at 0x").hex(address(r)).text(b" on a ");
-    let l = board_name(l, r.board).text(b", reference ").decimal(r.reference).text(b" Hz");
+    let l = kind(lines::blank(), r.kind).text(b" at 0x")
+        .hex(address(r))
+        .text(b" on a ");
+    let l = board_name(l, r.board)
+        .text(b", reference ")
+        .decimal(r.reference)
+        .text(b" Hz");
     l.print();
-    let l = lines::blank().text(b"rate ").decimal(r.rate as u64).text(b", gain ");
+    let l = lines::blank()
+        .text(b"rate ")
+        .decimal(r.rate as u64)
+        .text(b", gain ");
     let l = tenths(l, r.gain as u64).text(b" dB, which is step ");
     tenths(l, chosen(r.gain)).text(b" dB").print();
 }
@@ -105,7 +103,10 @@ fn either(l: Line, is: bool, yes: &[u8], no: &[u8]) -> Line {
 // The board's plan for the frequency.
 fn planned(hz: u64, p: Plan) {
     let route = p.path;
-    let l = lines::blank().decimal(hz).text(b" Hz: the tuner goes to ").decimal(p.hz);
+    let l = lines::blank()
+        .decimal(hz)
+        .text(b" Hz: the tuner goes to ")
+        .decimal(p.hz);
     let l = path(l.text(b" Hz, "), route);
     let l = either(l, p.notch, b", notch on", b", notch off");
     either(l, p.inverted, b", spectrum inverted", b"").print();
@@ -128,7 +129,9 @@ fn answered(r: Run) {
     let l = lines::blank().text(b"answer: ");
     match a {
         Answer::Done(hz) => {
-            let l = l.text(b"0 done: ").decimal(r.steps as u64).text(b" steps, tuner at ");
+            let l = l.text(b"0 done: ")
+                .decimal(r.steps as u64)
+                .text(b" steps, tuner at ");
             locked(l.decimal(hz).text(b" Hz"), t.lock).print();
         },
         Answer::Refused(number) => {
@@ -136,7 +139,9 @@ fn answered(r: Run) {
             table::call(l, r.call).print();
         },
         Answer::Stopped(own) => {
-            let l = answers::refusal(l, 11).text(b": ").decimal(whole_index(r, own));
+            let l = answers::refusal(l, 11)
+                .text(b": ")
+                .decimal(whole_index(r, own));
             let l = table::call(l.text(b", in "), r.call);
             l.text(b" its own step ").decimal(own as u64).print();
         },
@@ -166,7 +171,8 @@ fn not_made(call: u64, a: Answer) {
 fn unreached(q: Request, steps: usize) {
     if q.fails && steps <= q.fail {
         let l = lines::blank().text(b"note: step ").decimal(q.fail as u64);
-        l.text(b" was not reached, so nothing was made to fail by --fail").print();
+        l.text(b" was not reached, so nothing was made to fail by --fail")
+            .print();
     }
 }
 
@@ -230,10 +236,7 @@ fn opened(q: Request, outcomes: &[u8], replies: &[u8]) {
 
 fn given(place: usize, space: &mut [u8; 4096]) -> Got {
     if place == 0 {
-        return Got {
-            ok: true,
-            n: 4096,
-        };
+        return Got { ok: true, n: 4096 };
     }
     files::read(place, space)
 }
@@ -254,6 +257,11 @@ fn reply(kind: u64) -> u8 {
     0x0a
 }
 
+// The array's length is in its type, so that its part needs no fact about what was read into it.
+fn script(space: &[u8; 4096], n: usize) -> &[u8] {
+    files::cut(space, 0, n)
+}
+
 fn scripted(q: Request) {
     let mut outcomes = [0u8; 4096];
     let o = given(q.outcomes, &mut outcomes);
@@ -266,7 +274,7 @@ fn scripted(q: Request) {
     if !p.ok {
         return;
     }
-    opened(q, files::cut(&outcomes, 0, o.n), files::cut(&replies, 0, p.n));
+    opened(q, script(&outcomes, o.n), script(&replies, p.n));
 }
 
 pub fn hop() {

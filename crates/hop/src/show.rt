@@ -21,7 +21,8 @@ fn find(s: &[u8], ends: &mut [usize]) -> Found {
     let mut k = 0;
     let mut end = s.len();
     while k < ends.len() {
-        let Section::Read { start, count: _ } = transcript::read_section(files::cut(s, 0, end)) else {
+        let Section::Read { start, count: _ } = transcript::read_section(files::cut(s, 0, end))
+        else {
             return Found {
                 sections: k,
                 before: end,
@@ -59,7 +60,8 @@ fn all(s: &[u8], ends: &[usize]) -> u64 {
 fn before(n: usize) {
     if 0 < n {
         let l = lines::blank().decimal(n as u64);
-        l.text(b" bytes stand before the sections, and are not of them").print();
+        l.text(b" bytes stand before the sections, and are not of them")
+            .print();
     }
 }
 
@@ -67,7 +69,10 @@ fn told(s: &[u8], ends: &[usize], n: usize) {
     before(n);
     entries::head();
     let steps = all(s, ends);
-    let l = lines::blank().text(b"shown: ").decimal(ends.len() as u64).text(b" sections, ");
+    let l = lines::blank()
+        .text(b"shown: ")
+        .decimal(ends.len() as u64)
+        .text(b" sections, ");
     l.decimal(steps).text(b" steps").print();
 }
 
@@ -80,12 +85,12 @@ fn first(ends: &[usize], n: usize) -> &[usize] {
 }
 
 // The array's length is in its type, so that its part needs no fact about what was stored there.
-fn parts(ends: &[usize; 131072], n: usize) -> &[usize] {
+fn parts(ends: &[usize; 8192], n: usize) -> &[usize] {
     first(ends, n)
 }
 
 fn file(s: &[u8]) {
-    let mut ends = [0usize; 131072];
+    let mut ends = [0usize; 8192];
     let found = find(s, &mut ends);
     if found.sections == 0 {
         answers::refusal(lines::blank().text(b"pasetone: refused "), 12).print();
@@ -94,11 +99,17 @@ fn file(s: &[u8]) {
     told(s, parts(&ends, found.sections), found.before);
 }
 
+// The same of the file's bytes.
+fn read(space: &[u8; 65536], n: usize) -> &[u8] {
+    files::cut(space, 0, n)
+}
+
+// A section has at least 8 bytes, so 65,536 bytes have no more than 8,192 of them.
 fn named() {
-    let mut space = [0u8; 1048576];
+    let mut space = io::large_buffer();
     let got = files::read(2, &mut space);
     if got.ok {
-        file(files::cut(&space, 0, got.n));
+        file(read(&space, got.n));
     }
 }
 

@@ -1,10 +1,10 @@
 // The table of a transcript: a row for each entry of a section, by its place in the whole, with the call or the section that it is of.
 ghost use Prim.Native.Nat.{_+_, _≤_};
 ghost use lib.ListN.{length};
+use lines::Line;
 use transcript::Entry;
 use words::entries;
 use words::lines;
-use lines::Line;
 
 // What stands in a row's second column.
 pub enum Label {
@@ -75,7 +75,11 @@ fn rows(s: &[u8], label: Label, base: u64) {
 // A call or a section that made no entries.
 fn empty(label: Label, what: &[u8], outcome: &[u8]) {
     let l = named(lines::blank().text(b"    -").pad(entries::AT_CALL), label);
-    l.pad(entries::AT_WHAT).text(what).pad(entries::AT_OUTCOME).text(outcome).print();
+    l.pad(entries::AT_WHAT)
+        .text(what)
+        .pad(entries::AT_OUTCOME)
+        .text(outcome)
+        .print();
 }
 
 // The section at the end of `s`.

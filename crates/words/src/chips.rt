@@ -19,7 +19,11 @@ fn cell(l: Line, c: Chip, k: usize) -> Line
     let attempted = c.attempted;
     let doubtful = c.doubtful;
     let named = l.text(b"  0x").hex((k + 5) as u8);
-    let told = named.text(b"  ").hex(shadow[k]).text(b"  ").hex(attempted[k]);
+    let told = named
+        .text(b"  ")
+        .hex(shadow[k])
+        .text(b"  ")
+        .hex(attempted[k]);
     mark(told, doubtful[k])
 }
 

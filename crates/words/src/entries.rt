@@ -118,5 +118,9 @@ pub fn row(named: Line, e: Entry) {
 
 pub fn head() {
     let l = lines::blank().text(b" step").pad(AT_CALL).text(b"call");
-    l.pad(AT_WHAT).text(b"what").pad(AT_OUTCOME).text(b"outcome").print();
+    l.pad(AT_WHAT)
+        .text(b"what")
+        .pad(AT_OUTCOME)
+        .text(b"outcome")
+        .print();
 }

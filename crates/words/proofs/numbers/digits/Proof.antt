@@ -46,10 +46,12 @@ loop-less : tie.Need-loop-less Inv-loop μ-loop
 loop-less c = search needs
 
 loop-again : tie.Need-loop-again Inv-loop μ-loop
-loop-again c = 
-    let step = sym (c .before .v .given .1) ∙ c .before .before .before .behind .ensures in
-    (search needs, small (c .before .before .before .before .before .before .before .before .before .args .base) (c .before .before .before .before .before .before .loop .sofar) (getD (now (c .before .before .before .before .before .before .before .before .before .args .s)) (c .before .before .before .before .before .before .loop .i) 0) _ step,
-    sym (turn (c .before .before .before .before .before .before .before .before .before .args .base) (now (c .before .before .before .before .before .before .before .before .before .args .s)) (c .before .before .before .before .before .before .loop .sofar) (c .before .before .before .before .before .before .loop .i) _ (search needs) step) ∙ c .before .before .before .before .before .before .loop .inv .2)
+loop-again c =
+    let step = sym (c .before .v .given .1) ∙ c .before .before .before .behind .ensures in (
+      search needs,
+      small (c .before .before .before .before .before .before .before .before .before .args .base) (c .before .before .before .before .before .before .loop .sofar) (getD (now (c .before .before .before .before .before .before .before .before .before .args .s)) (c .before .before .before .before .before .before .loop .i) 0) _ step,
+      sym (turn (c .before .before .before .before .before .before .before .before .before .args .base) (now (c .before .before .before .before .before .before .before .before .before .args .s)) (c .before .before .before .before .before .before .loop .sofar) (c .before .before .before .before .before .before .loop .i) _ (search needs) step) ∙ c .before .before .before .before .before .before .loop .inv .2,
+    )
 
 returns-3 : tie.Need-returns-3 Inv-loop μ-loop
 returns-3 c = end (c .before .before .before .before .args .base) (now (c .before .before .before .before .args .s)) (c .before .loop .sofar) (c .before .loop .i) (search needs) (c .before .loop .inv .1) ∙ c .before .loop .inv .2 ∙ all (c .before .before .before .before .args .base) (now (c .before .before .before .before .args .s)) (search needs)

@@ -27,7 +27,7 @@ byte-requires-2 : tie.Need-byte-requires-2
 byte-requires-2 c κs = search needs
 
 returns : tie.Need-returns
-returns c = 
+returns c =
     let l = shown (c .before .before .before .before .args .self) in
     let b = c .before .before .before .before .args .b in
     c .byte2 .ensures

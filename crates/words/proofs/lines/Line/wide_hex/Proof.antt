@@ -26,7 +26,7 @@ hex-requires-2 : tie.Need-hex-requires-2
 hex-requires-2 c κs = search needs
 
 returns : tie.Need-returns
-returns c = 
+returns c =
     let l = shown (c .before .before .args .self) in
     let a = c .before .before .args .a in
     c .hex2 .ensures ∙ ap (λ x. take 100 (x ++ hexOf (a % 256))) (c .before .hex .ensures) ∙ two l (hexOf (a / 256)) (hexOf (a % 256))
