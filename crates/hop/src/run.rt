@@ -140,10 +140,12 @@ fn answered(r: Run) {
         },
         Answer::Stopped(own) => {
             let l = answers::refusal(l, 11)
-                .text(b": ")
+                .text(b", step ")
                 .decimal(whole_index(r, own));
-            let l = table::call(l.text(b", in "), r.call);
-            l.text(b" its own step ").decimal(own as u64).print();
+            let l = table::call(l.text(b" of the run; "), r.call);
+            l.text(b" stopped at its own step ")
+                .decimal(own as u64)
+                .print();
         },
     }
 }
