@@ -9,7 +9,7 @@ fn mark(l: Line, doubtful: bool) -> Line {
     if doubtful {
         return l.text(b" ?");
     }
-    l.text(b"  ")
+    l
 }
 
 fn cell(l: Line, c: Chip, k: usize) -> Line
@@ -31,8 +31,8 @@ fn cell(l: Line, c: Chip, k: usize) -> Line
 fn row(c: Chip, k: usize)
     requires { ⌜ k < 9 ⌝ }
 {
-    let first = cell(lines::blank(), c, k).text(b"    ");
-    let second = cell(first, c, k + 9).text(b"    ");
+    let first = cell(lines::blank(), c, k).pad(20);
+    let second = cell(first, c, k + 9).pad(40);
     cell(second, c, k + 18).print();
 }
 

@@ -95,17 +95,6 @@ pub fn whole(s: &[u8]) -> Number {
     digits(10, s)
 }
 
-// A number no larger than `most`.
-pub fn at_most(s: &[u8], most: u64) -> Number {
-    let Number::Is(v) = whole(s) else {
-        return Number::Refused;
-    };
-    if most < v {
-        return Number::Refused;
-    }
-    Number::Is(v)
-}
-
 fn upward(n: Number) -> Signed {
     let Number::Is(v) = n else {
         return Signed::Refused;
