@@ -50,10 +50,11 @@ fn later(hz: u64, best: FreqRange, r: FreqRange) -> FreqRange
 pub fn freq_range(hz: u64) -> FreqRange
     ensures { λ r. ⌜ r ≡ rangeOf hz ⌝ }
 {
-    let mut best = FREQ_RANGES[0];
+    let table = FREQ_RANGES;
+    let mut best = table[0];
     let mut i: usize = 0;
     while i < 21 {
-        best = later(hz, best, FREQ_RANGES[i]);
+        best = later(hz, best, table[i]);
         i += 1;
     }
     best
