@@ -229,9 +229,11 @@ fn attempt(c: Chip, n: usize, bytes: [u8; 8], ok: bool) -> Chip
 {
     let mut next = c;
     let first = bytes[0] as usize - 5;
+    let doubt = !ok;
     let mut i = 0;
     while i + 1 < n {
-        next = attempt_one(next, first + i, bytes[i + 1], ok);
+        next.attempted[first + i] = bytes[i + 1];
+        next.doubtful[first + i] = doubt;
         i += 1;
     }
     next
