@@ -518,9 +518,10 @@ fn send_chunks(
     let Went::Going = went else {
         return close_repeater(f, outcomes, room);
     };
+    let chunks = CHUNKS;
     let mut i = from;
     while i < to {
-        f = send_chunk(f, bs, CHUNKS[i], outcomes, room);
+        f = send_chunk(f, bs, chunks[i], outcomes, room);
         let went = f.went;
         let Went::Going = went else {
             return close_repeater(f, outcomes, room);
