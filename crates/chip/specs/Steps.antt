@@ -13,6 +13,7 @@ use Rattle.transcript.specs.Entries.{entryBytes}
 use Rattle.chip.specs.declared.Chip.{Chip}
 use Rattle.chip.specs.declared.Chunk.{Chunk}
 use Rattle.chip.specs.declared.Flow.{Flow}
+use Rattle.chip.specs.declared.Log.{Log}
 use Rattle.chip.specs.declared.Seen.{Seen}
 use Rattle.chip.specs.declared.Update.{Update}
 use Rattle.chip.specs.declared.Went.{Went}
@@ -142,6 +143,10 @@ inRoom l k e = logged (sets (l .room) (16 * k) (entryBytes e)) (look (l .seen) e
 -- where the code stands
 abbrev pub onRoom : Flow → List ℕ → Line Logged
 onRoom f room = line (f .chip) (logged room (f .seen)) (f .count) (f .went) (f .held)
+
+-- the same, of a step that leaves the chip alone: with whatever chip
+abbrev pub onLog : Chip → Log → List ℕ → Line Logged
+onLog chip l room = line chip (logged room (l .seen)) (l .count) (l .went) (l .held)
 
 abbrev pub Trace : Type 0
 Trace = Line (List Entry)

@@ -7,9 +7,10 @@ ghost use mathlib.Core.Path.{_≡_};
 ghost use mathlib.Core.Bool.{true, not};
 ghost use Prim.Native.Nat.{_+_, _-_, _*_, _≤_, _<_};
 ghost use lib.ListN.{length, getD, take, drop, set};
+ghost use Rattle.chip.specs.declared.Chip.{Chip};
 ghost use Rattle.chip.specs.Chips.{maskOf, attemptedBy, withLists};
 ghost use Rattle.chip.specs.Entries.{flagOf, look, settled};
-ghost use Rattle.chip.specs.Steps.{due, toldOf, step, run, closing, inRoom, onRoom, line, logged, updates, updateStep, allIn, inRange, behind, chunkBytes, chunkStep, chunkTable, within, tunerWrite};
+ghost use Rattle.chip.specs.Steps.{due, toldOf, step, run, closing, inRoom, onLog, onRoom, line, logged, updates, updateStep, allIn, inRange, behind, chunkBytes, chunkStep, chunkTable, within, tunerWrite};
 ghost use Rattle.chip.specs.Calls.{lentOf, answerOf, sealed};
 ghost use Rattle.chip.specs.Steps.Step.{Open, Close, Send, Mask, Plain};
 use transcript::Entry;
@@ -70,6 +71,14 @@ pub struct Seen {
 // What is carried from step to step.
 pub struct Flow {
     pub chip: Chip,
+    pub count: usize,
+    pub went: Went,
+    pub held: bool,
+    pub seen: Seen,
+}
+
+// The flow but for the chip: all that a step goes by and changes which leaves the chip alone. Small, so that such steps carry the chip nowhere.
+pub struct Log {
     pub count: usize,
     pub went: Went,
     pub held: bool,
@@ -157,22 +166,48 @@ fn looked(s: Seen, e: Entry) -> Seen
 }
 
 // A step's entry behind those laid out so far, and what is carried on.
+fn log_entry(l: Log, e: Entry, ok: bool, went: Went, held: bool, room: &mut [u8]) -> Log
+    requires { ⌜ 16 * l .count + 16 ≤ length (now room) ⌝ }
+    ensures { λ r. ⌜ ((chip : Chip) → onLog chip r (now (room .exit))
+        ≡ line chip (inRoom (logged (now (room .entry)) (l .seen)) (l .count) (settled e ok)) (l .count + 1) went held) ⌝ }
+    ensures bounds { λ r. ⌜ r .count + due (r .held) ≡ l .count + 1 + due held ⌝ }
+{
+    let k = l.count;
+    let seen = l.seen;
+    let done = settle(e, ok);
+    done.put(room, 16 * k);
+    Log {
+        count: k + 1,
+        went: went,
+        held: held,
+        seen: looked(seen, done),
+    }
+}
+
+// The same, with the chip as the step leaves it.
 fn lay(f: Flow, chip: Chip, e: Entry, ok: bool, went: Went, held: bool, room: &mut [u8]) -> Flow
     requires { ⌜ 16 * f .count + 16 ≤ length (now room) ⌝ }
     ensures { λ r. ⌜ onRoom r (now (room .exit))
         ≡ line chip (inRoom (logged (now (room .entry)) (f .seen)) (f .count) (settled e ok)) (f .count + 1) went held ⌝ }
     ensures bounds { λ r. ⌜ r .count + due (r .held) ≡ f .count + 1 + due held ⌝ }
 {
-    let k = f.count;
+    let before = f.went;
     let seen = f.seen;
-    let done = settle(e, ok);
-    done.put(room, 16 * k);
+    let l = Log {
+        count: f.count,
+        went: before,
+        held: f.held,
+        seen: seen,
+    };
+    let next = log_entry(l, e, ok, went, held, room);
+    let after = next.went;
+    let sight = next.seen;
     Flow {
         chip: chip,
-        count: k + 1,
-        went: went,
-        held: held,
-        seen: looked(seen, done),
+        count: next.count,
+        went: after,
+        held: next.held,
+        seen: sight,
     }
 }
 
@@ -194,9 +229,11 @@ fn attempt(c: Chip, n: usize, bytes: [u8; 8], ok: bool) -> Chip
 {
     let mut next = c;
     let first = bytes[0] as usize - 5;
+    let doubt = !ok;
     let mut i = 0;
     while i + 1 < n {
-        next = attempt_one(next, first + i, bytes[i + 1], ok);
+        next.attempted[first + i] = bytes[i + 1];
+        next.doubtful[first + i] = doubt;
         i += 1;
     }
     next
@@ -227,19 +264,18 @@ pub fn open_repeater(f: Flow, outcomes: &[u8], room: &mut [u8]) -> Flow
 }
 
 // "A failed closing is recorded and otherwise ignored": its outcome is told by its entry alone.
-pub fn close_repeater(f: Flow, outcomes: &[u8], room: &mut [u8]) -> Flow
-    requires { ⌜ (f .count + due (f .held) ≤ length (now outcomes)) × (16 * (f .count + due (f .held)) ≤ length (now room)) ⌝ }
-    ensures { λ r. ⌜ onRoom r (now (room .exit)) ≡ step inRoom (now (outcomes .entry)) Close (onRoom f (now (room .entry))) ⌝ }
-    ensures bounds { λ r. ⌜ r .count + due (r .held) ≤ f .count + due (f .held) ⌝ }
+fn log_close(l: Log, outcomes: &[u8], room: &mut [u8]) -> Log
+    requires { ⌜ (l .count + due (l .held) ≤ length (now outcomes)) × (16 * (l .count + due (l .held)) ≤ length (now room)) ⌝ }
+    ensures { λ r. ⌜ ((chip : Chip) → onLog chip r (now (room .exit)) ≡ step inRoom (now (outcomes .entry)) Close (onLog chip l (now (room .entry)))) ⌝ }
+    ensures bounds { λ r. ⌜ r .count + due (r .held) ≤ l .count + due (l .held) ⌝ }
 {
-    let held = f.held;
+    let held = l.held;
     if !held {
-        return f;
+        return l;
     }
-    let k = f.count;
+    let k = l.count;
     let ok = outcomes[k] == 0;
-    let chip = f.chip;
-    let went = f.went;
+    let went = l.went;
     let e = Entry {
         kind: 1,
         outcome: 0,
@@ -248,7 +284,33 @@ pub fn close_repeater(f: Flow, outcomes: &[u8], room: &mut [u8]) -> Flow
         address: 0,
         bytes: [0, 0, 0, 0, 0, 0, 0, 0],
     };
-    lay(f, chip, e, ok, went, false, room)
+    log_entry(l, e, ok, went, false, room)
+}
+
+pub fn close_repeater(f: Flow, outcomes: &[u8], room: &mut [u8]) -> Flow
+    requires { ⌜ (f .count + due (f .held) ≤ length (now outcomes)) × (16 * (f .count + due (f .held)) ≤ length (now room)) ⌝ }
+    ensures { λ r. ⌜ onRoom r (now (room .exit)) ≡ step inRoom (now (outcomes .entry)) Close (onRoom f (now (room .entry))) ⌝ }
+    ensures bounds { λ r. ⌜ r .count + due (r .held) ≤ f .count + due (f .held) ⌝ }
+{
+    let before = f.went;
+    let seen = f.seen;
+    let l = Log {
+        count: f.count,
+        went: before,
+        held: f.held,
+        seen: seen,
+    };
+    let next = log_close(l, outcomes, room);
+    let chip = f.chip;
+    let after = next.went;
+    let sight = next.seen;
+    Flow {
+        chip: chip,
+        count: next.count,
+        went: after,
+        held: next.held,
+        seen: sight,
+    }
 }
 
 // `i2c_write_raw` of n bytes, the first of them a register of the record.
@@ -316,20 +378,45 @@ pub fn write_reg_mask_raw(
 }
 
 // Any step that leaves the chip's record alone: its entry as it is when the step is done.
+pub fn log_plain(l: Log, e: Entry, outcomes: &[u8], room: &mut [u8]) -> Log
+    requires { ⌜ (l .count < length (now outcomes)) × (16 * l .count + 16 ≤ length (now room)) ⌝ }
+    ensures { λ r. ⌜ ((chip : Chip) → onLog chip r (now (room .exit)) ≡ step inRoom (now (outcomes .entry)) (Plain e) (onLog chip l (now (room .entry)))) ⌝ }
+    ensures bounds { λ r. ⌜ r .count + due (r .held) ≤ l .count + 1 + due (l .held) ⌝ }
+{
+    let went = l.went;
+    let Went::Going = went else {
+        return l;
+    };
+    let k = l.count;
+    let ok = (outcomes[k] == 0) | (e.kind == 9);
+    let held = l.held;
+    log_entry(l, e, ok, told(ok, k), held, room)
+}
+
 pub fn plain(f: Flow, e: Entry, outcomes: &[u8], room: &mut [u8]) -> Flow
     requires { ⌜ (f .count < length (now outcomes)) × (16 * f .count + 16 ≤ length (now room)) ⌝ }
     ensures { λ r. ⌜ onRoom r (now (room .exit)) ≡ step inRoom (now (outcomes .entry)) (Plain e) (onRoom f (now (room .entry))) ⌝ }
     ensures bounds { λ r. ⌜ r .count + due (r .held) ≤ f .count + 1 + due (f .held) ⌝ }
 {
-    let went = f.went;
-    let Went::Going = went else {
-        return f;
+    let before = f.went;
+    let seen = f.seen;
+    let l = Log {
+        count: f.count,
+        went: before,
+        held: f.held,
+        seen: seen,
     };
-    let k = f.count;
-    let ok = (outcomes[k] == 0) | (e.kind == 9);
+    let next = log_plain(l, e, outcomes, room);
     let chip = f.chip;
-    let held = f.held;
-    lay(f, chip, e, ok, told(ok, k), held, room)
+    let after = next.went;
+    let sight = next.seen;
+    Flow {
+        chip: chip,
+        count: next.count,
+        went: after,
+        held: next.held,
+        seen: sight,
+    }
 }
 
 // A register's update, through the shadow or past it.
@@ -431,9 +518,10 @@ fn send_chunks(
     let Went::Going = went else {
         return close_repeater(f, outcomes, room);
     };
+    let chunks = CHUNKS;
     let mut i = from;
     while i < to {
-        f = send_chunk(f, bs, CHUNKS[i], outcomes, room);
+        f = send_chunk(f, bs, chunks[i], outcomes, room);
         let went = f.went;
         let Went::Going = went else {
             return close_repeater(f, outcomes, room);
@@ -463,27 +551,54 @@ pub fn i2c_write_tuner(
 }
 
 // The first n of a list of plain steps behind an open repeater: a failed one closes it.
+fn log_part(l: Log, es: [Entry; 3], n: usize, outcomes: &[u8], room: &mut [u8]) -> Log
+    requires { ⌜ (n ≤ 3) × (l .count + n + due (l .held) ≤ length (now outcomes)) × (16 * (l .count + n + due (l .held)) ≤ length (now room)) ⌝ }
+    ensures { λ r. ⌜ ((chip : Chip) → onLog chip r (now (room .exit))
+        ≡ closing inRoom (now (outcomes .entry)) (run inRoom (now (outcomes .entry)) (map Plain (take n es)) (onLog chip l (now (room .entry))))) ⌝ }
+    ensures bounds { λ r. ⌜ r .count + due (r .held) ≤ l .count + n + due (l .held) ⌝ }
+{
+    let mut l = l;
+    let went = l.went;
+    let Went::Going = went else {
+        return log_close(l, outcomes, room);
+    };
+    let mut i = 0;
+    while i < n {
+        l = log_plain(l, es[i], outcomes, room);
+        let went = l.went;
+        let Went::Going = went else {
+            return log_close(l, outcomes, room);
+        };
+        i += 1;
+    }
+    l
+}
+
 pub fn plain_part(f: Flow, es: [Entry; 3], n: usize, outcomes: &[u8], room: &mut [u8]) -> Flow
     requires { ⌜ (n ≤ 3) × (f .count + n + due (f .held) ≤ length (now outcomes)) × (16 * (f .count + n + due (f .held)) ≤ length (now room)) ⌝ }
     ensures { λ r. ⌜ onRoom r (now (room .exit))
         ≡ closing inRoom (now (outcomes .entry)) (run inRoom (now (outcomes .entry)) (map Plain (take n es)) (onRoom f (now (room .entry)))) ⌝ }
     ensures bounds { λ r. ⌜ r .count + due (r .held) ≤ f .count + n + due (f .held) ⌝ }
 {
-    let mut f = f;
-    let went = f.went;
-    let Went::Going = went else {
-        return close_repeater(f, outcomes, room);
+    let before = f.went;
+    let seen = f.seen;
+    let l = Log {
+        count: f.count,
+        went: before,
+        held: f.held,
+        seen: seen,
     };
-    let mut i = 0;
-    while i < n {
-        f = plain(f, es[i], outcomes, room);
-        let went = f.went;
-        let Went::Going = went else {
-            return close_repeater(f, outcomes, room);
-        };
-        i += 1;
+    let next = log_part(l, es, n, outcomes, room);
+    let chip = f.chip;
+    let after = next.went;
+    let sight = next.seen;
+    Flow {
+        chip: chip,
+        count: next.count,
+        went: after,
+        held: next.held,
+        seen: sight,
     }
-    f
 }
 
 // Which lent slice is too short for a call of at most n entries and m replies: 8, 9, 10, or 0 where all suffice.

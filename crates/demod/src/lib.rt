@@ -5,7 +5,8 @@ ghost use mathlib.Core.List.{map, _++_};
 ghost use mathlib.Core.Path.{_≡_};
 ghost use Prim.Native.Nat.{_+_, _*_, _≤_, _<_};
 ghost use lib.ListN.{length, replicate, take};
-ghost use Rattle.chip.specs.Steps.{due, run, inRoom, onRoom};
+ghost use Rattle.chip.specs.declared.Chip.{Chip};
+ghost use Rattle.chip.specs.Steps.{due, run, inRoom, onLog, onRoom};
 ghost use Rattle.device.specs.Accesses.{accessStep};
 ghost use Rattle.device.specs.Calls.{back};
 ghost use Rattle.demod.specs.Programs.{ddcByte, ddcSteps, firSteps, ifSteps, initSteps, powerSteps, rateSteps, resetSteps, upward};
@@ -13,6 +14,7 @@ ghost use Rattle.demod.specs.Calls.{directCall, ifCall, initCall, lowIfC
 use chip::Answer;
 use chip::Chip;
 use chip::Flow;
+use chip::Log;
 use chip::Seen;
 use chip::Went;
 use device::Access;
@@ -300,6 +302,30 @@ pub fn set_sample_rate_xtal(rate: u32, xtal: u32, outcomes: &[u8], room: &mut [u
 }
 
 // The first n bytes, to the registers of page 1 from one upward.
+fn log_upward(
+    l: Log,
+    register: u16,
+    bytes: [u8; 20],
+    n: usize,
+    outcomes: &[u8],
+    room: &mut [u8],
+) -> Log
+    requires { ⌜ (n ≤ 20) × (register ≤ 255) × (l .count + n + due (l .held) ≤ length (now outcomes)) × (16 * (l .count + n + due (l .held)) ≤ length (now room)) ⌝ }
+    ensures { λ r. ⌜ ((chip : Chip) → onLog chip r (now (room .exit))
+        ≡ run inRoom (now (outcomes .entry)) (upward register (take n bytes)) (onLog chip l (now (room .entry)))) ⌝ }
+    ensures bounds { λ r. ⌜ r .count + due (r .held) ≤ l .count + n + due (l .held) ⌝ }
+{
+    let mut l = l;
+    let mut i = 0;
+    while i < n {
+        let at = register + i as u16;
+        let byte = bytes[i];
+        l = device::log_access(l, Access(DEMOD, P1_PAGE, at, byte as u16), outcomes, room);
+        i += 1;
+    }
+    l
+}
+
 fn write_upward(
     f: Flow,
     register: u16,
@@ -312,15 +338,25 @@ fn write_upward(
     ensures { λ r. ⌜ onRoom r (now (room .exit)) ≡ run inRoom (now (outcomes .entry)) (upward register (take n bytes)) (onRoom f (now (room .entry))) ⌝ }
     ensures bounds { λ r. ⌜ r .count + due (r .held) ≤ f .count + n + due (f .held) ⌝ }
 {
-    let mut f = f;
-    let mut i = 0;
-    while i < n {
-        let at = register + i as u16;
-        let byte = bytes[i];
-        f = device::one_access(f, Access(DEMOD, P1_PAGE, at, byte as u16), outcomes, room);
-        i += 1;
+    let before = f.went;
+    let seen = f.seen;
+    let l = Log {
+        count: f.count,
+        went: before,
+        held: f.held,
+        seen: seen,
+    };
+    let next = log_upward(l, register, bytes, n, outcomes, room);
+    let chip = f.chip;
+    let after = next.went;
+    let sight = next.seen;
+    Flow {
+        chip: chip,
+        count: next.count,
+        went: after,
+        held: next.held,
+        seen: sight,
     }
-    f
 }
 
 fn power_steps(f: Flow, outcomes: &[u8], room: &mut [u8]) -> Flow

@@ -5,7 +5,8 @@ ghost use mathlib.Core.List.{map};
 ghost use mathlib.Core.Path.{_≡_};
 ghost use Prim.Native.Nat.{_+_, _*_, _^_, _≤_, _<_};
 ghost use lib.ListN.{length, getD, take};
-ghost use Rattle.chip.specs.Steps.{due, step, run, inRoom, onRoom};
+ghost use Rattle.chip.specs.declared.Chip.{Chip};
+ghost use Rattle.chip.specs.Steps.{due, step, run, inRoom, onLog, onRoom};
 ghost use Rattle.chip.specs.Calls.{lentOf};
 ghost use Rattle.device.specs.Accesses.{accessEntry, accessStep};
 ghost use Rattle.device.specs.Calls.{back, freeCall};
@@ -13,6 +14,7 @@ ghost use Rattle.device.specs.Gpio.{bitCall, bitSteps, changedOf, output
 use chip::Answer;
 use chip::Chip;
 use chip::Flow;
+use chip::Log;
 use chip::Seen;
 use chip::Went;
 use registers::block;
@@ -82,20 +84,57 @@ pub fn one_access(f: Flow, a: Access, outcomes: &[u8], room: &mut [u8]) -> Flow
     chip::plain(f, e, outcomes, room)
 }
 
+pub fn log_access(l: Log, a: Access, outcomes: &[u8], room: &mut [u8]) -> Log
+    requires { ⌜ (l .count < length (now outcomes)) × (16 * l .count + 16 ≤ length (now room)) ⌝ }
+    ensures { λ r. ⌜ ((chip : Chip) → onLog chip r (now (room .exit))
+        ≡ step inRoom (now (outcomes .entry)) (accessStep a) (onLog chip l (now (room .entry)))) ⌝ }
+    ensures bounds { λ r. ⌜ r .count + due (r .held) ≤ l .count + 1 + due (l .held) ⌝ }
+{
+    let e = entry(a);
+    chip::log_plain(l, e, outcomes, room)
+}
+
 // The first n of a list of accesses; those behind a failed one are not taken.
+fn log_all(l: Log, rows: [Access; 10], n: usize, outcomes: &[u8], room: &mut [u8]) -> Log
+    requires { ⌜ (n ≤ 10) × (l .count + n + due (l .held) ≤ length (now outcomes)) × (16 * (l .count + n + due (l .held)) ≤ length (now room)) ⌝ }
+    ensures { λ r. ⌜ ((chip : Chip) → onLog chip r (now (room .exit))
+        ≡ run inRoom (now (outcomes .entry)) (map accessStep (take n rows)) (onLog chip l (now (room .entry)))) ⌝ }
+    ensures bounds { λ r. ⌜ r .count + due (r .held) ≤ l .count + n + due (l .held) ⌝ }
+{
+    let mut l = l;
+    let mut i = 0;
+    while i < n {
+        l = log_access(l, rows[i], outcomes, room);
+        i += 1;
+    }
+    l
+}
+
 pub fn access_all(f: Flow, rows: [Access; 10], n: usize, outcomes: &[u8], room: &mut [u8]) -> Flow
     requires { ⌜ (n ≤ 10) × (f .count + n + due (f .held) ≤ length (now outcomes)) × (16 * (f .count + n + due (f .held)) ≤ length (now room)) ⌝ }
     ensures { λ r. ⌜ onRoom r (now (room .exit))
         ≡ run inRoom (now (outcomes .entry)) (map accessStep (take n rows)) (onRoom f (now (room .entry))) ⌝ }
     ensures bounds { λ r. ⌜ r .count + due (r .held) ≤ f .count + n + due (f .held) ⌝ }
 {
-    let mut f = f;
-    let mut i = 0;
-    while i < n {
-        f = one_access(f, rows[i], outcomes, room);
-        i += 1;
+    let before = f.went;
+    let seen = f.seen;
+    let l = Log {
+        count: f.count,
+        went: before,
+        held: f.held,
+        seen: seen,
+    };
+    let next = log_all(l, rows, n, outcomes, room);
+    let chip = f.chip;
+    let after = next.went;
+    let sight = next.seen;
+    Flow {
+        chip: chip,
+        count: next.count,
+        went: after,
+        held: next.held,
+        seen: sight,
     }
-    f
 }
 
 // A whole call of n accesses and m replies that touches no record: 8, 9, 10, or its steps.

@@ -1,7 +1,8 @@
 -- The step worked out is the nearest of document 01's sentence, and there is one such index. Assumes nothing.
 use mathlib.Core.Path.{_≡_, refl, sym, subst}
-use mathlib.Core.Bool.{Bool, true, false}
-use Prim.Native.Nat.{ℕ, zero, suc, _+_, _-_, _≤_, _<_}
+use mathlib.Core.Bool.{Bool, true, false, _&&_}
+use mathlib.Core.List.{List, [], _∷_}
+use Prim.Native.Nat.{ℕ, zero, suc, _+_, _-_, _^_, _≤_, _<_}
 use native.Mathlib.Nat.{le-of-lt, lt-of-lt-of-le, le-refl, lt-irrefl, lt-trans, lt-suc-self, not-suc-le-zero}
 use native.Mathlib.Numerals.{add-one}
 use native.Mathlib.Omega.{arith}
@@ -10,8 +11,9 @@ use borrow.Author.Tests.{ltb-true, ltb-false, lt-ltb, le-ltb}
 use lib.Dec.{ltb, lit<}
 use lib.IntN.{ℤ, negsuc}
 use lib.Ieee.{Float}
+use lib.ListN.{getD}
 use Rattle.gain.specs.Product.{tenthsOf}
-use Rattle.gain.specs.Steps.{NearestIn, Nearest, apart, better, chosenOf, clamped, nearestIn, nearestOf, steps}
+use Rattle.gain.specs.Steps.{NearestIn, Nearest, apart, better, chosenOf, clamped, nearestIn, nearestOf, stepAt, steps}
 
 -- what holds of every j below n, and of n, holds of every j below suc n
 up-to : (n : ℕ) (P : ℕ → Type 0) → ((j : ℕ) → j < n → P j) → P n → (j : ℕ) → j < suc n → P j
@@ -97,3 +99,26 @@ below-zero n =
     one-nearest (negsuc n) 0 (nearestOf (negsuc n))
     (record { within = lit< tt; least = λ j l. omega arith; lowest = λ j l. absurd (not-suc-le-zero l) })
     (nearest-of (negsuc n))
+
+-- ---- a step, and 0 past the last, is small
+
+abbrev allBelow : ℕ → List ℕ → Bool
+allBelow m [] = true
+allBelow m (x ∷ xs) = ltb x m && allBelow m xs
+
+both-left : (a b : Bool) → (a && b) ≡ true → a ≡ true
+both-left true b h = refl
+both-left false b h = h
+
+both-right : (a b : Bool) → (a && b) ≡ true → b ≡ true
+both-right true b h = h
+both-right false b h = cc
+
+at-below : (m : ℕ) (xs : List ℕ) (k : ℕ) → 0 < m → allBelow m xs ≡ true → getD xs k 0 < m
+at-below m [] k z h = z
+at-below m (x ∷ xs) zero z h = ltb-true x m (both-left (ltb x m) (allBelow m xs) h)
+at-below m (x ∷ xs) (suc k) z h = at-below m xs k z (both-right (ltb x m) (allBelow m xs) h)
+
+pub step-small : (k : ℕ) → stepAt k < 2 ^ 32
+unfolding steps
+step-small k = at-below (2 ^ 32) steps k (lit< tt) refl

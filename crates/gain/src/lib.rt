@@ -87,11 +87,12 @@ fn between(a: u32, b: u32) -> u32
 fn nearest_up(t: u32) -> usize
     ensures { λ r. ⌜ r ≡ nearestOf (pos t) ⌝ }
 {
+    let table = GAIN_STEPS;
     let mut best: usize = 0;
     let mut least = between(0, t);
     let mut k: usize = 0;
     while k < 29 {
-        let far = between(step(k) as u32, t);
+        let far = between(table[k] as u32, t);
         if far < least {
             best = k;
             least = far;

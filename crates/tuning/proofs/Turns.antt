@@ -4,13 +4,13 @@ use mathlib.Core.Path.{_≡_, refl, sym, ap, _∙_}
 use mathlib.Core.Bool.{Bool, true, false, _&&_}
 use mathlib.Core.List.{List, [], _∷_, _++_, map}
 use native.Mathlib.Omega.{arith}
-use borrow.Author.Tests.{lt-ltb, le-ltb, ne-eqb}
+use borrow.Author.Tests.{lt-ltb, le-ltb}
 use lib.Dec.{eqb, ltb}
 use lib.ListN.{take}
 use Rattle.transcript.specs.declared.Entry.{Entry}
 use Rattle.chip.specs.declared.Update.{Update}
 use Rattle.chip.specs.Entries.{pointer, readEntry, wait}
-use Rattle.chip.specs.Steps.{Step, Line, closing, every, goes, inRange, inner, run, step, updates}
+use Rattle.chip.specs.Steps.{Step, Line, closing, every, goes, inner, run, step, updates}
 use Rattle.chip.specs.Steps.Step.{Close, Plain}
 use Rattle.chip.proofs.Laws.{parts, stop}
 use Rattle.chip.proofs.Lists.{every-inner, inner-update}
@@ -24,20 +24,13 @@ use Rattle.tuning.specs.Program.{innerSteps, pllSteps}
 use Rattle.tuning.specs.Tries.{afterTry, again, fineOf, locked, locksAt, powerOf, repairUpdates, replyBytes, statusSteps, triesFrom, tryRead}
 use Rattle.tuning.proofs.Programs.{every-app, inner-after, inner-tries, inner-updates}
 
-later-try : (i : ℕ) → eqb (suc i) 0 ≡ false
-later-try i = ne-eqb (suc i) 0 (λ e. omega arith)
+-- the one write behind the first try
+pub first-write : (i : ℕ) → i ≡ 0 → masked 0x12 0x06 0xff ∷ [] ≡ again i
+first-write i e = rw e
 
--- the list of updates behind try i
-pub once-list : (k i : ℕ) (u : Update) (rest : List Update) → k ≡ 1 - i → take k (u ∷ rest) ≡ pick (eqb i 0) (u ∷ []) []
-once-list k zero u rest e = rw e
-once-list k (suc i) u rest e =
-    let none : k ≡ 0 = omega arith in
-    rw (none, later-try i)
-
-pub once-in : (i : ℕ) (u : Update) → inRange u ≡ true → every inRange (pick (eqb i 0) (u ∷ []) []) ≡ true
-unfolding every
-once-in zero u h = rw h
-once-in (suc i) u h = rw (later-try i)
+-- behind a later try there is the wait alone
+pub wait-alone : (i : ℕ) → eqb i 0 ≡ false → Plain (wait 1) ∷ [] ≡ afterTry i
+wait-alone i e = rw e
 
 -- the three ways of the repair
 module _ (kind : Kind) (number byte power fine : ℕ) (p : power ≡ powerOf kind) (q : fine ≡ fineOf byte) where

@@ -50,10 +50,11 @@ fn later(hz: u64, best: FreqRange, r: FreqRange) -> FreqRange
 pub fn freq_range(hz: u64) -> FreqRange
     ensures { λ r. ⌜ r ≡ rangeOf hz ⌝ }
 {
-    let mut best = FREQ_RANGES[0];
+    let table = FREQ_RANGES;
+    let mut best = table[0];
     let mut i: usize = 0;
     while i < 21 {
-        best = later(hz, best, FREQ_RANGES[i]);
+        best = later(hz, best, table[i]);
         i += 1;
     }
     best
@@ -77,13 +78,6 @@ fn lower(number: u8) -> u8
     ensures { λ r. ⌜ r ≡ number - 1 ⌝ }
 {
     if number == 0 { 0 } else { number - 1 }
-}
-
-// Only the first try, number 0, is followed by a write.
-fn once(i: usize) -> usize
-    ensures { λ r. ⌜ r ≡ 1 - i ⌝ }
-{
-    if i == 0 { 1 } else { 0 }
 }
 
 // `set_mux_raw`'s eleven writes, then the five of `set_pll_raw`; without a plan the eleven are meant.
@@ -364,14 +358,6 @@ fn after_try(f: Flow, i: usize, outcomes: &[u8], room: &mut [u8]) -> Flow
         ≡ closing inRoom (now (outcomes .entry)) (run inRoom (now (outcomes .entry)) (afterTry i) (onRoom f (now (room .entry)))) ⌝ }
     ensures bounds { λ r. ⌜ r .count + due (r .held) ≤ f .count + (1 - i) + 1 + due (f .held) ⌝ }
 {
-    let n = once(i);
-    let u = Update {
-        register: 0x12,
-        value: 0x06,
-        mask: 0xff,
-        past: false,
-    };
-    let written = chip::write_all(f, [u; 16], n, outcomes, room);
     let e = Entry {
         kind: 9,
         outcome: 0,
@@ -381,7 +367,17 @@ fn after_try(f: Flow, i: usize, outcomes: &[u8], room: &mut [u8]) -> Flow
         bytes: [0u8; 8],
     };
     let es = [e; 3];
-    chip::plain_part(written, es, 1, outcomes, room)
+    if i == 0 {
+        let u = Update {
+            register: 0x12,
+            value: 0x06,
+            mask: 0xff,
+            past: false,
+        };
+        let written = chip::write_all(f, [u; 16], 1, outcomes, room);
+        return chip::plain_part(written, es, 1, outcomes, room);
+    }
+    chip::plain_part(f, es, 1, outcomes, room)
 }
 
 // Behind a lock 0x1a is written.

@@ -1,31 +1,16 @@
--- `chip::lay` meets its contract. The entry is settled, put in the room behind those that stand there, and looked at: `laid` says that this is what `inRoom` does. Assumes nothing.
-use Rattle.chip.proofs.Rooms.{laid}
+-- `chip::lay` meets its contract: the log's, at this chip. Assumes nothing.
 use borrow.Author.Needs.{needs}
 use Rattle.chip.proofs.lay.Statement.{statement}
 use Rattle.chip.proofs.lay.Tie as tie
 
-settle-requires : tie.Need-settle-requires
-settle-requires c κs = search needs
-
-mul-put : tie.Need-mul-put
-mul-put c = search needs
-
-put-requires : tie.Need-put-requires
-put-requires c κs = search needs
-
-add-t14 : tie.Need-add-t14
-add-t14 c = search needs
-
-looked-requires : tie.Need-looked-requires
-looked-requires c κs = search needs
+log-entry-requires : tie.Need-log-entry-requires
+log-entry-requires c κs = search needs
 
 same-length : tie.Need-same-length
 same-length c = search needs
 
 returns : tie.Need-returns
-returns c = (laid _ _ _ _ _ _ _ _ _ _ (c .before .before .before .before .before .settle .ensures) (c .before .before .before .put .ensures) (c .looked .ensures), search needs)
+returns c = (c .before .before .before .log-entry .ensures .0 (c .before .before .before .before .before .before .before .args .chip), search needs)
 
 pub lay-spec : {M : Type 1} → statement M
-lay-spec =
-    tie.close
-    (tie.spec settle-requires mul-put put-requires add-t14 looked-requires same-length returns)
+lay-spec = tie.close (tie.spec log-entry-requires same-length returns)

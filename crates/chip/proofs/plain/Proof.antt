@@ -1,45 +1,16 @@
--- `chip::plain` meets its contract. Each return is one law of the definition, with what the calls before it ensure. Assumes nothing.
-use Rattle.chip.proofs.Laws.{idle, made}
-use mathlib.Core.Path.{refl, ap, _∙_}
-use Rattle.chip.specs.Steps.{goes, inRoom}
-use Rattle.chip.specs.Steps.Step.{Plain}
+-- `chip::plain` meets its contract: the log's, at this chip. Assumes nothing.
 use borrow.Author.Needs.{needs}
 use Rattle.chip.proofs.plain.Statement.{statement}
 use Rattle.chip.proofs.plain.Tie as tie
 
-enum-told : tie.Need-enum-told
-enum-told c = search needs
-
-enum-told-2 : tie.Need-enum-told-2
-enum-told-2 c = search needs
-
-returns : tie.Need-returns
-returns c = (idle inRoom _ (Plain _) _ (ap goes (c .enum-told2 .given .1)), search needs)
-
-shared-slice-read-ok : tie.Need-shared-slice-read-ok
-shared-slice-read-ok c = search needs
-
-told-requires : tie.Need-told-requires
-told-requires c κs = search needs
-
-lay-requires : tie.Need-lay-requires
-lay-requires c κs = search needs
+log-plain-requires : tie.Need-log-plain-requires
+log-plain-requires c κs = search needs
 
 same-length : tie.Need-same-length
 same-length c = search needs
 
-returns-2 : tie.Need-returns-2
-returns-2 c = (c .before .before .lay .ensures .0 ∙ made inRoom _ (Plain _) _ _ _ refl (c .before .before .before .before .told .ensures) (ap goes (c .before .before .before .before .before .before .before .before .enum-told .given .1)), search needs)
+returns : tie.Need-returns
+returns c = (c .before .before .before .before .log-plain .ensures .0 (c .before .before .before .before .before .before .before .before .before .args .f .chip), search needs)
 
 pub plain-spec : {M : Type 1} → statement M
-plain-spec =
-    tie.close
-    (tie.spec
-    enum-told
-    enum-told-2
-    returns
-    shared-slice-read-ok
-    told-requires
-    lay-requires
-    same-length
-    returns-2)
+plain-spec = tie.close (tie.spec log-plain-requires same-length returns)

@@ -14,10 +14,10 @@ use Rattle.chip.proofs.send_chunks.Statement.{statement}
 use Rattle.chip.proofs.send_chunks.Tie as tie
 
 abbrev Inv-loop : tie.InvT-loop
-Inv-loop bs from to outcomes room₀ f₀ i₀ room f i = (from ≤ i) × ((i ≤ to) × ((length room ≡ length room₀) × ((f .count + due (f .held) ≤ f₀ .count + (i - from) + due (f₀ .held)) × ((goes (f .went) ≡ true) × (run inRoom outcomes (map (chunkStep bs) (drop i (take to chunkTable))) (onRoom f room) ≡ run inRoom outcomes (map (chunkStep bs) (drop from (take to chunkTable))) (onRoom f₀ room₀))))))
+Inv-loop bs from to outcomes room₀ f₀ chunks i₀ room f i = (from ≤ i) × ((i ≤ to) × ((length room ≡ length room₀) × ((f .count + due (f .held) ≤ f₀ .count + (i - from) + due (f₀ .held)) × ((goes (f .went) ≡ true) × (run inRoom outcomes (map (chunkStep bs) (drop i (take to chunkTable))) (onRoom f room) ≡ run inRoom outcomes (map (chunkStep bs) (drop from (take to chunkTable))) (onRoom f₀ room₀))))))
 
 abbrev μ-loop : tie.MeasureT-loop
-μ-loop bs from to outcomes room₀ f₀ i₀ room f i = to - i
+μ-loop bs from to outcomes room₀ f₀ chunks i₀ room f i = to - i
 
 enum-told : tie.Need-enum-told Inv-loop μ-loop
 enum-told c = search needs

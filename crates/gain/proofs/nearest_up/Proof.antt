@@ -7,15 +7,15 @@ use native.Mathlib.Omega.{arith}
 use borrow.Author.Needs.{needs}
 use lib.IntN.{pos}
 use Rattle.gain.specs.Steps.{steps, distance, apart, nearestIn, nearestOf}
-use Rattle.gain.proofs.Steps.{nearer, no-nearer}
+use Rattle.gain.proofs.Steps.{nearer, no-nearer, step-small}
 use Rattle.gain.proofs.nearest_up.Statement.{statement}
 use Rattle.gain.proofs.nearest_up.Tie as tie
 
 abbrev Inv-loop : tie.InvT-loop
-Inv-loop t best₀ least₀ k₀ best least k = (k ≤ 29) × (best ≡ nearestIn k (pos t)) × (least ≡ apart best (pos t))
+Inv-loop t table best₀ least₀ k₀ best least k = (k ≤ 29) × (best ≡ nearestIn k (pos t)) × (least ≡ apart best (pos t))
 
 abbrev μ-loop : tie.MeasureT-loop
-μ-loop t best₀ least₀ k₀ best least k = 29 - k
+μ-loop t table best₀ least₀ k₀ best least k = 29 - k
 
 between-requires : tie.Need-between-requires Inv-loop μ-loop
 between-requires c κs = search needs
@@ -24,11 +24,15 @@ loop-holds : tie.Need-loop-holds Inv-loop μ-loop
 unfolding steps nearestIn
 loop-holds c = (omega arith, refl, c .between .ensures)
 
-step-requires : tie.Need-step-requires Inv-loop μ-loop
-step-requires c κs = omega arith
+mul-between : tie.Need-mul-between Inv-loop μ-loop
+mul-between c = search needs
+
+array-read-between : tie.Need-array-read-between Inv-loop μ-loop
+array-read-between c = search needs
 
 cast-between : tie.Need-cast-between Inv-loop μ-loop
-cast-between c = search needs
+unfolding steps
+cast-between c = record { fits = step-small (c .before .loop .k) }
 
 between-requires-2 : tie.Need-between-requires-2 Inv-loop μ-loop
 between-requires-2 c κs = search needs
@@ -40,14 +44,15 @@ loop-less : tie.Need-loop-less Inv-loop μ-loop
 loop-less c = omega arith
 
 loop-again : tie.Need-loop-again Inv-loop μ-loop
+unfolding steps
 loop-again c =
-    let t = c .before .before .before .before .before .before .args .t in
-    let k = c .before .before .before .before .loop .k in
-    let best = c .before .before .before .before .loop .best in
-    let least = c .before .before .before .before .loop .least in
+    let t = c .before .before .before .before .before .args .t in
+    let k = c .before .before .before .loop .k in
+    let best = c .before .before .before .loop .best in
+    let least = c .before .before .before .loop .least in
     let far = c .before .between2 .result in
-    let inv = c .before .before .before .before .loop .inv in
-    let d : far ≡ apart k (pos t) = c .before .between2 .ensures ∙ ap (λ (s : ℕ). distance s (pos t)) (c .before .before .step .ensures) in
+    let inv = c .before .before .before .loop .inv in
+    let d : far ≡ apart k (pos t) = c .before .between2 .ensures in
     ⊎-elim
     (λ w.
     let h : apart k (pos t) < apart best (pos t) = subst (λ (n : ℕ). n < apart best (pos t)) d (subst (λ (n : ℕ). far < n) (inv .2) (w .0 .taken)) in
@@ -73,7 +78,8 @@ nearest-up-spec =
     μ-loop
     between-requires
     loop-holds
-    step-requires
+    mul-between
+    array-read-between
     cast-between
     between-requires-2
     add-k

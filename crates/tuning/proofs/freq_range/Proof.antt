@@ -10,10 +10,10 @@ use Rattle.tuning.proofs.freq_range.Statement.{statement}
 use Rattle.tuning.proofs.freq_range.Tie as tie
 
 abbrev Inv-loop : tie.InvT-loop
-Inv-loop hz best₀ i₀ best i = lastAt hz best (drop i ranges) ≡ rangeOf hz
+Inv-loop hz table best₀ i₀ best i = lastAt hz best (drop i ranges) ≡ rangeOf hz
 
 abbrev μ-loop : tie.MeasureT-loop
-μ-loop hz best₀ i₀ best i = 21 - i
+μ-loop hz table best₀ i₀ best i = 21 - i
 
 array-copy-out-best : tie.Need-array-copy-out-best Inv-loop μ-loop
 array-copy-out-best c = search needs
