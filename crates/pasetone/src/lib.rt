@@ -1,5 +1,5 @@
 // Every call and leaf for a C or Rust host: what include/pasetone.h declares. Each function is one call of a function below with the same definition,
-// its answer told as numbers, so its must-fail edits stand below.
+// its answer told as numbers, so its must-fail edits stand below, but for two of arguments that it passes on.
 // Document 01, "Modules, leaves first": "The library is callable from a C or Rust host by numbers and byte slices".
 ghost use mathlib.Core.Path.{_≡_};
 ghost use Rattle.answers.specs.Lent.{ifInto, packInto, planInto, resampleInto, unpackInto};
