@@ -148,6 +148,13 @@ onRoom f room = line (f .chip) (logged room (f .seen)) (f .count) (f .went) (f .
 abbrev pub onLog : Chip → Log → List ℕ → Line Logged
 onLog chip l room = line chip (logged room (l .seen)) (l .count) (l .went) (l .held)
 
+-- a flow's log, and the flow of a log with a chip
+abbrev pub logOf : Flow → Log
+logOf f = record { count = f .count; went = f .went; held = f .held; seen = f .seen }
+
+abbrev pub flowOf : Log → Chip → Flow
+flowOf l chip = record { chip = chip; count = l .count; went = l .went; held = l .held; seen = l .seen }
+
 abbrev pub Trace : Type 0
 Trace = Line (List Entry)
 

@@ -10,7 +10,7 @@ ghost use lib.ListN.{length, getD, take, drop, set};
 ghost use Rattle.chip.specs.declared.Chip.{Chip};
 ghost use Rattle.chip.specs.Chips.{maskOf, attemptedBy, withLists};
 ghost use Rattle.chip.specs.Entries.{flagOf, look, settled};
-ghost use Rattle.chip.specs.Steps.{due, toldOf, step, run, closing, inRoom, onLog, onRoom, line, logged, updates, updateStep, allIn, inRange, behind, chunkBytes, chunkStep, chunkTable, within, tunerWrite};
+ghost use Rattle.chip.specs.Steps.{due, toldOf, step, run, closing, inRoom, onLog, onRoom, line, logOf, flowOf, logged, updates, updateStep, allIn, inRange, behind, chunkBytes, chunkStep, chunkTable, within, tunerWrite};
 ghost use Rattle.chip.specs.Calls.{lentOf, answerOf, sealed};
 ghost use Rattle.chip.specs.Steps.Step.{Open, Close, Send, Mask, Plain};
 use transcript::Entry;
@@ -165,6 +165,34 @@ fn looked(s: Seen, e: Entry) -> Seen
     s
 }
 
+// A flow taken apart, and put together again behind steps that went over the log alone.
+pub fn log_of(f: Flow) -> Log
+    ensures { λ r. ⌜ r ≡ logOf f ⌝ }
+{
+    let went = f.went;
+    let seen = f.seen;
+    Log {
+        count: f.count,
+        went: went,
+        held: f.held,
+        seen: seen,
+    }
+}
+
+pub fn flow_of(l: Log, chip: Chip) -> Flow
+    ensures { λ r. ⌜ r ≡ flowOf l chip ⌝ }
+{
+    let went = l.went;
+    let seen = l.seen;
+    Flow {
+        chip: chip,
+        count: l.count,
+        went: went,
+        held: l.held,
+        seen: seen,
+    }
+}
+
 // A step's entry behind those laid out so far, and what is carried on.
 fn log_entry(l: Log, e: Entry, ok: bool, went: Went, held: bool, room: &mut [u8]) -> Log
     requires { ⌜ 16 * l .count + 16 ≤ length (now room) ⌝ }
@@ -285,6 +313,19 @@ fn log_close(l: Log, outcomes: &[u8], room: &mut [u8]) -> Log
         bytes: [0, 0, 0, 0, 0, 0, 0, 0],
     };
     log_entry(l, e, ok, went, false, room)
+}
+
+// The end of a part behind an open repeater: where a step of it failed, the repeater is closed.
+pub fn log_end(l: Log, outcomes: &[u8], room: &mut [u8]) -> Log
+    requires { ⌜ (l .count + due (l .held) ≤ length (now outcomes)) × (16 * (l .count + due (l .held)) ≤ length (now room)) ⌝ }
+    ensures { λ r. ⌜ ((chip : Chip) → onLog chip r (now (room .exit)) ≡ closing inRoom (now (outcomes .entry)) (onLog chip l (now (room .entry)))) ⌝ }
+    ensures bounds { λ r. ⌜ r .count + due (r .held) ≤ l .count + due (l .held) ⌝ }
+{
+    let went = l.went;
+    let Went::Going = went else {
+        return log_close(l, outcomes, room);
+    };
+    l
 }
 
 pub fn close_repeater(f: Flow, outcomes: &[u8], room: &mut [u8]) -> Flow
