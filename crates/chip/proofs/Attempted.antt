@@ -9,7 +9,7 @@ use native.Mathlib.Numerals.{add-one}
 use lib.ListN.{length, getD, take, drop, set, replicate}
 use lib.Seq.{sets, drop-cons}
 use Rattle.chip.specs.declared.Chip.{Chip}
-use Rattle.chip.specs.Chips.{attemptedBy, withLists}
+use Rattle.chip.specs.Chips.{attemptedBy, chipOf, withLists}
 
 unfoldable pub left : Chip → ℕ → ℕ → List ℕ → Bool → ℕ → Chip
 left c first n bytes ok i =
@@ -38,3 +38,17 @@ unfolding left
 end c first n bytes ok i h =
     let none : n - 1 - i ≡ 0 = omega arith in
     rw none
+
+-- both lists stored are the chip's record after the write
+pub stored : (address : ℕ) (shadow a b : List ℕ) (d e : List Bool) (n : ℕ) (bytes : List ℕ) (ok : Bool)
+    → b ≡ sets a (getD bytes 0 0 - 5) (take (n - 1) (drop 1 bytes)) → e ≡ sets d (getD bytes 0 0 - 5) (replicate (n - 1) (not ok))
+    → chipOf address shadow b e ≡ attemptedBy (chipOf address shadow a d) n bytes ok
+unfolding attemptedBy
+stored address shadow a b d e n bytes ok p q = λ i. chipOf address shadow (p i) (q i)
+
+-- and one of the lists is that of the chip's record
+pub of-attempted : (c x : Chip) (n : ℕ) (bytes : List ℕ) (ok : Bool) → x ≡ attemptedBy c n bytes ok
+    → (x .attempted ≡ sets (c .attempted) (getD bytes 0 0 - 5) (take (n - 1) (drop 1 bytes)))
+    × (x .doubtful ≡ sets (c .doubtful) (getD bytes 0 0 - 5) (replicate (n - 1) (not ok)))
+unfolding attemptedBy
+of-attempted c x n bytes ok e = (ap (λ (y : Chip). y .attempted) e, ap (λ (y : Chip). y .doubtful) e)

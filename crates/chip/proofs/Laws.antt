@@ -75,6 +75,22 @@ module _ {L : Type 0} (put : L → ℕ → Entry → L) (os : List ℕ) where
   run-app [] ys w = refl
   run-app (x ∷ xs) ys w = run-app xs ys (step put os x w)
 
+  -- steps one after the other, each by what a piece of code has done
+  pub one-last : (s : Step) (w y : Line L) → y ≡ step put os s w → y ≡ run put os (s ∷ []) w
+  unfolding run
+  one-last s w y e = e
+
+  pub one-more : (s : Step) (ss : List Step) (w x y : Line L) → x ≡ step put os s w → y ≡ run put os ss x → y ≡ run put os (s ∷ ss) w
+  unfolding run
+  one-more s ss w x y p q = q ∙ ap (run put os ss) p
+
+  -- and between an opening and a closing
+  pub bracket-made : (ss : List Step) (w x y z : Line L) → x ≡ step put os Open w → y ≡ run put os ss x → z ≡ step put os Close y
+      → z ≡ run put os (Open ∷ (ss ++ (Close ∷ []))) w
+  unfolding run
+  bracket-made ss w x y z p q r =
+      r ∙ ap (step put os Close) q ∙ ap (λ (v : Line L). step put os Close (run put os ss v)) p ∙ sym (run-app ss (Close ∷ []) (step put os Open w))
+
   -- ---- a closing
 
   pub closing-going : (w : Line L) → goes (w .went) ≡ true → closing put os w ≡ w

@@ -12,10 +12,13 @@ use Rattle.chip.specs.declared.Chip.{Chip}
 unfoldable pub maskOf : ℕ → ℕ → ℕ → ℕ
 maskOf old value mask = bitOr (bitAnd old (255 - mask)) (bitAnd value mask)
 
+-- the chip's record of its parts
+abbrev pub chipOf : ℕ → List ℕ → List ℕ → List Bool → Chip
+chipOf address shadow attempted doubtful = record { address = address; shadow = shadow; attempted = attempted; doubtful = doubtful }
+
 -- the chip's record with other lists
 abbrev pub withLists : Chip → List ℕ → List ℕ → List Bool → Chip
-withLists c shadow attempted doubtful =
-    record { address = c .address; shadow = shadow; attempted = attempted; doubtful = doubtful }
+withLists c shadow attempted doubtful = chipOf (c .address) shadow attempted doubtful
 
 -- "A write of n bytes attempts n-1 registers upward from its first byte": the bytes behind it are the last attempted, and
 -- doubtful are they if the write failed. Registers count from 0x05.

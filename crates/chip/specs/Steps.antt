@@ -18,7 +18,7 @@ use Rattle.chip.specs.declared.Seen.{Seen}
 use Rattle.chip.specs.declared.Update.{Update}
 use Rattle.chip.specs.declared.Went.{Went}
 use Rattle.chip.specs.declared.Went.the-variants.{Going, Failed}
-use Rattle.chip.specs.Chips.{attemptedBy, maskedByte, pair, shadowed}
+use Rattle.chip.specs.Chips.{attemptedBy, chipOf, maskedByte, pair, shadowed}
 use Rattle.chip.specs.Entries.{look, repeater, settled, written}
 
 -- a masked write of a register; a write of n bytes, its first the register; any step that leaves the chip's record alone, with
@@ -147,6 +147,10 @@ onRoom f room = line (f .chip) (logged room (f .seen)) (f .count) (f .went) (f .
 -- the same, of a step that leaves the chip alone: with whatever chip
 abbrev pub onLog : Chip → Log → List ℕ → Line Logged
 onLog chip l room = line chip (logged room (l .seen)) (l .count) (l .went) (l .held)
+
+-- the same, with the chip's lists where they lie
+abbrev pub onLists : ℕ → List ℕ → List ℕ → List Bool → Log → List ℕ → Line Logged
+onLists address shadow attempted doubtful l room = onLog (chipOf address shadow attempted doubtful) l room
 
 -- a flow's log, and the flow of a log with a chip
 abbrev pub logOf : Flow → Log

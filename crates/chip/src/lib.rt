@@ -2,15 +2,16 @@
 // `read_status_raw`'s transfers of src/tuners/r82xx.rs and `i2c_write_tuner` of src/device.rs, over a script of outcomes and
 // a room for the entries. Document 01, "Transcript and script", "Refusal numbers", "The record", "Forms that change".
 // A step is taken only while none has failed; a closing only while the repeater is open. `run` of specs/Steps.antt says it once.
-ghost use mathlib.Core.List.{map};
+ghost use mathlib.Core.List.{List, map};
 ghost use mathlib.Core.Path.{_≡_};
 ghost use mathlib.Core.Bool.{true, not};
-ghost use Prim.Native.Nat.{_+_, _-_, _*_, _≤_, _<_};
-ghost use lib.ListN.{length, getD, take, drop, set};
+ghost use Prim.Native.Nat.{ℕ, _+_, _-_, _*_, _≤_, _<_};
+ghost use lib.ListN.{length, getD, take, drop, replicate};
+ghost use lib.Seq.{sets};
 ghost use Rattle.chip.specs.declared.Chip.{Chip};
-ghost use Rattle.chip.specs.Chips.{maskOf, attemptedBy, withLists};
+ghost use Rattle.chip.specs.Chips.{maskOf};
 ghost use Rattle.chip.specs.Entries.{flagOf, look, settled};
-ghost use Rattle.chip.specs.Steps.{due, toldOf, step, run, closing, inRoom, onLog, onRoom, line, logOf, flowOf, logged, updates, updateStep, allIn, inRange, behind, chunkBytes, chunkStep, chunkTable, within, tunerWrite};
+ghost use Rattle.chip.specs.Steps.{due, toldOf, step, run, closing, inRoom, onLists, onLog, onRoom, line, logOf, flowOf, logged, updates, updateStep, allIn, inRange, behind, chunkBytes, chunkStep, chunkTable, within, tunerWrite};
 ghost use Rattle.chip.specs.Calls.{lentOf, answerOf, sealed};
 ghost use Rattle.chip.specs.Steps.Step.{Open, Close, Send, Mask, Plain};
 use transcript::Entry;
@@ -97,15 +98,6 @@ pub struct Chunk {
     pub at: usize,
     pub size: usize,
 }
-
-// "chunks (7, 7, 2, then 7, 4)": `i2c_write_tuner` sends at most seven registers in one write.
-const CHUNKS: [Chunk; 5] = [
-    Chunk { at: 0, size: 7 },
-    Chunk { at: 7, size: 7 },
-    Chunk { at: 14, size: 2 },
-    Chunk { at: 16, size: 7 },
-    Chunk { at: 23, size: 4 },
-];
 
 fn flag(ok: bool) -> u8
     ensures { λ r. ⌜ r ≡ flagOf ok ⌝ }
@@ -212,74 +204,34 @@ fn log_entry(l: Log, e: Entry, ok: bool, went: Went, held: bool, room: &mut [u8]
     }
 }
 
-// The same, with the chip as the step leaves it.
-fn lay(f: Flow, chip: Chip, e: Entry, ok: bool, went: Went, held: bool, room: &mut [u8]) -> Flow
-    requires { ⌜ 16 * f .count + 16 ≤ length (now room) ⌝ }
-    ensures { λ r. ⌜ onRoom r (now (room .exit))
-        ≡ line chip (inRoom (logged (now (room .entry)) (f .seen)) (f .count) (settled e ok)) (f .count + 1) went held ⌝ }
-    ensures bounds { λ r. ⌜ r .count + due (r .held) ≡ f .count + 1 + due held ⌝ }
-{
-    let before = f.went;
-    let seen = f.seen;
-    let l = Log {
-        count: f.count,
-        went: before,
-        held: f.held,
-        seen: seen,
-    };
-    let next = log_entry(l, e, ok, went, held, room);
-    let after = next.went;
-    let sight = next.seen;
-    Flow {
-        chip: chip,
-        count: next.count,
-        went: after,
-        held: next.held,
-        seen: sight,
-    }
-}
-
-// One register's byte was attempted.
-fn attempt_one(c: Chip, index: usize, byte: u8, ok: bool) -> Chip
-    requires { ⌜ index < 27 ⌝ }
-    ensures { λ r. ⌜ r ≡ withLists c (c .shadow) (set (c .attempted) index byte) (set (c .doubtful) index (not ok)) ⌝ }
-{
-    let mut next = c;
-    next.attempted[index] = byte;
-    next.doubtful[index] = !ok;
-    next
-}
-
 // A write of n bytes attempts n - 1 registers upward from its first byte.
-fn attempt(c: Chip, n: usize, bytes: [u8; 8], ok: bool) -> Chip
+fn attempt(n: usize, bytes: [u8; 8], ok: bool, attempted: &mut [u8; 27], doubtful: &mut [bool; 27])
     requires { ⌜ (1 ≤ n) × (n ≤ 8) × (5 ≤ getD bytes 0 0) × (getD bytes 0 0 + n ≤ 33) ⌝ }
-    ensures { λ r. ⌜ r ≡ attemptedBy c n bytes ok ⌝ }
+    ensures { λ _. ⌜ (now (attempted .exit) ≡ sets (now (attempted .entry)) (getD bytes 0 0 - 5) (take (n - 1) (drop 1 bytes)))
+        × (now (doubtful .exit) ≡ sets (now (doubtful .entry)) (getD bytes 0 0 - 5) (replicate (n - 1) (not ok))) ⌝ }
 {
-    let mut next = c;
     let first = bytes[0] as usize - 5;
     let doubt = !ok;
     let mut i = 0;
     while i + 1 < n {
-        next.attempted[first + i] = bytes[i + 1];
-        next.doubtful[first + i] = doubt;
+        attempted[first + i] = bytes[i + 1];
+        doubtful[first + i] = doubt;
         i += 1;
     }
-    next
 }
 
 // "1 opens": a failed opening leaves the repeater shut, so it is not closed.
-pub fn open_repeater(f: Flow, outcomes: &[u8], room: &mut [u8]) -> Flow
-    requires { ⌜ (f .count < length (now outcomes)) × (16 * f .count + 16 ≤ length (now room)) ⌝ }
-    ensures { λ r. ⌜ onRoom r (now (room .exit)) ≡ step inRoom (now (outcomes .entry)) Open (onRoom f (now (room .entry))) ⌝ }
-    ensures bounds { λ r. ⌜ r .count + due (r .held) ≤ f .count + 2 ⌝ }
+pub fn log_open(l: Log, outcomes: &[u8], room: &mut [u8]) -> Log
+    requires { ⌜ (l .count < length (now outcomes)) × (16 * l .count + 16 ≤ length (now room)) ⌝ }
+    ensures { λ r. ⌜ ((chip : Chip) → onLog chip r (now (room .exit)) ≡ step inRoom (now (outcomes .entry)) Open (onLog chip l (now (room .entry)))) ⌝ }
+    ensures bounds { λ r. ⌜ r .count + due (r .held) ≤ l .count + 2 ⌝ }
 {
-    let went = f.went;
+    let went = l.went;
     let Went::Going = went else {
-        return f;
+        return l;
     };
-    let k = f.count;
+    let k = l.count;
     let ok = outcomes[k] == 0;
-    let chip = f.chip;
     let e = Entry {
         kind: 1,
         outcome: 0,
@@ -288,11 +240,21 @@ pub fn open_repeater(f: Flow, outcomes: &[u8], room: &mut [u8]) -> Flow
         address: 0,
         bytes: [1, 0, 0, 0, 0, 0, 0, 0],
     };
-    lay(f, chip, e, ok, told(ok, k), ok, room)
+    log_entry(l, e, ok, told(ok, k), ok, room)
+}
+
+pub fn open_repeater(f: Flow, outcomes: &[u8], room: &mut [u8]) -> Flow
+    requires { ⌜ (f .count < length (now outcomes)) × (16 * f .count + 16 ≤ length (now room)) ⌝ }
+    ensures { λ r. ⌜ onRoom r (now (room .exit)) ≡ step inRoom (now (outcomes .entry)) Open (onRoom f (now (room .entry))) ⌝ }
+    ensures bounds { λ r. ⌜ r .count + due (r .held) ≤ f .count + 2 ⌝ }
+{
+    let l = log_of(f);
+    let next = log_open(l, outcomes, room);
+    flow_of(next, f.chip)
 }
 
 // "A failed closing is recorded and otherwise ignored": its outcome is told by its entry alone.
-fn log_close(l: Log, outcomes: &[u8], room: &mut [u8]) -> Log
+pub fn log_close(l: Log, outcomes: &[u8], room: &mut [u8]) -> Log
     requires { ⌜ (l .count + due (l .held) ≤ length (now outcomes)) × (16 * (l .count + due (l .held)) ≤ length (now room)) ⌝ }
     ensures { λ r. ⌜ ((chip : Chip) → onLog chip r (now (room .exit)) ≡ step inRoom (now (outcomes .entry)) Close (onLog chip l (now (room .entry)))) ⌝ }
     ensures bounds { λ r. ⌜ r .count + due (r .held) ≤ l .count + due (l .held) ⌝ }
@@ -333,89 +295,88 @@ pub fn close_repeater(f: Flow, outcomes: &[u8], room: &mut [u8]) -> Flow
     ensures { λ r. ⌜ onRoom r (now (room .exit)) ≡ step inRoom (now (outcomes .entry)) Close (onRoom f (now (room .entry))) ⌝ }
     ensures bounds { λ r. ⌜ r .count + due (r .held) ≤ f .count + due (f .held) ⌝ }
 {
-    let before = f.went;
-    let seen = f.seen;
-    let l = Log {
-        count: f.count,
-        went: before,
-        held: f.held,
-        seen: seen,
-    };
+    let l = log_of(f);
     let next = log_close(l, outcomes, room);
-    let chip = f.chip;
-    let after = next.went;
-    let sight = next.seen;
-    Flow {
-        chip: chip,
-        count: next.count,
-        went: after,
-        held: next.held,
-        seen: sight,
-    }
+    flow_of(next, f.chip)
 }
 
-// `i2c_write_raw` of n bytes, the first of them a register of the record.
-pub fn send(f: Flow, n: u8, bytes: [u8; 8], outcomes: &[u8], room: &mut [u8]) -> Flow
+// `i2c_write_raw` of n bytes, the first of them a register of the record. It and the masked write change the chip's lists where they lie.
+fn send(
+    l: Log,
+    address: u8,
+    n: u8,
+    bytes: [u8; 8],
+    attempted: &mut [u8; 27],
+    doubtful: &mut [bool; 27],
+    outcomes: &[u8],
+    room: &mut [u8],
+) -> Log
     requires { ⌜ (1 ≤ n) × (n ≤ 8) × (5 ≤ getD bytes 0 0) × (getD bytes 0 0 + n ≤ 33)
-        × (f .count < length (now outcomes)) × (16 * f .count + 16 ≤ length (now room)) ⌝ }
-    ensures { λ r. ⌜ onRoom r (now (room .exit)) ≡ step inRoom (now (outcomes .entry)) (Send n bytes) (onRoom f (now (room .entry))) ⌝ }
-    ensures bounds { λ r. ⌜ r .count + due (r .held) ≤ f .count + 1 + due (f .held) ⌝ }
+        × (l .count < length (now outcomes)) × (16 * l .count + 16 ≤ length (now room)) ⌝ }
+    ensures { λ r. ⌜ ((shadow : List ℕ) → onLists address shadow (now (attempted .exit)) (now (doubtful .exit)) r (now (room .exit))
+        ≡ step inRoom (now (outcomes .entry)) (Send n bytes)
+        (onLists address shadow (now (attempted .entry)) (now (doubtful .entry)) l (now (room .entry)))) ⌝ }
+    ensures bounds { λ r. ⌜ r .count + due (r .held) ≤ l .count + 1 + due (l .held) ⌝ }
 {
-    let went = f.went;
+    let went = l.went;
     let Went::Going = went else {
-        return f;
+        return l;
     };
-    let k = f.count;
+    let k = l.count;
     let ok = outcomes[k] == 0;
-    let chip = f.chip;
-    let held = f.held;
+    let held = l.held;
     let e = Entry {
         kind: 2,
         outcome: 0,
-        target: chip.address,
+        target: address,
         n: n,
         address: 0,
         bytes: bytes,
     };
-    let next = attempt(chip, n as usize, bytes, ok);
-    lay(f, next, e, ok, told(ok, k), held, room)
+    attempt(n as usize, bytes, ok, attempted, doubtful);
+    log_entry(l, e, ok, told(ok, k), held, room)
 }
 
 // `write_reg_mask_raw`: the shadow is stored before the write is tried.
 pub fn write_reg_mask_raw(
-    f: Flow,
+    l: Log,
+    address: u8,
     register: u8,
     value: u8,
     mask: u8,
+    shadow: &mut [u8; 27],
+    attempted: &mut [u8; 27],
+    doubtful: &mut [bool; 27],
     outcomes: &[u8],
     room: &mut [u8],
-) -> Flow
-    requires { ⌜ (5 ≤ register) × (register ≤ 31) × (f .count < length (now outcomes)) × (16 * f .count + 16 ≤ length (now room)) ⌝ }
-    ensures { λ r. ⌜ onRoom r (now (room .exit))
-        ≡ step inRoom (now (outcomes .entry)) (Mask register value mask) (onRoom f (now (room .entry))) ⌝ }
-    ensures bounds { λ r. ⌜ r .count + due (r .held) ≤ f .count + 1 + due (f .held) ⌝ }
+) -> Log
+    requires { ⌜ (5 ≤ register) × (register ≤ 31) × (l .count < length (now outcomes)) × (16 * l .count + 16 ≤ length (now room)) ⌝ }
+    ensures { λ r. ⌜ onLists address (now (shadow .exit)) (now (attempted .exit)) (now (doubtful .exit)) r (now (room .exit))
+        ≡ step inRoom (now (outcomes .entry)) (Mask register value mask)
+        (onLists address (now (shadow .entry)) (now (attempted .entry)) (now (doubtful .entry)) l (now (room .entry))) ⌝ }
+    ensures bounds { λ r. ⌜ r .count + due (r .held) ≤ l .count + 1 + due (l .held) ⌝ }
 {
-    let went = f.went;
+    let went = l.went;
     let Went::Going = went else {
-        return f;
+        return l;
     };
-    let k = f.count;
+    let k = l.count;
     let ok = outcomes[k] == 0;
-    let held = f.held;
+    let held = l.held;
     let index = (register - REG_SHADOW_START) as usize;
-    let mut chip = f.chip;
-    let byte = mask_into(chip.shadow[index], value, mask);
-    chip.shadow[index] = byte;
+    let byte = mask_into(shadow[index], value, mask);
+    shadow[index] = byte;
+    attempted[index] = byte;
+    doubtful[index] = !ok;
     let e = Entry {
         kind: 2,
         outcome: 0,
-        target: chip.address,
+        target: address,
         n: 2,
         address: 0,
         bytes: [register, byte, 0, 0, 0, 0, 0, 0],
     };
-    let next = attempt_one(chip, index, byte, ok);
-    lay(f, next, e, ok, told(ok, k), held, room)
+    log_entry(l, e, ok, told(ok, k), held, room)
 }
 
 // Any step that leaves the chip's record alone: its entry as it is when the step is done.
@@ -434,51 +395,94 @@ pub fn log_plain(l: Log, e: Entry, outcomes: &[u8], room: &mut [u8]) -> Log
     log_entry(l, e, ok, told(ok, k), held, room)
 }
 
-pub fn plain(f: Flow, e: Entry, outcomes: &[u8], room: &mut [u8]) -> Flow
-    requires { ⌜ (f .count < length (now outcomes)) × (16 * f .count + 16 ≤ length (now room)) ⌝ }
-    ensures { λ r. ⌜ onRoom r (now (room .exit)) ≡ step inRoom (now (outcomes .entry)) (Plain e) (onRoom f (now (room .entry))) ⌝ }
-    ensures bounds { λ r. ⌜ r .count + due (r .held) ≤ f .count + 1 + due (f .held) ⌝ }
-{
-    let before = f.went;
-    let seen = f.seen;
-    let l = Log {
-        count: f.count,
-        went: before,
-        held: f.held,
-        seen: seen,
-    };
-    let next = log_plain(l, e, outcomes, room);
-    let chip = f.chip;
-    let after = next.went;
-    let sight = next.seen;
-    Flow {
-        chip: chip,
-        count: next.count,
-        went: after,
-        held: next.held,
-        seen: sight,
-    }
-}
-
 // A register's update, through the shadow or past it.
-fn write_update(f: Flow, u: Update, outcomes: &[u8], room: &mut [u8]) -> Flow
-    requires { ⌜ (inRange u ≡ true) × (f .count < length (now outcomes)) × (16 * f .count + 16 ≤ length (now room)) ⌝ }
-    ensures { λ r. ⌜ onRoom r (now (room .exit)) ≡ step inRoom (now (outcomes .entry)) (updateStep u) (onRoom f (now (room .entry))) ⌝ }
-    ensures bounds { λ r. ⌜ r .count + due (r .held) ≤ f .count + 1 + due (f .held) ⌝ }
+fn write_update(
+    l: Log,
+    address: u8,
+    u: Update,
+    shadow: &mut [u8; 27],
+    attempted: &mut [u8; 27],
+    doubtful: &mut [bool; 27],
+    outcomes: &[u8],
+    room: &mut [u8],
+) -> Log
+    requires { ⌜ (inRange u ≡ true) × (l .count < length (now outcomes)) × (16 * l .count + 16 ≤ length (now room)) ⌝ }
+    ensures { λ r. ⌜ onLists address (now (shadow .exit)) (now (attempted .exit)) (now (doubtful .exit)) r (now (room .exit))
+        ≡ step inRoom (now (outcomes .entry)) (updateStep u)
+        (onLists address (now (shadow .entry)) (now (attempted .entry)) (now (doubtful .entry)) l (now (room .entry))) ⌝ }
+    ensures bounds { λ r. ⌜ r .count + due (r .held) ≤ l .count + 1 + due (l .held) ⌝ }
 {
     if u.past {
         return send(
-            f,
+            l,
+            address,
             2,
             [u.register, u.value, 0, 0, 0, 0, 0, 0],
+            attempted,
+            doubtful,
             outcomes,
             room,
         );
     }
-    write_reg_mask_raw(f, u.register, u.value, u.mask, outcomes, room)
+    write_reg_mask_raw(
+        l,
+        address,
+        u.register,
+        u.value,
+        u.mask,
+        shadow,
+        attempted,
+        doubtful,
+        outcomes,
+        room,
+    )
 }
 
 // The first n of a list of updates, behind an open repeater.
+fn write_list(
+    l: Log,
+    address: u8,
+    us: [Update; 16],
+    n: usize,
+    shadow: &mut [u8; 27],
+    attempted: &mut [u8; 27],
+    doubtful: &mut [bool; 27],
+    outcomes: &[u8],
+    room: &mut [u8],
+) -> Log
+    requires { ⌜ (n ≤ 16) × (allIn (take n us) ≡ true)
+        × (l .count + n + due (l .held) ≤ length (now outcomes)) × (16 * (l .count + n + due (l .held)) ≤ length (now room)) ⌝ }
+    ensures { λ r. ⌜ onLists address (now (shadow .exit)) (now (attempted .exit)) (now (doubtful .exit)) r (now (room .exit))
+        ≡ closing inRoom (now (outcomes .entry)) (run inRoom (now (outcomes .entry)) (updates (take n us))
+        (onLists address (now (shadow .entry)) (now (attempted .entry)) (now (doubtful .entry)) l (now (room .entry)))) ⌝ }
+    ensures bounds { λ r. ⌜ r .count + due (r .held) ≤ l .count + n + due (l .held) ⌝ }
+{
+    let mut l = l;
+    let went = l.went;
+    let Went::Going = went else {
+        return log_close(l, outcomes, room);
+    };
+    let mut i = 0;
+    while i < n {
+        l = write_update(
+            l,
+            address,
+            us[i],
+            shadow,
+            attempted,
+            doubtful,
+            outcomes,
+            room,
+        );
+        let went = l.went;
+        let Went::Going = went else {
+            return log_close(l, outcomes, room);
+        };
+        i += 1;
+    }
+    l
+}
+
 pub fn write_all(f: Flow, us: [Update; 16], n: usize, outcomes: &[u8], room: &mut [u8]) -> Flow
     requires { ⌜ (n ≤ 16) × (allIn (take n us) ≡ true)
         × (f .count + n + due (f .held) ≤ length (now outcomes)) × (16 * (f .count + n + due (f .held)) ≤ length (now room)) ⌝ }
@@ -486,21 +490,29 @@ pub fn write_all(f: Flow, us: [Update; 16], n: usize, outcomes: &[u8], room: &mu
         ≡ closing inRoom (now (outcomes .entry)) (run inRoom (now (outcomes .entry)) (updates (take n us)) (onRoom f (now (room .entry)))) ⌝ }
     ensures bounds { λ r. ⌜ r .count + due (r .held) ≤ f .count + n + due (f .held) ⌝ }
 {
-    let mut f = f;
-    let went = f.went;
-    let Went::Going = went else {
-        return close_repeater(f, outcomes, room);
+    let chip = f.chip;
+    let mut shadow = chip.shadow;
+    let mut attempted = chip.attempted;
+    let mut doubtful = chip.doubtful;
+    let l = log_of(f);
+    let written = write_list(
+        l,
+        chip.address,
+        us,
+        n,
+        &mut shadow,
+        &mut attempted,
+        &mut doubtful,
+        outcomes,
+        room,
+    );
+    let next = Chip {
+        address: chip.address,
+        shadow: shadow,
+        attempted: attempted,
+        doubtful: doubtful,
     };
-    let mut i = 0;
-    while i < n {
-        f = write_update(f, us[i], outcomes, room);
-        let went = f.went;
-        let Went::Going = went else {
-            return close_repeater(f, outcomes, room);
-        };
-        i += 1;
-    }
-    f
+    flow_of(written, next)
 }
 
 // `with_repeater` over a list of updates: open, steps, close.
@@ -527,119 +539,141 @@ fn chunk_bytes(bs: [u8; 27], at: usize, size: usize) -> [u8; 8]
     bytes
 }
 
-fn send_chunk(f: Flow, bs: [u8; 27], k: Chunk, outcomes: &[u8], room: &mut [u8]) -> Flow
-    requires { ⌜ (within k ≡ true) × (f .count < length (now outcomes)) × (16 * f .count + 16 ≤ length (now room)) ⌝ }
-    ensures { λ r. ⌜ onRoom r (now (room .exit)) ≡ step inRoom (now (outcomes .entry)) (chunkStep bs k) (onRoom f (now (room .entry))) ⌝ }
-    ensures bounds { λ r. ⌜ r .count + due (r .held) ≤ f .count + 1 + due (f .held) ⌝ }
+fn send_chunk(
+    l: Log,
+    address: u8,
+    bs: [u8; 27],
+    k: Chunk,
+    attempted: &mut [u8; 27],
+    doubtful: &mut [bool; 27],
+    outcomes: &[u8],
+    room: &mut [u8],
+) -> Log
+    requires { ⌜ (within k ≡ true) × (l .count < length (now outcomes)) × (16 * l .count + 16 ≤ length (now room)) ⌝ }
+    ensures { λ r. ⌜ ((shadow : List ℕ) → onLists address shadow (now (attempted .exit)) (now (doubtful .exit)) r (now (room .exit))
+        ≡ step inRoom (now (outcomes .entry)) (chunkStep bs k)
+        (onLists address shadow (now (attempted .entry)) (now (doubtful .entry)) l (now (room .entry)))) ⌝ }
+    ensures bounds { λ r. ⌜ r .count + due (r .held) ≤ l .count + 1 + due (l .held) ⌝ }
 {
     let at = k.at;
     let size = k.size;
     let bytes = chunk_bytes(bs, at, size);
-    send(f, size as u8 + 1, bytes, outcomes, room)
+    send(
+        l,
+        address,
+        size as u8 + 1,
+        bytes,
+        attempted,
+        doubtful,
+        outcomes,
+        room,
+    )
 }
 
-// The chunks of the table from `from` to `to`, behind an open repeater.
-fn send_chunks(
-    f: Flow,
+// "chunks (7, 7, 2, then 7, 4)": `i2c_write_tuner` sends at most seven registers in one write. No loop: each write has its numbers in the code.
+fn first_chunks(
+    l: Log,
+    address: u8,
     bs: [u8; 27],
-    from: usize,
-    to: usize,
+    attempted: &mut [u8; 27],
+    doubtful: &mut [bool; 27],
     outcomes: &[u8],
     room: &mut [u8],
-) -> Flow
-    requires { ⌜ (from ≤ to) × (to ≤ 5)
-        × (f .count + (to - from) + due (f .held) ≤ length (now outcomes)) × (16 * (f .count + (to - from) + due (f .held)) ≤ length (now room)) ⌝ }
-    ensures { λ r. ⌜ onRoom r (now (room .exit))
-        ≡ closing inRoom (now (outcomes .entry))
-        (run inRoom (now (outcomes .entry)) (map (chunkStep bs) (drop from (take to chunkTable))) (onRoom f (now (room .entry)))) ⌝ }
-    ensures bounds { λ r. ⌜ r .count + due (r .held) ≤ f .count + (to - from) + due (f .held) ⌝ }
+) -> Log
+    requires { ⌜ (l .count + 3 + due (l .held) ≤ length (now outcomes)) × (16 * (l .count + 3 + due (l .held)) ≤ length (now room)) ⌝ }
+    ensures { λ r. ⌜ ((shadow : List ℕ) → onLists address shadow (now (attempted .exit)) (now (doubtful .exit)) r (now (room .exit))
+        ≡ run inRoom (now (outcomes .entry)) (map (chunkStep bs) (drop 0 (take 3 chunkTable)))
+        (onLists address shadow (now (attempted .entry)) (now (doubtful .entry)) l (now (room .entry)))) ⌝ }
+    ensures bounds { λ r. ⌜ r .count + due (r .held) ≤ l .count + 3 + due (l .held) ⌝ }
 {
-    let mut f = f;
-    let went = f.went;
-    let Went::Going = went else {
-        return close_repeater(f, outcomes, room);
-    };
-    let chunks = CHUNKS;
-    let mut i = from;
-    while i < to {
-        f = send_chunk(f, bs, chunks[i], outcomes, room);
-        let went = f.went;
-        let Went::Going = went else {
-            return close_repeater(f, outcomes, room);
-        };
-        i += 1;
-    }
-    f
+    let one = Chunk { at: 0, size: 7 };
+    let two = Chunk { at: 7, size: 7 };
+    let three = Chunk { at: 14, size: 2 };
+    let l = send_chunk(l, address, bs, one, attempted, doubtful, outcomes, room);
+    let l = send_chunk(l, address, bs, two, attempted, doubtful, outcomes, room);
+    send_chunk(l, address, bs, three, attempted, doubtful, outcomes, room)
 }
 
-// `i2c_write_tuner` of the chunks from `from` to `to`.
-pub fn i2c_write_tuner(
-    f: Flow,
+// The last two of them.
+fn last_chunks(
+    l: Log,
+    address: u8,
     bs: [u8; 27],
-    from: usize,
-    to: usize,
+    attempted: &mut [u8; 27],
+    doubtful: &mut [bool; 27],
     outcomes: &[u8],
     room: &mut [u8],
-) -> Flow
-    requires { ⌜ (from ≤ to) × (to ≤ 5)
-        × (f .count + (to - from) + 2 ≤ length (now outcomes)) × (16 * (f .count + (to - from) + 2) ≤ length (now room)) ⌝ }
-    ensures { λ r. ⌜ onRoom r (now (room .exit)) ≡ run inRoom (now (outcomes .entry)) (tunerWrite bs from to) (onRoom f (now (room .entry))) ⌝ }
-    ensures bounds { λ r. ⌜ r .count + due (r .held) ≤ f .count + (to - from) + 2 ⌝ }
+) -> Log
+    requires { ⌜ (l .count + 2 + due (l .held) ≤ length (now outcomes)) × (16 * (l .count + 2 + due (l .held)) ≤ length (now room)) ⌝ }
+    ensures { λ r. ⌜ ((shadow : List ℕ) → onLists address shadow (now (attempted .exit)) (now (doubtful .exit)) r (now (room .exit))
+        ≡ run inRoom (now (outcomes .entry)) (map (chunkStep bs) (drop 3 (take 5 chunkTable)))
+        (onLists address shadow (now (attempted .entry)) (now (doubtful .entry)) l (now (room .entry)))) ⌝ }
+    ensures bounds { λ r. ⌜ r .count + due (r .held) ≤ l .count + 2 + due (l .held) ⌝ }
 {
-    let opened = open_repeater(f, outcomes, room);
-    let sent = send_chunks(opened, bs, from, to, outcomes, room);
-    close_repeater(sent, outcomes, room)
+    let four = Chunk { at: 16, size: 7 };
+    let five = Chunk { at: 23, size: 4 };
+    let l = send_chunk(l, address, bs, four, attempted, doubtful, outcomes, room);
+    send_chunk(l, address, bs, five, attempted, doubtful, outcomes, room)
 }
 
-// The first n of a list of plain steps behind an open repeater: a failed one closes it.
-fn log_part(l: Log, es: [Entry; 3], n: usize, outcomes: &[u8], room: &mut [u8]) -> Log
-    requires { ⌜ (n ≤ 3) × (l .count + n + due (l .held) ≤ length (now outcomes)) × (16 * (l .count + n + due (l .held)) ≤ length (now room)) ⌝ }
-    ensures { λ r. ⌜ ((chip : Chip) → onLog chip r (now (room .exit))
-        ≡ closing inRoom (now (outcomes .entry)) (run inRoom (now (outcomes .entry)) (map Plain (take n es)) (onLog chip l (now (room .entry))))) ⌝ }
-    ensures bounds { λ r. ⌜ r .count + due (r .held) ≤ l .count + n + due (l .held) ⌝ }
+// `i2c_write_tuner` of the first 16 registers.
+pub fn i2c_write_first(f: Flow, bs: [u8; 27], outcomes: &[u8], room: &mut [u8]) -> Flow
+    requires { ⌜ (f .count + 5 ≤ length (now outcomes)) × (16 * (f .count + 5) ≤ length (now room)) ⌝ }
+    ensures { λ r. ⌜ onRoom r (now (room .exit)) ≡ run inRoom (now (outcomes .entry)) (tunerWrite bs 0 3) (onRoom f (now (room .entry))) ⌝ }
+    ensures bounds { λ r. ⌜ r .count + due (r .held) ≤ f .count + 5 ⌝ }
 {
-    let mut l = l;
-    let went = l.went;
-    let Went::Going = went else {
-        return log_close(l, outcomes, room);
-    };
-    let mut i = 0;
-    while i < n {
-        l = log_plain(l, es[i], outcomes, room);
-        let went = l.went;
-        let Went::Going = went else {
-            return log_close(l, outcomes, room);
-        };
-        i += 1;
-    }
-    l
-}
-
-pub fn plain_part(f: Flow, es: [Entry; 3], n: usize, outcomes: &[u8], room: &mut [u8]) -> Flow
-    requires { ⌜ (n ≤ 3) × (f .count + n + due (f .held) ≤ length (now outcomes)) × (16 * (f .count + n + due (f .held)) ≤ length (now room)) ⌝ }
-    ensures { λ r. ⌜ onRoom r (now (room .exit))
-        ≡ closing inRoom (now (outcomes .entry)) (run inRoom (now (outcomes .entry)) (map Plain (take n es)) (onRoom f (now (room .entry)))) ⌝ }
-    ensures bounds { λ r. ⌜ r .count + due (r .held) ≤ f .count + n + due (f .held) ⌝ }
-{
-    let before = f.went;
-    let seen = f.seen;
-    let l = Log {
-        count: f.count,
-        went: before,
-        held: f.held,
-        seen: seen,
-    };
-    let next = log_part(l, es, n, outcomes, room);
     let chip = f.chip;
-    let after = next.went;
-    let sight = next.seen;
-    Flow {
-        chip: chip,
-        count: next.count,
-        went: after,
-        held: next.held,
-        seen: sight,
-    }
+    let shadow = chip.shadow;
+    let mut attempted = chip.attempted;
+    let mut doubtful = chip.doubtful;
+    let opened = log_open(log_of(f), outcomes, room);
+    let sent = first_chunks(
+        opened,
+        chip.address,
+        bs,
+        &mut attempted,
+        &mut doubtful,
+        outcomes,
+        room,
+    );
+    let closed = log_close(sent, outcomes, room);
+    let next = Chip {
+        address: chip.address,
+        shadow: shadow,
+        attempted: attempted,
+        doubtful: doubtful,
+    };
+    flow_of(closed, next)
+}
+
+// And of the other 11.
+pub fn i2c_write_last(f: Flow, bs: [u8; 27], outcomes: &[u8], room: &mut [u8]) -> Flow
+    requires { ⌜ (f .count + 4 ≤ length (now outcomes)) × (16 * (f .count + 4) ≤ length (now room)) ⌝ }
+    ensures { λ r. ⌜ onRoom r (now (room .exit)) ≡ run inRoom (now (outcomes .entry)) (tunerWrite bs 3 5) (onRoom f (now (room .entry))) ⌝ }
+    ensures bounds { λ r. ⌜ r .count + due (r .held) ≤ f .count + 4 ⌝ }
+{
+    let chip = f.chip;
+    let shadow = chip.shadow;
+    let mut attempted = chip.attempted;
+    let mut doubtful = chip.doubtful;
+    let opened = log_open(log_of(f), outcomes, room);
+    let sent = last_chunks(
+        opened,
+        chip.address,
+        bs,
+        &mut attempted,
+        &mut doubtful,
+        outcomes,
+        room,
+    );
+    let closed = log_close(sent, outcomes, room);
+    let next = Chip {
+        address: chip.address,
+        shadow: shadow,
+        attempted: attempted,
+        doubtful: doubtful,
+    };
+    flow_of(closed, next)
 }
 
 // Which lent slice is too short for a call of at most n entries and m replies: 8, 9, 10, or 0 where all suffice.

@@ -1,49 +1,27 @@
--- `chip::open_repeater` meets its contract. Each return is one law of the definition, with what the calls before it ensure. Assumes nothing.
+-- `chip::open_repeater` meets its contract: the log's, at this chip. Assumes nothing.
 use native.Mathlib.Omega.{arith}
-use lib.Dec.{eqb}
-use lib.ListN.{getD}
-use denote.Ref.{now}
-use Rattle.chip.proofs.Laws.{due-one, idle, made}
-use mathlib.Core.Path.{refl, ap, _∙_}
-use Rattle.chip.specs.Steps.{goes, inRoom}
+use Rattle.chip.specs.Steps.{inRoom, step}
 use Rattle.chip.specs.Steps.Step.{Open}
+use Rattle.chip.proofs.Rooms.{flow-count, flow-due, log-count, log-due, over}
 use borrow.Author.Needs.{needs}
 use Rattle.chip.proofs.open_repeater.Statement.{statement}
 use Rattle.chip.proofs.open_repeater.Tie as tie
 
-enum-told : tie.Need-enum-told
-enum-told c = search needs
+log-of-requires : tie.Need-log-of-requires
+log-of-requires c κs = search needs
 
-enum-told-2 : tie.Need-enum-told-2
-enum-told-2 c = search needs
+log-open-requires : tie.Need-log-open-requires
+log-open-requires c κs = omega (arith, log-count (c .before .before .before .before .args .f) _ (c .before .log-of .ensures), log-due (c .before .before .before .before .args .f) _ (c .before .log-of .ensures), c .before .before .before .before .pre)
 
-returns : tie.Need-returns
-returns c = (idle inRoom _ Open _ (ap goes (c .enum-told2 .given .1)), omega (arith, due-one (c .before .before .before .before .args .f .held)))
-
-shared-slice-read-ok : tie.Need-shared-slice-read-ok
-shared-slice-read-ok c = search needs
-
-told-requires : tie.Need-told-requires
-told-requires c κs = search needs
-
-lay-requires : tie.Need-lay-requires
-lay-requires c κs = search needs
+flow-of-requires : tie.Need-flow-of-requires
+flow-of-requires c κs = search needs
 
 same-length : tie.Need-same-length
 same-length c = search needs
 
-returns-2 : tie.Need-returns-2
-returns-2 c = (c .before .before .lay .ensures .0 ∙ made inRoom _ Open _ _ _ refl (c .before .before .before .before .told .ensures) (ap goes (c .before .before .before .before .before .before .before .enum-told .given .1)), omega (arith, c .before .before .lay .ensures .1, due-one (eqb (getD (now (c .before .before .before .before .before .before .before .before .before .before .before .args .outcomes)) (c .before .before .before .before .before .before .before .before .before .before .before .args .f .count) 0) 0)))
+returns : tie.Need-returns
+returns c = (over (step inRoom _ Open) _ _ _ _ _ _ (c .before .before .before .before .before .log-of .ensures) (c .before .before .before .log-open .ensures .0) (c .flow-of .ensures), omega (arith, c .before .before .before .log-open .ensures .1, log-count (c .before .before .before .before .before .before .before .before .args .f) _ (c .before .before .before .before .before .log-of .ensures), log-due (c .before .before .before .before .before .before .before .before .args .f) _ (c .before .before .before .before .before .log-of .ensures), flow-count _ (c .before .before .before .before .before .before .before .before .args .f .chip) _ (c .flow-of .ensures), flow-due _ (c .before .before .before .before .before .before .before .before .args .f .chip) _ (c .flow-of .ensures)))
 
 pub open-repeater-spec : {M : Type 1} → statement M
 open-repeater-spec =
-    tie.close
-    (tie.spec
-    enum-told
-    enum-told-2
-    returns
-    shared-slice-read-ok
-    told-requires
-    lay-requires
-    same-length
-    returns-2)
+    tie.close (tie.spec log-of-requires log-open-requires flow-of-requires same-length returns)

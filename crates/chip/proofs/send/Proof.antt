@@ -2,6 +2,7 @@
 use mathlib.Core.Path.{ap, _∙_}
 use Rattle.chip.specs.Steps.{goes, inRoom}
 use Rattle.chip.specs.Steps.Step.{Send}
+use Rattle.chip.proofs.Attempted.{stored}
 use Rattle.chip.proofs.Laws.{idle, made}
 use borrow.Author.Needs.{needs}
 use Rattle.chip.proofs.send.Statement.{statement}
@@ -14,7 +15,7 @@ enum-told-2 : tie.Need-enum-told-2
 enum-told-2 c = search needs
 
 returns : tie.Need-returns
-returns c = (idle inRoom _ (Send _ _) _ (ap goes (c .enum-told2 .given .1)), search needs)
+returns c = (λ shadow. idle inRoom _ (Send _ _) _ (ap goes (c .enum-told2 .given .1)), search needs)
 
 shared-slice-read-ok : tie.Need-shared-slice-read-ok
 shared-slice-read-ok c = search needs
@@ -25,14 +26,14 @@ attempt-requires c κs = search needs
 told-requires : tie.Need-told-requires
 told-requires c κs = search needs
 
-lay-requires : tie.Need-lay-requires
-lay-requires c κs = search needs
+log-entry-requires : tie.Need-log-entry-requires
+log-entry-requires c κs = search needs
 
 same-length : tie.Need-same-length
 same-length c = search needs
 
 returns-2 : tie.Need-returns-2
-returns-2 c = (c .before .before .lay .ensures .0 ∙ made inRoom _ (Send _ _) _ _ _ (c .before .before .before .before .before .attempt .ensures) (c .before .before .before .before .told .ensures) (ap goes (c .before .before .before .before .before .before .before .before .enum-told .given .1)), search needs)
+returns-2 c = (λ shadow. c .before .before .log-entry .ensures .0 _ ∙ made inRoom _ (Send _ _) _ _ _ (stored _ shadow _ _ _ _ _ _ _ (c .before .before .before .before .before .attempt .ensures .0) (c .before .before .before .before .before .attempt .ensures .1)) (c .before .before .before .before .told .ensures) (ap goes (c .before .before .before .before .before .before .before .before .before .enum-told .given .1)), search needs)
 
 pub send-spec : {M : Type 1} → statement M
 send-spec =
@@ -44,6 +45,6 @@ send-spec =
     shared-slice-read-ok
     attempt-requires
     told-requires
-    lay-requires
+    log-entry-requires
     same-length
     returns-2)

@@ -21,13 +21,13 @@ add-send : tie.Need-add-send
 add-send c = let k = c .before .before .before .args .k in let s : 1 ≤ k .size = some k (c .before .before .before .pre .0) in let t : k .size ≤ 7 = seven k (c .before .before .before .pre .0) in let u : k .at + k .size ≤ 27 = inside k (c .before .before .before .pre .0) in omega arith
 
 send-requires : tie.Need-send-requires
-send-requires c κs = let k = c .before .before .before .before .args .k in let s : 1 ≤ k .size = some k (c .before .before .before .before .pre .0) in let t : k .size ≤ 7 = seven k (c .before .before .before .before .pre .0) in let u : k .at + k .size ≤ 27 = inside k (c .before .before .before .before .pre .0) in let r : getD (c .before .chunk-bytes .result) 0 0 ≡ 5 + k .at = ap (λ (l : List ℕ). getD l 0 0) (c .before .chunk-bytes .ensures) ∙ first-register _ _ _ in omega arith
+send-requires c κs = let k = c .before .before .before .before .before .before .args .k in let s : 1 ≤ k .size = some k (c .before .before .before .before .before .before .pre .0) in let t : k .size ≤ 7 = seven k (c .before .before .before .before .before .before .pre .0) in let u : k .at + k .size ≤ 27 = inside k (c .before .before .before .before .before .before .pre .0) in let r : getD (c .before .before .before .chunk-bytes .result) 0 0 ≡ 5 + k .at = ap (λ (l : List ℕ). getD l 0 0) (c .before .before .before .chunk-bytes .ensures) ∙ first-register _ _ _ in omega arith
 
 same-length : tie.Need-same-length
 same-length c = search needs
 
 returns : tie.Need-returns
-returns c = (by-bytes inRoom _ _ _ _ _ _ (c .before .before .before .before .chunk-bytes .ensures) (c .before .before .send .ensures .0), search needs)
+returns c = (λ shadow. by-bytes inRoom _ _ _ _ _ _ (c .before .before .before .before .before .before .chunk-bytes .ensures) (c .before .before .send .ensures .0 shadow), search needs)
 
 pub send-chunk-spec : {M : Type 1} → statement M
 send-chunk-spec =

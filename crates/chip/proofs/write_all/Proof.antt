@@ -1,101 +1,30 @@
--- `chip::write_all` meets its contract. The loop's invariant: what is left, from here, gives what all of it gives from the start. Assumes nothing.
-use Rattle.chip.proofs.Laws.{stop, keep}
-use mathlib.Core.Path.{_≡_, refl, ap, _∙_}
-use borrow.Author.Needs.{needs}
+-- `chip::write_all` meets its contract: the list's, over the chip's lists. Assumes nothing.
 use native.Mathlib.Omega.{arith}
-use Prim.Native.Nat.{_≤_, _+_, _-_}
-use mathlib.Core.Bool.{true}
-use lib.ListN.{length, take, drop}
-use Rattle.chip.specs.Steps.{due, goes, inRange, inRoom, onRoom, run, updates, updateStep}
-use Rattle.chip.proofs.Lists.{every-take, every-inner, inner-update, turn, end}
+use lib.ListN.{take}
+use denote.Ref.{now}
+use Rattle.chip.specs.Steps.{Line, Logged, closing, inRoom, run, updates}
+use Rattle.chip.proofs.Rooms.{flow-count, flow-due, log-count, log-due, over-lists}
+use borrow.Author.Needs.{needs}
 use Rattle.chip.proofs.write_all.Statement.{statement}
 use Rattle.chip.proofs.write_all.Tie as tie
 
-abbrev Inv-loop : tie.InvT-loop
-Inv-loop n outcomes room₀ us f₀ i₀ room f i = (i ≤ n) × ((length room ≡ length room₀) × ((length us ≡ 16) × ((f .count + due (f .held) ≤ f₀ .count + i + due (f₀ .held)) × ((goes (f .went) ≡ true) × (run inRoom outcomes (updates (drop i (take n us))) (onRoom f room) ≡ run inRoom outcomes (updates (take n us)) (onRoom f₀ room₀))))))
+log-of-requires : tie.Need-log-of-requires
+log-of-requires c κs = search needs
 
-abbrev μ-loop : tie.MeasureT-loop
-μ-loop n outcomes room₀ us f₀ i₀ room f i = n - i
+write-list-requires : tie.Need-write-list-requires
+write-list-requires c κs = (c .before .before .before .before .before .before .before .before .before .before .before .pre .0, c .before .before .before .before .before .before .before .before .before .before .before .pre .1, omega (arith, log-count (c .before .before .before .before .before .before .before .before .before .before .before .args .f) _ (c .before .before .before .before .log-of .ensures), log-due (c .before .before .before .before .before .before .before .before .before .before .before .args .f) _ (c .before .before .before .before .log-of .ensures), c .before .before .before .before .before .before .before .before .before .before .before .pre .2), omega (arith, log-count (c .before .before .before .before .before .before .before .before .before .before .before .args .f) _ (c .before .before .before .before .log-of .ensures), log-due (c .before .before .before .before .before .before .before .before .before .before .before .args .f) _ (c .before .before .before .before .log-of .ensures), c .before .before .before .before .before .before .before .before .before .before .before .pre .3))
 
-enum-told : tie.Need-enum-told Inv-loop μ-loop
-enum-told c = search needs
+flow-of-requires : tie.Need-flow-of-requires
+flow-of-requires c κs = search needs
 
-enum-told-2 : tie.Need-enum-told-2 Inv-loop μ-loop
-enum-told-2 c = search needs
-
-close-repeater-requires : tie.Need-close-repeater-requires Inv-loop μ-loop
-close-repeater-requires c κs = search needs
-
-same-length : tie.Need-same-length Inv-loop μ-loop
+same-length : tie.Need-same-length
 same-length c = search needs
 
-returns : tie.Need-returns Inv-loop μ-loop
-returns c = (c .before .before .close-repeater .ensures .0 ∙ stop inRoom _ (updates (take (c .before .before .before .before .before .before .before .before .args .n) (c .before .before .before .before .before .before .before .before .args .t2))) _ _ (ap goes (c .before .before .before .before .enum-told2 .given .1)) (every-inner updateStep inner-update (take (c .before .before .before .before .before .before .before .before .args .n) (c .before .before .before .before .before .before .before .before .args .t2))) refl, search needs)
-
-loop-holds : tie.Need-loop-holds Inv-loop μ-loop
-loop-holds c = (search needs, (refl, (search needs, (search needs, (ap goes (c .enum-told .given .1), refl)))))
-
-mul-write-update : tie.Need-mul-write-update Inv-loop μ-loop
-mul-write-update c = search needs
-
-array-copy-out-write-update : tie.Need-array-copy-out-write-update Inv-loop μ-loop
-array-copy-out-write-update c = search needs
-
-write-update-requires : tie.Need-write-update-requires Inv-loop μ-loop
-write-update-requires c κs = (every-take inRange (c .before .before .before .before .before .before .before .before .args .t2) (c .before .before .before .before .before .before .before .before .args .n) (c .before .before .before .loop .i) _ (search needs) (search needs) (c .before .before .before .before .before .before .before .before .pre .1), search needs, search needs)
-
-enum-told-3 : tie.Need-enum-told-3 Inv-loop μ-loop
-enum-told-3 c = search needs
-
-enum-told-4 : tie.Need-enum-told-4 Inv-loop μ-loop
-enum-told-4 c = search needs
-
-close-repeater-requires-2 : tie.Need-close-repeater-requires-2 Inv-loop μ-loop
-close-repeater-requires-2 c κs = search needs
-
-same-length-2 : tie.Need-same-length-2 Inv-loop μ-loop
-same-length-2 c = search needs
-
-returns-2 : tie.Need-returns-2 Inv-loop μ-loop
-returns-2 c = (c .before .before .close-repeater2 .ensures .0 ∙ stop inRoom _ (updates (drop (c .before .before .before .before .before .before .before .before .before .before .before .before .loop .i + 1) (take (c .before .before .before .before .before .before .before .before .before .before .before .before .before .before .before .before .before .args .n) (c .before .before .before .before .before .before .before .before .before .before .before .before .before .before .before .before .before .args .t2)))) _ _ (ap goes (c .before .before .before .before .enum-told4 .given .1)) (every-inner updateStep inner-update (drop (c .before .before .before .before .before .before .before .before .before .before .before .before .loop .i + 1) (take (c .before .before .before .before .before .before .before .before .before .before .before .before .before .before .before .before .before .args .n) (c .before .before .before .before .before .before .before .before .before .before .before .before .before .before .before .before .before .args .t2)))) (ap (run inRoom _ (updates (drop (c .before .before .before .before .before .before .before .before .before .before .before .before .loop .i + 1) (take (c .before .before .before .before .before .before .before .before .before .before .before .before .before .before .before .before .before .args .n) (c .before .before .before .before .before .before .before .before .before .before .before .before .before .before .before .before .before .args .t2))))) (c .before .before .before .before .before .before .before .before .write-update .ensures .0) ∙ turn inRoom _ updateStep (c .before .before .before .before .before .before .before .before .before .before .before .before .before .before .before .before .before .args .t2) (c .before .before .before .before .before .before .before .before .before .before .before .before .before .before .before .before .before .args .n) (c .before .before .before .before .before .before .before .before .before .before .before .before .loop .i) _ _ (search needs) (omega (arith, c .before .before .before .before .before .before .before .before .before .before .before .before .before .before .before .before .before .pre .0)) ∙ c .before .before .before .before .before .before .before .before .before .before .before .before .loop .inv .1 .1 .1 .1 .1), omega (arith, c .before .before .close-repeater2 .ensures .1, c .before .before .before .before .before .before .before .before .write-update .ensures .1, c .before .before .before .before .before .before .before .before .before .before .before .before .loop .inv, c .before .before .before .before .before .before .before .before .before .before .before .loop-test .taken))
-
-add-i : tie.Need-add-i Inv-loop μ-loop
-add-i c = search needs
-
-loop-less : tie.Need-loop-less Inv-loop μ-loop
-loop-less c = search needs
-
-loop-again : tie.Need-loop-again Inv-loop μ-loop
-loop-again c = (search needs, (search needs, (search needs, (search needs, (ap goes (c .enum-told3 .given .1), ap (run inRoom _ (updates (drop (c .before .before .before .before .before .before .before .before .loop .i + 1) (take (c .before .before .before .before .before .before .before .before .before .before .before .before .before .args .n) (c .before .before .before .before .before .before .before .before .before .before .before .before .before .args .t2))))) (c .before .before .before .before .write-update .ensures .0) ∙ turn inRoom _ updateStep (c .before .before .before .before .before .before .before .before .before .before .before .before .before .args .t2) (c .before .before .before .before .before .before .before .before .before .before .before .before .before .args .n) (c .before .before .before .before .before .before .before .before .loop .i) _ _ (search needs) (search needs) ∙ c .before .before .before .before .before .before .before .before .loop .inv .1 .1 .1 .1 .1)))))
-
-same-length-3 : tie.Need-same-length-3 Inv-loop μ-loop
-same-length-3 c = search needs
-
-returns-3 : tie.Need-returns-3 Inv-loop μ-loop
-returns-3 c = (keep inRoom _ _ _ (end inRoom _ updateStep (c .before .before .before .before .before .before .args .t2) (c .before .before .before .before .before .before .args .n) (c .before .loop .i) _ (search needs) ∙ c .before .loop .inv .1 .1 .1 .1 .1) (c .before .loop .inv .1 .1 .1 .1 .0), search needs)
+returns : tie.Need-returns
+returns c =
+    let os = now (c .before .before .before .before .before .before .before .before .before .before .before .before .before .before .before .args .outcomes) in
+    (over-lists (λ (w : Line Logged). closing inRoom os (run inRoom os (updates (take (c .before .before .before .before .before .before .before .before .before .before .before .before .before .before .before .args .n) (c .before .before .before .before .before .before .before .before .before .before .before .before .before .before .before .args .us))) w)) (c .before .before .before .before .before .before .before .before .before .before .before .before .before .before .before .args .f) _ _ _ _ _ _ _ _ (c .before .before .before .before .before .before .before .before .log-of .ensures) (c .before .before .before .write-list .ensures .0) (c .flow-of .ensures), omega (arith, log-count (c .before .before .before .before .before .before .before .before .before .before .before .before .before .before .before .args .f) _ (c .before .before .before .before .before .before .before .before .log-of .ensures), log-due (c .before .before .before .before .before .before .before .before .before .before .before .before .before .before .before .args .f) _ (c .before .before .before .before .before .before .before .before .log-of .ensures), c .before .before .before .write-list .ensures .1, flow-count _ _ _ (c .flow-of .ensures), flow-due _ _ _ (c .flow-of .ensures)))
 
 pub write-all-spec : {M : Type 1} → statement M
 write-all-spec =
-    tie.close
-    (tie.spec
-    Inv-loop
-    μ-loop
-    enum-told
-    enum-told-2
-    close-repeater-requires
-    same-length
-    returns
-    loop-holds
-    mul-write-update
-    array-copy-out-write-update
-    write-update-requires
-    enum-told-3
-    enum-told-4
-    close-repeater-requires-2
-    same-length-2
-    returns-2
-    add-i
-    loop-less
-    loop-again
-    same-length-3
-    returns-3)
+    tie.close (tie.spec log-of-requires write-list-requires flow-of-requires same-length returns)

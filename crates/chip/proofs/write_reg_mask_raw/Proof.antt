@@ -1,6 +1,6 @@
 -- `chip::write_reg_mask_raw` meets its contract. Each return is one law of the definition, with what the calls before it ensure. Assumes nothing.
 use Rattle.chip.proofs.Laws.{idle, made-mask}
-use mathlib.Core.Path.{ap, _∙_}
+use mathlib.Core.Path.{refl, ap, _∙_}
 use Rattle.chip.specs.Steps.{goes, inRoom}
 use Rattle.chip.specs.Steps.Step.{Mask}
 use borrow.Author.Needs.{needs}
@@ -31,23 +31,26 @@ element-copy-out-mask-into c = search needs
 mask-into-requires : tie.Need-mask-into-requires
 mask-into-requires c κs = search needs
 
-element-write-chip : tie.Need-element-write-chip
-element-write-chip c = search needs
+element-write-shadow : tie.Need-element-write-shadow
+element-write-shadow c = search needs
 
-attempt-one-requires : tie.Need-attempt-one-requires
-attempt-one-requires c κs = search needs
+element-write-attempted : tie.Need-element-write-attempted
+element-write-attempted c = search needs
+
+element-write-doubtful : tie.Need-element-write-doubtful
+element-write-doubtful c = search needs
 
 told-requires : tie.Need-told-requires
 told-requires c κs = search needs
 
-lay-requires : tie.Need-lay-requires
-lay-requires c κs = search needs
+log-entry-requires : tie.Need-log-entry-requires
+log-entry-requires c κs = search needs
 
 same-length : tie.Need-same-length
 same-length c = search needs
 
 returns-2 : tie.Need-returns-2
-returns-2 c = (c .before .before .lay .ensures .0 ∙ made-mask inRoom _ _ _ _ _ _ _ _ (c .before .before .before .before .before .before .mask-into .ensures) (c .before .before .before .before .before .attempt-one .ensures) (c .before .before .before .before .told .ensures) (ap goes (c .before .before .before .before .before .before .before .before .before .before .enum-told .given .1)), search needs)
+returns-2 c = (c .before .before .log-entry .ensures .0 _ ∙ made-mask inRoom _ _ _ _ _ _ _ _ (c .before .before .before .before .before .mask-into .ensures) refl (c .before .before .before .before .told .ensures) (ap goes (c .before .before .before .before .before .before .before .before .enum-told .given .1)), search needs)
 
 pub write-reg-mask-raw-spec : {M : Type 1} → statement M
 write-reg-mask-raw-spec =
@@ -61,9 +64,10 @@ write-reg-mask-raw-spec =
     cast-index
     element-copy-out-mask-into
     mask-into-requires
-    element-write-chip
-    attempt-one-requires
+    element-write-shadow
+    element-write-attempted
+    element-write-doubtful
     told-requires
-    lay-requires
+    log-entry-requires
     same-length
     returns-2)
