@@ -8,7 +8,7 @@ ghost use lib.Ieee.{binary32, toBits};
 ghost use Prim.Native.Nat.{_+_, _≤_, _<_};
 ghost use lib.ListN.{length, take};
 ghost use Rattle.chip.specs.Calls.{called};
-ghost use Rattle.chip.specs.Steps.{allIn};
+ghost use Rattle.chip.specs.Steps.{allIn, goes};
 ghost use Rattle.r82xx.specs.Record.{endedBy, freshTuner, lockBy, madeOf, reloaded, soundBy, withCorrected, withNotch};
 ghost use Rattle.r82xx.specs.Calls.{bandwidthCall, bracketCall, gainCall, hzRefusal, ifCall, indexCall, initCall, keptNotch, keptPpm, pathCall, ppmAnswer, refusalOf, reloadCall, shadowCall, soundAnswer, stepCall, tableOf, tuneCall, wholeOf};
 use board::PathRead;
@@ -93,6 +93,16 @@ fn ended(cut: Tuner, whole: Tuner, went: Went, chip: Chip) -> Tuner
     };
     next.chip = chip;
     next
+}
+
+// "gain only when all are done". The number alone: two whole records to choose from cost more than the writes.
+fn kept_gain(went: Went, old: f32, new: f32) -> f32
+    ensures { λ r. ⌜ r ≡ pick (goes went) new old ⌝ }
+{
+    let Went::Going = went else {
+        return old;
+    };
+    new
 }
 
 // "2 frequency | hz 0; hz + IF over u64".
@@ -332,12 +342,38 @@ impl Tuner {
         ensures { λ r. ⌜ called (r .tuner) (now (room .exit)) (r .count) (r .answer)
             ≡ stepCall (now (outcomes .entry)) k self (now (room .entry)) ⌝ }
     {
-        let us = writes::gain_updates(k);
+        let number = self.refusal(0, 7, 0, room.len(), outcomes.len(), 0);
+        if number != 0 {
+            return Told {
+                tuner: self,
+                answer: Answer::Refused(number),
+                count: 0,
+            };
+        }
         let actual = gain::gain_at(k);
-        let old = self;
-        self.gain = actual;
         let bits = wire::bits_of(actual);
-        old.operate(old, self, Answer::Done(bits as u64), us, 5, outcomes, room)
+        let chip = self.chip;
+        let start = Flow {
+            chip: chip,
+            count: 0,
+            went: Went::Going,
+            held: false,
+            seen: Seen {
+                tries: 0,
+                locked: false,
+            },
+        };
+        let f = writes::gain_steps(start, k, outcomes, room);
+        let answered = chip::finish(f, Answer::Done(bits as u64), room);
+        let went = f.went;
+        let left = f.chip;
+        self.chip = left;
+        self.gain = kept_gain(went, self.gain, actual);
+        Told {
+            tuner: self,
+            answer: answered,
+            count: f.count,
+        }
     }
 
     pub fn set_gain(self, db: f32, outcomes: &[u8], room: &mut [u8]) -> Told

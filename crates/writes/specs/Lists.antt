@@ -2,11 +2,12 @@
 -- Assumes nothing.
 use Prim.Native.Nat.{ℕ}
 use mathlib.Core.Bool.{Bool, true, false}
-use mathlib.Core.List.{List, [], _∷_}
+use mathlib.Core.List.{List, [], _∷_, _++_}
 use lib.Dec.{leb}
 use Rattle.board.specs.declared.Path.{Path}
 use Rattle.board.specs.declared.Path.the-variants.{Hf, Vhf, Uhf}
 use Rattle.chip.specs.declared.Update.{Update}
+use Rattle.gain.specs.declared.GainEntry.{GainEntry}
 use Rattle.gain.specs.Table.{entryAt}
 
 abbrev pub pick : {A : Type 0} → Bool → A → A → A
@@ -35,15 +36,15 @@ ifUpdates hz =
 abbrev pub bandwidthUpdates : ℕ → List Update
 bandwidthUpdates hz = masked 0x0a (pick (leb hz 6_000_000) 0x08 (pick (leb hz 7_000_000) 0x06 0x00)) 0x0f ∷ []
 
--- `set_gain`, for the step of index k
+-- `set_gain`, for the step of index k: the loops off, then the step's three values
+abbrev pub byHand : List Update
+byHand = masked 0x05 0x10 0x10 ∷ masked 0x07 0x00 0x10 ∷ []
+
+abbrev pub stepValues : GainEntry → List Update
+stepValues g = masked 0x05 (g .lna) 0x0f ∷ masked 0x07 (g .mix) 0x0f ∷ masked 0x0c (g .vga) 0x0f ∷ []
+
 abbrev pub gainUpdates : ℕ → List Update
-gainUpdates k =
-    masked 0x05 0x10 0x10
-    ∷ masked 0x07 0x00 0x10
-    ∷ masked 0x05 (entryAt k .lna) 0x0f
-    ∷ masked 0x07 (entryAt k .mix) 0x0f
-    ∷ masked 0x0c (entryAt k .vga) 0x0f
-    ∷ []
+gainUpdates k = byHand ++ stepValues (entryAt k)
 
 -- `set_input_path`: cable 2; cable 1; air in
 abbrev pub pathUpdates : Path → List Update

@@ -6,12 +6,15 @@ ghost use mathlib.Core.List.{_++_};
 ghost use Prim.Native.Nat.{_+_, _*_, _≤_, _<_};
 ghost use lib.Dec.{leb};
 ghost use lib.ListN.{length, take};
-ghost use Rattle.chip.specs.Steps.{allIn, due, inRoom, onRoom, run};
-ghost use Rattle.writes.specs.Lists.{bandwidthUpdates, gainUpdates, ifUpdates, initUpdates, pathUpdates, pick};
+ghost use Rattle.chip.specs.Steps.{allIn, behind, due, inRoom, onLists, onRoom, run, updates};
+ghost use Rattle.writes.specs.Lists.{bandwidthUpdates, byHand, gainUpdates, ifUpdates, initUpdates, pathUpdates, pick, stepValues};
 ghost use Rattle.writes.specs.Programs.{initSteps, sendAll};
 use board::Path;
+use chip::Chip;
 use chip::Flow;
+use chip::Log;
 use chip::Update;
+use gain::GainEntry;
 
 pub const IF_FREQ_NARROW: u64 = 2_300_000;
 
@@ -129,45 +132,6 @@ pub fn bandwidth_updates(hz: u32) -> [Update; 16]
     [u; 16]
 }
 
-// 0x05: bits 0 to 3 are the LNA's gain, bits 5 and 6 the antenna's path, which the mask leaves.
-pub fn gain_updates(k: usize) -> [Update; 16]
-    requires { ⌜ k < 29 ⌝ }
-    ensures { λ r. ⌜ (take 5 r ≡ gainUpdates k) × (allIn (take 5 r) ≡ true) ⌝ }
-{
-    let cfg = gain::entry_at(k);
-    let mut us = [Update {
-        register: 0x05,
-        value: 0x10,
-        mask: 0x10,
-        past: false,
-    }; 16];
-    us[1] = Update {
-        register: 0x07,
-        value: 0x00,
-        mask: 0x10,
-        past: false,
-    };
-    us[2] = Update {
-        register: 0x05,
-        value: cfg.lna,
-        mask: 0x0f,
-        past: false,
-    };
-    us[3] = Update {
-        register: 0x07,
-        value: cfg.mix,
-        mask: 0x0f,
-        past: false,
-    };
-    us[4] = Update {
-        register: 0x0c,
-        value: cfg.vga,
-        mask: 0x0f,
-        past: false,
-    };
-    us
-}
-
 pub fn path_updates(path: Path) -> [Update; 16]
     ensures { λ r. ⌜ (take 2 r ≡ pathUpdates path) × (allIn (take 2 r) ≡ true) ⌝ }
 {
@@ -220,14 +184,174 @@ pub fn path_updates(path: Path) -> [Update; 16]
     }
 }
 
+// The loops that set the gain by themselves are off.
+fn gain_by_hand(
+    l: Log,
+    address: u8,
+    shadow: &mut [u8; 27],
+    attempted: &mut [u8; 27],
+    doubtful: &mut [bool; 27],
+    outcomes: &[u8],
+    room: &mut [u8],
+) -> Log
+    requires { ⌜ (l .count + 2 + due (l .held) ≤ length (now outcomes)) × (16 * (l .count + 2 + due (l .held)) ≤ length (now room)) ⌝ }
+    ensures { λ r. ⌜ onLists address (now (shadow .exit)) (now (attempted .exit)) (now (doubtful .exit)) r (now (room .exit))
+        ≡ run inRoom (now (outcomes .entry)) (updates byHand)
+        (onLists address (now (shadow .entry)) (now (attempted .entry)) (now (doubtful .entry)) l (now (room .entry))) ⌝ }
+    ensures bounds { λ r. ⌜ r .count + due (r .held) ≤ l .count + 2 + due (l .held) ⌝ }
+{
+    let lna = chip::write_reg_mask_raw(
+        l,
+        address,
+        0x05,
+        0x10,
+        0x10,
+        shadow,
+        attempted,
+        doubtful,
+        outcomes,
+        room,
+    );
+    chip::write_reg_mask_raw(
+        lna,
+        address,
+        0x07,
+        0x00,
+        0x10,
+        shadow,
+        attempted,
+        doubtful,
+        outcomes,
+        room,
+    )
+}
+
+// The step's three values. 0x05: bits 0 to 3 are the LNA's gain, bits 5 and 6 the antenna's path, which the mask leaves.
+fn gain_values(
+    l: Log,
+    address: u8,
+    cfg: GainEntry,
+    shadow: &mut [u8; 27],
+    attempted: &mut [u8; 27],
+    doubtful: &mut [bool; 27],
+    outcomes: &[u8],
+    room: &mut [u8],
+) -> Log
+    requires { ⌜ (l .count + 3 + due (l .held) ≤ length (now outcomes)) × (16 * (l .count + 3 + due (l .held)) ≤ length (now room)) ⌝ }
+    ensures { λ r. ⌜ onLists address (now (shadow .exit)) (now (attempted .exit)) (now (doubtful .exit)) r (now (room .exit))
+        ≡ run inRoom (now (outcomes .entry)) (updates (stepValues cfg))
+        (onLists address (now (shadow .entry)) (now (attempted .entry)) (now (doubtful .entry)) l (now (room .entry))) ⌝ }
+    ensures bounds { λ r. ⌜ r .count + due (r .held) ≤ l .count + 3 + due (l .held) ⌝ }
+{
+    let lna = chip::write_reg_mask_raw(
+        l,
+        address,
+        0x05,
+        cfg.lna,
+        0x0f,
+        shadow,
+        attempted,
+        doubtful,
+        outcomes,
+        room,
+    );
+    let mix = chip::write_reg_mask_raw(
+        lna,
+        address,
+        0x07,
+        cfg.mix,
+        0x0f,
+        shadow,
+        attempted,
+        doubtful,
+        outcomes,
+        room,
+    );
+    chip::write_reg_mask_raw(
+        mix,
+        address,
+        0x0c,
+        cfg.vga,
+        0x0f,
+        shadow,
+        attempted,
+        doubtful,
+        outcomes,
+        room,
+    )
+}
+
+// `set_gain`'s five writes, for the step of index k. No list and no loop: each write has its register in the code, so that most of it is worked out before it is run.
+fn gain_writes(
+    l: Log,
+    address: u8,
+    k: usize,
+    shadow: &mut [u8; 27],
+    attempted: &mut [u8; 27],
+    doubtful: &mut [bool; 27],
+    outcomes: &[u8],
+    room: &mut [u8],
+) -> Log
+    requires { ⌜ (k < 29) × (l .count + 5 + due (l .held) ≤ length (now outcomes)) × (16 * (l .count + 5 + due (l .held)) ≤ length (now room)) ⌝ }
+    ensures { λ r. ⌜ onLists address (now (shadow .exit)) (now (attempted .exit)) (now (doubtful .exit)) r (now (room .exit))
+        ≡ run inRoom (now (outcomes .entry)) (updates (gainUpdates k))
+        (onLists address (now (shadow .entry)) (now (attempted .entry)) (now (doubtful .entry)) l (now (room .entry))) ⌝ }
+    ensures bounds { λ r. ⌜ r .count + due (r .held) ≤ l .count + 5 + due (l .held) ⌝ }
+{
+    let cfg = gain::entry_at(k);
+    let manual = gain_by_hand(l, address, shadow, attempted, doubtful, outcomes, room);
+    gain_values(
+        manual,
+        address,
+        cfg,
+        shadow,
+        attempted,
+        doubtful,
+        outcomes,
+        room,
+    )
+}
+
+// `set_gain`, over a flow: one bracket.
+pub fn gain_steps(f: Flow, k: usize, outcomes: &[u8], room: &mut [u8]) -> Flow
+    requires { ⌜ (k < 29) × (f .count + 7 ≤ length (now outcomes)) × (16 * (f .count + 7) ≤ length (now room)) ⌝ }
+    ensures { λ r. ⌜ onRoom r (now (room .exit)) ≡ run inRoom (now (outcomes .entry)) (behind (updates (gainUpdates k))) (onRoom f (now (room .entry))) ⌝ }
+    ensures bounds { λ r. ⌜ r .count + due (r .held) ≤ f .count + 7 ⌝ }
+{
+    let chip = f.chip;
+    let mut shadow = chip.shadow;
+    let mut attempted = chip.attempted;
+    let mut doubtful = chip.doubtful;
+    let l = chip::log_of(f);
+    let opened = chip::log_open(l, outcomes, room);
+    let written = gain_writes(
+        opened,
+        chip.address,
+        k,
+        &mut shadow,
+        &mut attempted,
+        &mut doubtful,
+        outcomes,
+        room,
+    );
+    let closed = chip::log_close(written, outcomes, room);
+    let next = Chip {
+        address: chip.address,
+        shadow: shadow,
+        attempted: attempted,
+        doubtful: doubtful,
+    };
+    chip::flow_of(closed, next)
+}
+
 // All 27 registers, in two brackets.
 pub fn send_all(f: Flow, bs: [u8; 27], outcomes: &[u8], room: &mut [u8]) -> Flow
     requires { ⌜ (f .count + 9 ≤ length (now outcomes)) × (16 * (f .count + 9) ≤ length (now room)) ⌝ }
     ensures { λ r. ⌜ onRoom r (now (room .exit)) ≡ run inRoom (now (outcomes .entry)) (sendAll bs) (onRoom f (now (room .entry))) ⌝ }
     ensures bounds { λ r. ⌜ r .count + due (r .held) ≤ f .count + 9 ⌝ }
 {
-    let first = chip::i2c_write_tuner(f, bs, 0, 3, outcomes, room);
-    chip::i2c_write_tuner(first, bs, 3, 5, outcomes, room)
+    let first = chip::i2c_write_first(f, bs, outcomes, room);
+    chip::i2c_write_last(first, bs, outcomes, room)
 }
 
 // `initialize`, over a flow.

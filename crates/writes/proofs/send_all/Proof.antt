@@ -7,21 +7,21 @@ use borrow.Author.Needs.{needs}
 use Rattle.writes.proofs.send_all.Statement.{statement}
 use Rattle.writes.proofs.send_all.Tie as tie
 
-i2c-write-tuner-requires : tie.Need-i2c-write-tuner-requires
-i2c-write-tuner-requires c κs = search needs
+i2c-write-first-requires : tie.Need-i2c-write-first-requires
+i2c-write-first-requires c κs = search needs
 
-i2c-write-tuner-requires-2 : tie.Need-i2c-write-tuner-requires-2
-i2c-write-tuner-requires-2 c κs = search needs
+i2c-write-last-requires : tie.Need-i2c-write-last-requires
+i2c-write-last-requires c κs = search needs
 
 same-length : tie.Need-same-length
 same-length c = search needs
 
 returns : tie.Need-returns
-returns c = let a : c .before .before .before .before .before .before .i2c-write-tuner .result .count + due (c .before .before .before .before .before .before .i2c-write-tuner .result .held) ≤ c .before .before .before .before .before .before .before .before .before .before .args .f .count + 3 + 2 = c .before .before .before .before .before .before .i2c-write-tuner .ensures .1 in
-    let b : c .before .before .i2c-write-tuner2 .result .count + due (c .before .before .i2c-write-tuner2 .result .held) ≤ c .before .before .before .before .before .before .i2c-write-tuner .result .count + 2 + 2 = c .before .before .i2c-write-tuner2 .ensures .1 in
-    let most : c .before .before .i2c-write-tuner2 .result .count + due (c .before .before .i2c-write-tuner2 .result .held) ≤ c .before .before .before .before .before .before .before .before .before .before .args .f .count + 9 = omega arith in
-    (then inRoom _ (tunerWrite (c .before .before .before .before .before .before .before .before .before .before .args .bs) 0 3) (tunerWrite (c .before .before .before .before .before .before .before .before .before .before .args .bs) 3 5) _ _ _ (c .before .before .before .before .before .before .i2c-write-tuner .ensures .0) (c .before .before .i2c-write-tuner2 .ensures .0), most)
+returns c = let a : c .before .before .before .before .before .before .i2c-write-first .result .count + due (c .before .before .before .before .before .before .i2c-write-first .result .held) ≤ c .before .before .before .before .before .before .before .before .before .before .args .f .count + 5 = c .before .before .before .before .before .before .i2c-write-first .ensures .1 in
+    let b : c .before .before .i2c-write-last .result .count + due (c .before .before .i2c-write-last .result .held) ≤ c .before .before .before .before .before .before .i2c-write-first .result .count + 4 = c .before .before .i2c-write-last .ensures .1 in
+    let most : c .before .before .i2c-write-last .result .count + due (c .before .before .i2c-write-last .result .held) ≤ c .before .before .before .before .before .before .before .before .before .before .args .f .count + 9 = omega arith in
+    (then inRoom _ (tunerWrite (c .before .before .before .before .before .before .before .before .before .before .args .bs) 0 3) (tunerWrite (c .before .before .before .before .before .before .before .before .before .before .args .bs) 3 5) _ _ _ (c .before .before .before .before .before .before .i2c-write-first .ensures .0) (c .before .before .i2c-write-last .ensures .0), most)
 
 pub send-all-spec : {M : Type 1} → statement M
 send-all-spec =
-    tie.close (tie.spec i2c-write-tuner-requires i2c-write-tuner-requires-2 same-length returns)
+    tie.close (tie.spec i2c-write-first-requires i2c-write-last-requires same-length returns)
