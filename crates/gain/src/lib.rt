@@ -7,13 +7,14 @@ ghost use Prim.Native.Nat.{_^_, _<_, min};
 ghost use lib.IntN.{pos};
 ghost use lib.Ieee as Ieee;
 ghost use Rattle.gain.specs.Product.{gainOf, tenthsOf, wholePart};
-ghost use Rattle.gain.specs.Steps.{chosenOf, clamped, distance, nearestOf, stepAt, steps};
+ghost use Rattle.gain.specs.Steps.{chosenOf, clamped, nearestOf, stepAt, steps};
 ghost use Rattle.gain.specs.Table.{entryAt};
 
 mod tables;
 
 use tables::GAIN_STEPS;
 use tables::GAIN_TABLE;
+use tables::MIDDLES;
 
 // What a step writes to the low noise amplifier, the mixer and the variable gain amplifier.
 pub struct GainEntry {
@@ -74,32 +75,19 @@ fn step(k: usize) -> u16
     GAIN_STEPS[k]
 }
 
-fn between(a: u32, b: u32) -> u32
-    ensures { λ r. ⌜ r ≡ distance a (pos b) ⌝ }
-{
-    if a < b {
-        return b - a;
-    }
-    a - b
-}
-
-// `min_by_key` over the steps: a later one is taken only where it is nearer.
+// `min_by_key` over the steps: they ascend, so the nearest one's index is how many middles lie below t (on a tie t is a middle, and the lower step's).
+// A loop that only counts, with no early return, is one that the compiler can run over several entries at once.
 fn nearest_up(t: u32) -> usize
     ensures { λ r. ⌜ r ≡ nearestOf (pos t) ⌝ }
 {
-    let table = GAIN_STEPS;
-    let mut best: usize = 0;
-    let mut least = between(0, t);
+    let table = MIDDLES;
+    let mut n: u32 = 0;
     let mut k: usize = 0;
-    while k < 29 {
-        let far = between(table[k] as u32, t);
-        if far < least {
-            best = k;
-            least = far;
-        }
+    while k < 28 {
+        n += (table[k] < t) as u32;
         k += 1;
     }
-    best
+    n as usize
 }
 
 // The Rust's difference overflows far below zero; every t below zero is nearest to step 0.

@@ -1,4 +1,4 @@
-// The tables of gain as in src/tuners/r82xx.rs.
+// The tables of gain as in src/tuners/r82xx.rs, and the middles between the steps.
 use crate::GainEntry;
 
 // In tenths of a dB.
@@ -32,6 +32,38 @@ pub const GAIN_STEPS: [u16; 29] = [
     445,
     480,
     496,
+];
+
+// Half the sum of each two neighbouring steps, cut: above it the upper one is nearer. Not in the Rust.
+pub const MIDDLES: [u32; 28] = [
+    4,
+    11,
+    20,
+    32,
+    57,
+    82,
+    106,
+    134,
+    150,
+    161,
+    181,
+    202,
+    218,
+    241,
+    267,
+    288,
+    312,
+    333,
+    351,
+    368,
+    379,
+    394,
+    411,
+    427,
+    436,
+    442,
+    462,
+    488,
 ];
 
 pub const GAIN_TABLE: [GainEntry; 29] = [

@@ -1,12 +1,12 @@
--- The loops over 27 bytes or flags: a loop that stores f of each element of a list, over any f, and one that stops at a byte that is no flag.
+-- The loops over 27 bytes or flags: a loop that stores f of each element of a list, over any f, and one that looks whether all are flags.
 -- Assumes nothing.
 use Prim.Native.Nat.{ℕ, _+_, _<_, _≤_}
-use mathlib.Core.Path.{_≡_, _∙_}
+use mathlib.Core.Path.{_≡_, refl, _∙_}
 use mathlib.Core.List.{List, [], _∷_, map, append-nil}
-use mathlib.Core.Bool.{true, false}
+use mathlib.Core.Bool.{Bool, true, false, _&&_}
 use native.Mathlib.Omega.{arith}
 use native.Mathlib.Numerals.{add-one}
-use borrow.Author.Tests.{le-leb, lt-leb}
+use lib.Dec.{leb}
 use lib.ListN.{length, getD, set, drop, drop-of-length-le, length-map}
 use lib.Seq.{sets, sets-eq, drop-cons, drop-length}
 use Rattle.records.specs.Fields.{flagsOnly}
@@ -28,15 +28,13 @@ module _ {A B : Type 0} (f : A → B) where
   pub store-end : (s : List B) (i : ℕ) (from : List A) → length from ≤ i → s ≡ sets s i (map f (drop i from))
   store-end s i from h = rw (drop-of-length-le from h)
 
--- whether the bytes that are left are flags says it for all
-pub flags-on : (b : List ℕ) (i : ℕ) → i < length b → getD b i 0 ≤ 1 → flagsOnly (drop (i + 1) b) ≡ flagsOnly (drop i b)
+-- so far all are flags, and those that are left are: together that is said of all
+pub flags-turn : (ok : Bool) (b : List ℕ) (i : ℕ) → i < length b → ((ok && leb (getD b i 0) 1) && flagsOnly (drop (i + 1) b)) ≡ (ok && flagsOnly (drop i b))
 unfolding flagsOnly
-flags-on b i h one = rw (add-one, drop-cons b i 0 h, le-leb (getD b i 0) 1 one)
+flags-turn true b i h = rw (add-one, drop-cons b i 0 h)
+flags-turn false b i h = refl
 
-pub flags-stop : (b : List ℕ) (i : ℕ) → i < length b → 1 < getD b i 0 → false ≡ flagsOnly (drop i b)
+pub flags-end : (ok : Bool) (b : List ℕ) (i : ℕ) → length b ≤ i → ok ≡ (ok && flagsOnly (drop i b))
 unfolding flagsOnly
-flags-stop b i h more = rw (drop-cons b i 0 h, lt-leb (getD b i 0) 1 more)
-
-pub flags-end : (b : List ℕ) (i : ℕ) → length b ≤ i → true ≡ flagsOnly (drop i b)
-unfolding flagsOnly
-flags-end b i h = rw (drop-of-length-le b h)
+flags-end true b i h = rw (drop-of-length-le b h)
+flags-end false b i h = refl

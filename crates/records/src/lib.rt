@@ -116,19 +116,19 @@ fn flags_at(b: &[u8], at: usize) -> [bool; 27]
     flags
 }
 
+// No early return: a loop without one is one that the compiler can run over several bytes at once.
 fn flags_only(b: &[u8], at: usize) -> bool
     requires { ⌜ at + 27 ≤ length (now b) ⌝ }
     ensures { λ r. ⌜ r ≡ flagsOnly (take 27 (drop at (now (b .entry)))) ⌝ }
 {
     let image = bytes_at(b, at);
+    let mut ok = true;
     let mut i = 0;
     while i < 27 {
-        if 1 < image[i] {
-            return false;
-        }
+        ok = ok & (image[i] <= 1);
         i += 1;
     }
-    true
+    ok
 }
 
 fn flag_bytes(flags: [bool; 27]) -> [u8; 27]
