@@ -151,7 +151,7 @@ pub fn reset_steps(f: Flow, outcomes: &[u8], room: &mut [u8]) -> Flow
     ensures { λ r. ⌜ onRoom r (now (room .exit)) ≡ run inRoom (now (outcomes .entry)) resetSteps (onRoom f (now (room .entry))) ⌝ }
     ensures bounds { λ r. ⌜ r .count + due (r .held) ≤ f .count + 2 + due (f .held) ⌝ }
 {
-    device::access_all(f, RESET, 2, outcomes, room)
+    device::access_two(f, RESET, outcomes, room)
 }
 
 pub fn reset_demod(outcomes: &[u8], room: &mut [u8]) -> Handed
@@ -242,7 +242,7 @@ pub fn if_steps(f: Flow, hz: u32, xtal: u32, outcomes: &[u8], room: &mut [u8]) -
     ensures bounds { λ r. ⌜ r .count + due (r .held) ≤ f .count + 3 + due (f .held) ⌝ }
 {
     let rows = if_rows(hz, xtal);
-    device::access_all(f, rows, 3, outcomes, room)
+    device::access_three(f, rows, outcomes, room)
 }
 
 pub fn set_if_freq_xtal(hz: u32, xtal: u32, outcomes: &[u8], room: &mut [u8]) -> Handed
@@ -279,7 +279,7 @@ pub fn rate_steps(f: Flow, rate: u32, xtal: u32, outcomes: &[u8], room: &mut [u8
     ensures bounds { λ r. ⌜ r .count + due (r .held) ≤ f .count + 4 + due (f .held) ⌝ }
 {
     let rows = rate_rows(rate, xtal);
-    device::access_all(f, rows, 4, outcomes, room)
+    device::access_four(f, rows, outcomes, room)
 }
 
 pub fn set_sample_rate_xtal(rate: u32, xtal: u32, outcomes: &[u8], room: &mut [u8]) -> Handed
@@ -338,25 +338,9 @@ fn write_upward(
     ensures { λ r. ⌜ onRoom r (now (room .exit)) ≡ run inRoom (now (outcomes .entry)) (upward register (take n bytes)) (onRoom f (now (room .entry))) ⌝ }
     ensures bounds { λ r. ⌜ r .count + due (r .held) ≤ f .count + n + due (f .held) ⌝ }
 {
-    let before = f.went;
-    let seen = f.seen;
-    let l = Log {
-        count: f.count,
-        went: before,
-        held: f.held,
-        seen: seen,
-    };
+    let l = chip::log_of(f);
     let next = log_upward(l, register, bytes, n, outcomes, room);
-    let chip = f.chip;
-    let after = next.went;
-    let sight = next.seen;
-    Flow {
-        chip: chip,
-        count: next.count,
-        went: after,
-        held: next.held,
-        seen: sight,
-    }
+    chip::flow_of(next, f.chip)
 }
 
 fn power_steps(f: Flow, outcomes: &[u8], room: &mut [u8]) -> Flow

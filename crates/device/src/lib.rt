@@ -75,15 +75,6 @@ fn entry(a: Access) -> Entry
     }
 }
 
-pub fn one_access(f: Flow, a: Access, outcomes: &[u8], room: &mut [u8]) -> Flow
-    requires { ⌜ (f .count < length (now outcomes)) × (16 * f .count + 16 ≤ length (now room)) ⌝ }
-    ensures { λ r. ⌜ onRoom r (now (room .exit)) ≡ step inRoom (now (outcomes .entry)) (accessStep a) (onRoom f (now (room .entry))) ⌝ }
-    ensures bounds { λ r. ⌜ r .count + due (r .held) ≤ f .count + 1 + due (f .held) ⌝ }
-{
-    let e = entry(a);
-    chip::plain(f, e, outcomes, room)
-}
-
 pub fn log_access(l: Log, a: Access, outcomes: &[u8], room: &mut [u8]) -> Log
     requires { ⌜ (l .count < length (now outcomes)) × (16 * l .count + 16 ≤ length (now room)) ⌝ }
     ensures { λ r. ⌜ ((chip : Chip) → onLog chip r (now (room .exit))
@@ -92,6 +83,16 @@ pub fn log_access(l: Log, a: Access, outcomes: &[u8], room: &mut [u8]) -> Log
 {
     let e = entry(a);
     chip::log_plain(l, e, outcomes, room)
+}
+
+pub fn one_access(f: Flow, a: Access, outcomes: &[u8], room: &mut [u8]) -> Flow
+    requires { ⌜ (f .count < length (now outcomes)) × (16 * f .count + 16 ≤ length (now room)) ⌝ }
+    ensures { λ r. ⌜ onRoom r (now (room .exit)) ≡ step inRoom (now (outcomes .entry)) (accessStep a) (onRoom f (now (room .entry))) ⌝ }
+    ensures bounds { λ r. ⌜ r .count + due (r .held) ≤ f .count + 1 + due (f .held) ⌝ }
+{
+    let l = chip::log_of(f);
+    let next = log_access(l, a, outcomes, room);
+    chip::flow_of(next, f.chip)
 }
 
 // The first n of a list of accesses; those behind a failed one are not taken.
@@ -116,25 +117,50 @@ pub fn access_all(f: Flow, rows: [Access; 10], n: usize, outcomes: &[u8], room: 
         ≡ run inRoom (now (outcomes .entry)) (map accessStep (take n rows)) (onRoom f (now (room .entry))) ⌝ }
     ensures bounds { λ r. ⌜ r .count + due (r .held) ≤ f .count + n + due (f .held) ⌝ }
 {
-    let before = f.went;
-    let seen = f.seen;
-    let l = Log {
-        count: f.count,
-        went: before,
-        held: f.held,
-        seen: seen,
-    };
+    let l = chip::log_of(f);
     let next = log_all(l, rows, n, outcomes, room);
-    let chip = f.chip;
-    let after = next.went;
-    let sight = next.seen;
-    Flow {
-        chip: chip,
-        count: next.count,
-        went: after,
-        held: next.held,
-        seen: sight,
-    }
+    chip::flow_of(next, f.chip)
+}
+
+// A few accesses in a straight line, beside the loop: the compiler puts such a line in place and its constants fold, which a loop's do not.
+// Each of the three says its accesses itself, since two of them in a function of their own are not put in place.
+pub fn access_two(f: Flow, rows: [Access; 10], outcomes: &[u8], room: &mut [u8]) -> Flow
+    requires { ⌜ (f .count + 2 + due (f .held) ≤ length (now outcomes)) × (16 * (f .count + 2 + due (f .held)) ≤ length (now room)) ⌝ }
+    ensures { λ r. ⌜ onRoom r (now (room .exit))
+        ≡ run inRoom (now (outcomes .entry)) (map accessStep (take 2 rows)) (onRoom f (now (room .entry))) ⌝ }
+    ensures bounds { λ r. ⌜ r .count + due (r .held) ≤ f .count + 2 + due (f .held) ⌝ }
+{
+    let l = chip::log_of(f);
+    let first = log_access(l, rows[0], outcomes, room);
+    let second = log_access(first, rows[1], outcomes, room);
+    chip::flow_of(second, f.chip)
+}
+
+pub fn access_three(f: Flow, rows: [Access; 10], outcomes: &[u8], room: &mut [u8]) -> Flow
+    requires { ⌜ (f .count + 3 + due (f .held) ≤ length (now outcomes)) × (16 * (f .count + 3 + due (f .held)) ≤ length (now room)) ⌝ }
+    ensures { λ r. ⌜ onRoom r (now (room .exit))
+        ≡ run inRoom (now (outcomes .entry)) (map accessStep (take 3 rows)) (onRoom f (now (room .entry))) ⌝ }
+    ensures bounds { λ r. ⌜ r .count + due (r .held) ≤ f .count + 3 + due (f .held) ⌝ }
+{
+    let l = chip::log_of(f);
+    let first = log_access(l, rows[0], outcomes, room);
+    let second = log_access(first, rows[1], outcomes, room);
+    let third = log_access(second, rows[2], outcomes, room);
+    chip::flow_of(third, f.chip)
+}
+
+pub fn access_four(f: Flow, rows: [Access; 10], outcomes: &[u8], room: &mut [u8]) -> Flow
+    requires { ⌜ (f .count + 4 + due (f .held) ≤ length (now outcomes)) × (16 * (f .count + 4 + due (f .held)) ≤ length (now room)) ⌝ }
+    ensures { λ r. ⌜ onRoom r (now (room .exit))
+        ≡ run inRoom (now (outcomes .entry)) (map accessStep (take 4 rows)) (onRoom f (now (room .entry))) ⌝ }
+    ensures bounds { λ r. ⌜ r .count + due (r .held) ≤ f .count + 4 + due (f .held) ⌝ }
+{
+    let l = chip::log_of(f);
+    let first = log_access(l, rows[0], outcomes, room);
+    let second = log_access(first, rows[1], outcomes, room);
+    let third = log_access(second, rows[2], outcomes, room);
+    let fourth = log_access(third, rows[3], outcomes, room);
+    chip::flow_of(fourth, f.chip)
 }
 
 // A whole call of n accesses and m replies that touches no record: 8, 9, 10, or its steps.

@@ -10,10 +10,14 @@ use lib.ListN.{take}
 use Rattle.transcript.specs.declared.Entry.{Entry}
 use Rattle.chip.specs.declared.Update.{Update}
 use Rattle.chip.specs.Entries.{pointer, readEntry, wait}
-use Rattle.chip.specs.Steps.{Step, Line, closing, every, goes, inner, run, step, updates}
+use Rattle.chip.specs.declared.Chip.{Chip}
+use Rattle.chip.specs.declared.Flow.{Flow}
+use Rattle.chip.specs.declared.Log.{Log}
+use Rattle.chip.specs.Steps.{Step, Line, closing, every, flowOf, goes, inRoom, inner, logOf, onLog, onRoom, run, step, updates}
 use Rattle.chip.specs.Steps.Step.{Close, Plain}
 use Rattle.chip.proofs.Laws.{parts, stop}
 use Rattle.chip.proofs.Lists.{every-inner, inner-update}
+use Rattle.chip.proofs.Rooms.{over}
 use Rattle.pll.specs.declared.Kind.{Kind}
 use Rattle.pll.specs.declared.Plan.{Plan}
 use Rattle.pll.specs.declared.Pll.{Pll}
@@ -88,6 +92,15 @@ inner-rest address rs i =
     (every-app inner (afterTry i) (triesFrom address rs (10 - (i + 1)) (i + 1)) (inner-after i) (inner-tries address rs (10 - (i + 1)) (i + 1)))
 
 module _ {L : Type 0} (put : L → ℕ → Entry → L) (os : List ℕ) where
+  -- steps taken one by one: the first of them, and what the others have done from there
+  pub ahead : (s : Step) (ss : List Step) (w x y : Line L) → x ≡ step put os s w → y ≡ run put os ss x → y ≡ run put os (s ∷ ss) w
+  unfolding run
+  ahead s ss w x y e h = h ∙ ap (run put os ss) e
+
+  pub none-left : (w : Line L) → w ≡ run put os [] w
+  unfolding run
+  none-left w = refl
+
   pub swap : (xs ys : List Step) (w v : Line L) → xs ≡ ys → v ≡ closing put os (run put os xs w) → v ≡ closing put os (run put os ys w)
   swap xs ys w v e h = h ∙ ap (λ (ss : List Step). closing put os (run put os ss w)) e
 
@@ -120,3 +133,11 @@ module _ {L : Type 0} (put : L → ℕ → Entry → L) (os : List ℕ) where
   end-try address rs i w h =
       let none : 10 - i ≡ 0 = omega arith in
       rw none
+
+-- a part behind an open repeater that went over the log alone, and its end
+pub part-over : (os : List ℕ) (ss : List Step) (f : Flow) (l y z : Log) (r : Flow) (room mid after : List ℕ)
+    → l ≡ logOf f → ((chip : Chip) → onLog chip y mid ≡ run inRoom os ss (onLog chip l room))
+    → ((chip : Chip) → onLog chip z after ≡ closing inRoom os (onLog chip y mid)) → r ≡ flowOf z (f .chip)
+    → onRoom r after ≡ closing inRoom os (run inRoom os ss (onRoom f room))
+part-over os ss f l y z r room mid after p e h q =
+    over (λ w. closing inRoom os (run inRoom os ss w)) f l z r room after p (λ chip. h chip ∙ ap (closing inRoom os) (e chip)) q

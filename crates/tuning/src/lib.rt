@@ -3,15 +3,19 @@
 // Document 01, "PLL" and "Transcript and script".
 ghost use mathlib.Core.Path.{_≡_};
 ghost use mathlib.Core.Bool.{true};
-ghost use mathlib.Core.List.{_++_};
+ghost use mathlib.Core.List.{[], _∷_, _++_};
 ghost use Prim.Native.Nat.{_+_, _-_, _*_, _≤_, _<_};
 ghost use lib.Dec.{eqb};
 ghost use lib.ListN.{length, getD, take};
-ghost use Rattle.chip.specs.Steps.{allIn, closing, due, inRoom, onRoom, run, updates};
+ghost use Rattle.chip.specs.declared.Chip.{Chip};
+ghost use Rattle.chip.specs.Entries.{pointer, readEntry, wait};
+ghost use Rattle.chip.specs.Steps.{allIn, closing, due, inRoom, onLog, onRoom, run, updates};
+ghost use Rattle.chip.specs.Steps.Step.{Plain};
 ghost use Rattle.tuning.specs.Mux.{laterOf, pick, muxUpdates, pllUpdates, rangeOf};
 ghost use Rattle.tuning.specs.Tries.{afterTry, locked, fineOf, powerOf, repairUpdates, replyBytes, statusSteps, triesFrom, tryRead, lockedBy};
 ghost use Rattle.tuning.specs.Program.{innerSteps, numberOf, pllSteps, tuneSteps};
 use chip::Flow;
+use chip::Log;
 use chip::Update;
 use chip::Went;
 use pll::Kind;
@@ -199,6 +203,56 @@ fn reply_bytes(replies: &[u8], at: usize, n: usize) -> [u8; 8]
     bytes
 }
 
+// The status' entries. A straight line over the log, and no loop over an array of entries: so the compiler puts each entry's constants
+// in place, and the chip is carried nowhere. The same below.
+fn status_entries(l: Log, address: u8, bytes: [u8; 8], outcomes: &[u8], room: &mut [u8]) -> Log
+    requires { ⌜ (l .count + 3 + due (l .held) ≤ length (now outcomes)) × (16 * (l .count + 3 + due (l .held)) ≤ length (now room)) ⌝ }
+    ensures { λ r. ⌜ ((chip : Chip) → onLog chip r (now (room .exit))
+        ≡ run inRoom (now (outcomes .entry)) (Plain (wait 2) ∷ Plain (pointer address) ∷ Plain (readEntry address 5 bytes) ∷ [])
+        (onLog chip l (now (room .entry)))) ⌝ }
+    ensures bounds { λ r. ⌜ r .count + due (r .held) ≤ l .count + 3 + due (l .held) ⌝ }
+{
+    let waited = chip::log_plain(
+        l,
+        Entry {
+            kind: 9,
+            outcome: 0,
+            target: 0,
+            n: 0,
+            address: 2,
+            bytes: [0u8; 8],
+        },
+        outcomes,
+        room,
+    );
+    let pointed = chip::log_plain(
+        waited,
+        Entry {
+            kind: 2,
+            outcome: 0,
+            target: address,
+            n: 1,
+            address: 0,
+            bytes: [0u8; 8],
+        },
+        outcomes,
+        room,
+    );
+    chip::log_plain(
+        pointed,
+        Entry {
+            kind: 3,
+            outcome: 0,
+            target: address,
+            n: 5,
+            address: 0,
+            bytes: bytes,
+        },
+        outcomes,
+        room,
+    )
+}
+
 // "wait 2, status": the VCO settles, then five status bytes are read.
 fn read_status_raw(f: Flow, address: u8, replies: &[u8], outcomes: &[u8], room: &mut [u8]) -> Flow
     requires { ⌜ (35 ≤ length (now replies))
@@ -209,33 +263,10 @@ fn read_status_raw(f: Flow, address: u8, replies: &[u8], outcomes: &[u8], room: 
     ensures bounds { λ r. ⌜ r .count + due (r .held) ≤ f .count + 3 + due (f .held) ⌝ }
 {
     let bytes = reply_bytes(replies, 0, 5);
-    let es = [
-        Entry {
-            kind: 9,
-            outcome: 0,
-            target: 0,
-            n: 0,
-            address: 2,
-            bytes: [0u8; 8],
-        },
-        Entry {
-            kind: 2,
-            outcome: 0,
-            target: address,
-            n: 1,
-            address: 0,
-            bytes: [0u8; 8],
-        },
-        Entry {
-            kind: 3,
-            outcome: 0,
-            target: address,
-            n: 5,
-            address: 0,
-            bytes: bytes,
-        },
-    ];
-    chip::plain_part(f, es, 3, outcomes, room)
+    let l = chip::log_of(f);
+    let read = status_entries(l, address, bytes, outcomes, room);
+    let ended = chip::log_end(read, outcomes, room);
+    chip::flow_of(ended, f.chip)
 }
 
 // The Rust's `vco_power_ref`.
@@ -305,6 +336,41 @@ fn locks(byte: u8) -> bool
     status::bit_reverse(byte) & 0x40 != 0
 }
 
+// The entries of a try's read.
+fn try_entries(l: Log, address: u8, bytes: [u8; 8], outcomes: &[u8], room: &mut [u8]) -> Log
+    requires { ⌜ (l .count + 2 + due (l .held) ≤ length (now outcomes)) × (16 * (l .count + 2 + due (l .held)) ≤ length (now room)) ⌝ }
+    ensures { λ r. ⌜ ((chip : Chip) → onLog chip r (now (room .exit))
+        ≡ run inRoom (now (outcomes .entry)) (Plain (pointer address) ∷ Plain (readEntry address 3 bytes) ∷ []) (onLog chip l (now (room .entry)))) ⌝ }
+    ensures bounds { λ r. ⌜ r .count + due (r .held) ≤ l .count + 2 + due (l .held) ⌝ }
+{
+    let pointed = chip::log_plain(
+        l,
+        Entry {
+            kind: 2,
+            outcome: 0,
+            target: address,
+            n: 1,
+            address: 0,
+            bytes: [0u8; 8],
+        },
+        outcomes,
+        room,
+    );
+    chip::log_plain(
+        pointed,
+        Entry {
+            kind: 3,
+            outcome: 0,
+            target: address,
+            n: 3,
+            address: 0,
+            bytes: bytes,
+        },
+        outcomes,
+        room,
+    )
+}
+
 // The read of try i.
 fn read_try(
     f: Flow,
@@ -322,33 +388,35 @@ fn read_try(
     ensures bounds { λ r. ⌜ r .count + due (r .held) ≤ f .count + 2 + due (f .held) ⌝ }
 {
     let bytes = reply_bytes(replies, 5 + 3 * i, 3);
-    let es = [
-        Entry {
-            kind: 2,
-            outcome: 0,
-            target: address,
-            n: 1,
-            address: 0,
-            bytes: [0u8; 8],
-        },
-        Entry {
-            kind: 3,
-            outcome: 0,
-            target: address,
-            n: 3,
-            address: 0,
-            bytes: bytes,
-        },
+    let l = chip::log_of(f);
+    let read = try_entries(l, address, bytes, outcomes, room);
+    let ended = chip::log_end(read, outcomes, room);
+    chip::flow_of(ended, f.chip)
+}
+
+// The wait of 1 behind a try.
+fn wait_one(f: Flow, outcomes: &[u8], room: &mut [u8]) -> Flow
+    requires { ⌜ (f .count + 1 + due (f .held) ≤ length (now outcomes)) × (16 * (f .count + 1 + due (f .held)) ≤ length (now room)) ⌝ }
+    ensures { λ r. ⌜ onRoom r (now (room .exit))
+        ≡ closing inRoom (now (outcomes .entry)) (run inRoom (now (outcomes .entry)) (Plain (wait 1) ∷ []) (onRoom f (now (room .entry)))) ⌝ }
+    ensures bounds { λ r. ⌜ r .count + due (r .held) ≤ f .count + 1 + due (f .held) ⌝ }
+{
+    let l = chip::log_of(f);
+    let waited = chip::log_plain(
+        l,
         Entry {
             kind: 9,
             outcome: 0,
             target: 0,
             n: 0,
-            address: 0,
+            address: 1,
             bytes: [0u8; 8],
         },
-    ];
-    chip::plain_part(f, es, 2, outcomes, room)
+        outcomes,
+        room,
+    );
+    let ended = chip::log_end(waited, outcomes, room);
+    chip::flow_of(ended, f.chip)
 }
 
 // What follows a try without the lock: 0x12 once, behind the first, and a wait of 1.
@@ -358,15 +426,6 @@ fn after_try(f: Flow, i: usize, outcomes: &[u8], room: &mut [u8]) -> Flow
         ≡ closing inRoom (now (outcomes .entry)) (run inRoom (now (outcomes .entry)) (afterTry i) (onRoom f (now (room .entry)))) ⌝ }
     ensures bounds { λ r. ⌜ r .count + due (r .held) ≤ f .count + (1 - i) + 1 + due (f .held) ⌝ }
 {
-    let e = Entry {
-        kind: 9,
-        outcome: 0,
-        target: 0,
-        n: 0,
-        address: 1,
-        bytes: [0u8; 8],
-    };
-    let es = [e; 3];
     if i == 0 {
         let u = Update {
             register: 0x12,
@@ -375,9 +434,9 @@ fn after_try(f: Flow, i: usize, outcomes: &[u8], room: &mut [u8]) -> Flow
             past: false,
         };
         let written = chip::write_all(f, [u; 16], 1, outcomes, room);
-        return chip::plain_part(written, es, 1, outcomes, room);
+        return wait_one(written, outcomes, room);
     }
-    chip::plain_part(f, es, 1, outcomes, room)
+    wait_one(f, outcomes, room)
 }
 
 // Behind a lock 0x1a is written.

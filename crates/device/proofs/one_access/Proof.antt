@@ -1,27 +1,29 @@
--- `device::one_access` meets its contract: the plain step of the access's entry. Assumes nothing.
+-- `device::one_access` meets its contract: the log's, at this chip. Assumes nothing.
+use mathlib.Core.Path.{ap}
+use native.Mathlib.Omega.{arith}
+use Rattle.chip.specs.declared.Log.{Log}
+use Rattle.chip.specs.Steps.{inRoom, step}
+use Rattle.chip.proofs.Rooms.{over, over-most}
 use borrow.Author.Needs.{needs}
-use Rattle.chip.specs.Steps.{inRoom}
-use Rattle.device.specs.Accesses.{accessStep}
-use Rattle.device.proofs.Programs.{by-entry}
 use Rattle.device.proofs.one_access.Statement.{statement}
 use Rattle.device.proofs.one_access.Tie as tie
-use Rattle.device.proofs.one_access.Reads as reads
-use Rattle.device.proofs.one_access.Lts as lts
-use Rattle.chip.proofs.plain.Reads as plain-reads
-use Rattle.device.proofs.entry.Reads as entry-reads
 
-entry-requires : tie.Need-entry-requires
-entry-requires c κs = search needs
+log-of-requires : tie.Need-log-of-requires
+log-of-requires c κs = search needs
 
-plain-requires : tie.Need-plain-requires
-plain-requires c κs = search needs
+log-access-requires : tie.Need-log-access-requires
+log-access-requires c κs = omega (arith, ap (λ (x : Log). x .count) (c .before .log-of .ensures), c .before .before .before .before .pre)
+
+flow-of-requires : tie.Need-flow-of-requires
+flow-of-requires c κs = search needs
 
 same-length : tie.Need-same-length
 same-length c = search needs
 
 returns : tie.Need-returns
-unfolding accessStep
-returns c = (by-entry inRoom _ _ _ _ _ (c .before .before .before .before .entry .ensures) (c .before .before .plain .ensures .0), search needs)
+returns c = (over (step inRoom _ _) (c .before .before .before .before .before .before .before .before .args .f) _ _ _ _ _ (c .before .before .before .before .before .log-of .ensures) (c .before .before .before .log-access .ensures .0) (c .flow-of .ensures), omega (arith, over-most (c .before .before .before .before .before .before .before .before .args .f) _ _ _ _ 1 (c .before .before .before .before .before .log-of .ensures) (c .flow-of .ensures) (omega (arith, c .before .before .before .log-access .ensures .1))))
 
 pub one-access-spec : {M : Type 1} → statement M
-one-access-spec = tie.close (tie.spec entry-requires plain-requires same-length returns)
+one-access-spec =
+    tie.close
+    (tie.spec log-of-requires log-access-requires flow-of-requires same-length returns)

@@ -1,13 +1,11 @@
 -- `tuning::after_try` meets its contract. Each return is one law of the definition, with what the calls before it ensure. Assumes nothing.
 use mathlib.Core.Path.{_≡_, refl, ap, _∙_}
 use native.Mathlib.Omega.{arith}
-use Prim.Native.Nat.{_+_, _*_, _-_, _≤_}
+use Prim.Native.Nat.{_+_, _-_, _≤_}
 use Rattle.chip.specs.Steps.{due, every, inRoom, updates}
 use Rattle.chip.proofs.Laws.{parts}
 use Rattle.tuning.specs.Tries.{again}
 use Rattle.tuning.proofs.Turns.{first-write, swap, wait-alone}
-use denote.Ref.{now}
-use lib.ListN.{length}
 use mathlib.Core.List.{[], _∷_}
 use Rattle.chip.specs.Entries.{wait}
 use Rattle.chip.specs.Steps.Step.{Plain}
@@ -20,12 +18,8 @@ write-all-requires : tie.Need-write-all-requires
 unfolding every
 write-all-requires c κs = let z : c .before .before .before .before .args .i ≡ 0 = c .before .if1 .taken in (omega arith, refl, omega (arith, c .before .before .before .before .pre .0), omega (arith, c .before .before .before .before .pre .1))
 
-plain-part-requires : tie.Need-plain-part-requires
-plain-part-requires c κs = let z : c .before .before .before .before .before .before .before .before .args .i ≡ 0 = c .before .before .before .before .before .if1 .taken in
-    let a : c .before .before .before .write-all .result .count + due (c .before .before .before .write-all .result .held) ≤ c .before .before .before .before .before .before .before .before .args .f .count + 1 + due (c .before .before .before .before .before .before .before .before .args .f .held) = c .before .before .before .write-all .ensures .1 in
-    let d : length (c .before .before .before .write-all .last .1 .1 .1 .1 .0) ≡ length (now (c .before .before .before .before .before .before .before .before .args .room)) = c .before .before .before .write-all .kept .1 .1 .1 .1 .0 in
-    let g : (1 ≤ 3) × (c .before .before .before .write-all .result .count + 1 + due (c .before .before .before .write-all .result .held) ≤ length (now (c .before .before .before .before .before .before .before .before .args .outcomes))) × (16 * (c .before .before .before .write-all .result .count + 1 + due (c .before .before .before .write-all .result .held)) ≤ length (c .before .before .before .write-all .last .1 .1 .1 .1 .0)) = omega (arith, c .before .before .before .before .before .before .before .before .pre) in
-    g
+wait-one-requires : tie.Need-wait-one-requires
+wait-one-requires c κs = search needs
 
 same-length : tie.Need-same-length
 same-length c = search needs
@@ -34,27 +28,27 @@ returns : tie.Need-returns
 unfolding every
 returns c = let z : c .before .before .before .before .before .before .before .before .before .before .before .args .i ≡ 0 = c .before .before .before .before .before .before .before .before .if1 .taken in
     let a : c .before .before .before .before .before .before .write-all .result .count + due (c .before .before .before .before .before .before .write-all .result .held) ≤ c .before .before .before .before .before .before .before .before .before .before .before .args .f .count + 1 + due (c .before .before .before .before .before .before .before .before .before .before .before .args .f .held) = c .before .before .before .before .before .before .write-all .ensures .1 in
-    let b : c .before .before .plain-part .result .count + due (c .before .before .plain-part .result .held) ≤ c .before .before .before .before .before .before .write-all .result .count + 1 + due (c .before .before .before .before .before .before .write-all .result .held) = c .before .before .plain-part .ensures .1 in
-    let most : c .before .before .plain-part .result .count + due (c .before .before .plain-part .result .held) ≤ c .before .before .before .before .before .before .before .before .before .before .before .args .f .count + (1 - c .before .before .before .before .before .before .before .before .before .before .before .args .i) + 1 + due (c .before .before .before .before .before .before .before .before .before .before .before .args .f .held) = omega arith in
-    (parts inRoom _ (updates (again (c .before .before .before .before .before .before .before .before .before .before .before .args .i))) (Plain (wait 1) ∷ []) _ _ _ refl (swap inRoom _ _ _ _ _ (ap updates (first-write _ z)) (c .before .before .before .before .before .before .write-all .ensures .0)) (c .before .before .plain-part .ensures .0), most)
+    let b : c .before .before .wait-one .result .count + due (c .before .before .wait-one .result .held) ≤ c .before .before .before .before .before .before .write-all .result .count + 1 + due (c .before .before .before .before .before .before .write-all .result .held) = c .before .before .wait-one .ensures .1 in
+    let most : c .before .before .wait-one .result .count + due (c .before .before .wait-one .result .held) ≤ c .before .before .before .before .before .before .before .before .before .before .before .args .f .count + (1 - c .before .before .before .before .before .before .before .before .before .before .before .args .i) + 1 + due (c .before .before .before .before .before .before .before .before .before .before .before .args .f .held) = omega arith in
+    (parts inRoom _ (updates (again (c .before .before .before .before .before .before .before .before .before .before .before .args .i))) (Plain (wait 1) ∷ []) _ _ _ refl (swap inRoom _ _ _ _ _ (ap updates (first-write _ z)) (c .before .before .before .before .before .before .write-all .ensures .0)) (c .before .before .wait-one .ensures .0), most)
 
-plain-part-requires-2 : tie.Need-plain-part-requires-2
-plain-part-requires-2 c κs = (omega arith, omega (arith, c .before .before .before .before .pre .0), omega (arith, c .before .before .before .before .pre .1))
+wait-one-requires-2 : tie.Need-wait-one-requires-2
+wait-one-requires-2 c κs = search needs
 
 same-length-2 : tie.Need-same-length-2
 same-length-2 c = search needs
 
 returns-2 : tie.Need-returns-2
-returns-2 c = (swap inRoom _ _ _ _ _ (wait-alone (c .before .before .before .before .before .before .before .args .i) (ne-eqb _ _ (c .before .before .before .before .if1 .left))) (c .before .before .plain-part2 .ensures .0), omega (arith, c .before .before .plain-part2 .ensures .1))
+returns-2 c = (swap inRoom _ _ _ _ _ (wait-alone (c .before .before .before .before .before .before .before .args .i) (ne-eqb _ _ (c .before .before .before .before .if1 .left))) (c .before .before .wait-one2 .ensures .0), omega (arith, c .before .before .wait-one2 .ensures .1))
 
 pub after-try-spec : {M : Type 1} → statement M
 after-try-spec =
     tie.close
     (tie.spec
     write-all-requires
-    plain-part-requires
+    wait-one-requires
     same-length
     returns
-    plain-part-requires-2
+    wait-one-requires-2
     same-length-2
     returns-2)

@@ -1,6 +1,11 @@
--- `tuning::read_status_raw` meets its contract. Each return is one law of the definition, with what the calls before it ensure. Assumes nothing.
-use Rattle.chip.specs.Steps.{inRoom}
-use Rattle.tuning.proofs.Turns.{status-made, swap}
+-- `tuning::read_status_raw` meets its contract: its entries over the log, at this chip, and their end. Assumes nothing.
+use Prim.Native.Nat.{_+_}
+use mathlib.Core.Path.{ap}
+use native.Mathlib.Omega.{arith}
+use Rattle.chip.specs.declared.Log.{Log}
+use Rattle.chip.specs.Steps.{due, inRoom}
+use Rattle.chip.proofs.Rooms.{over-most}
+use Rattle.tuning.proofs.Turns.{part-over, status-made, swap}
 use borrow.Author.Needs.{needs}
 use Rattle.tuning.proofs.read_status_raw.Statement.{statement}
 use Rattle.tuning.proofs.read_status_raw.Tie as tie
@@ -8,15 +13,32 @@ use Rattle.tuning.proofs.read_status_raw.Tie as tie
 reply-bytes-requires : tie.Need-reply-bytes-requires
 reply-bytes-requires c κs = search needs
 
-plain-part-requires : tie.Need-plain-part-requires
-plain-part-requires c κs = search needs
+log-of-requires : tie.Need-log-of-requires
+log-of-requires c κs = search needs
+
+status-entries-requires : tie.Need-status-entries-requires
+status-entries-requires c κs = omega (arith, ap (λ (x : Log). x .count + due (x .held)) (c .before .log-of .ensures), c .before .before .before .before .before .before .pre)
+
+log-end-requires : tie.Need-log-end-requires
+log-end-requires c κs = omega (arith, ap (λ (x : Log). x .count + due (x .held)) (c .before .before .before .before .before .log-of .ensures), c .before .before .before .status-entries .ensures .1, c .before .before .before .status-entries .kept, c .before .before .before .before .before .before .before .before .before .before .pre)
+
+flow-of-requires : tie.Need-flow-of-requires
+flow-of-requires c κs = search needs
 
 same-length : tie.Need-same-length
 same-length c = search needs
 
 returns : tie.Need-returns
-returns c = (swap inRoom _ _ _ _ _ (status-made _ _ _ (c .before .before .before .before .reply-bytes .ensures)) (c .before .before .plain-part .ensures .0), search needs)
+returns c = (swap inRoom _ _ _ _ _ (status-made _ _ _ (c .before .before .before .before .before .before .before .before .before .before .reply-bytes .ensures)) (part-over _ _ (c .before .before .before .before .before .before .before .before .before .before .before .before .before .before .args .f) _ _ _ _ _ _ _ (c .before .before .before .before .before .before .before .before .before .log-of .ensures) (c .before .before .before .before .before .before .before .status-entries .ensures .0) (c .before .before .before .log-end .ensures .0) (c .flow-of .ensures)), omega (arith, over-most (c .before .before .before .before .before .before .before .before .before .before .before .before .before .before .args .f) _ _ _ _ 3 (c .before .before .before .before .before .before .before .before .before .log-of .ensures) (c .flow-of .ensures) (omega (arith, c .before .before .before .log-end .ensures .1, c .before .before .before .before .before .before .before .status-entries .ensures .1))))
 
 pub read-status-raw-spec : {M : Type 1} → statement M
 read-status-raw-spec =
-    tie.close (tie.spec reply-bytes-requires plain-part-requires same-length returns)
+    tie.close
+    (tie.spec
+    reply-bytes-requires
+    log-of-requires
+    status-entries-requires
+    log-end-requires
+    flow-of-requires
+    same-length
+    returns)

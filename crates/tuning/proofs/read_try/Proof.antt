@@ -1,6 +1,11 @@
--- `tuning::read_try` meets its contract. Each return is one law of the definition, with what the calls before it ensure. Assumes nothing.
-use Rattle.chip.specs.Steps.{inRoom}
-use Rattle.tuning.proofs.Turns.{swap, try-made}
+-- `tuning::read_try` meets its contract: its entries over the log, at this chip, and their end. Assumes nothing.
+use Prim.Native.Nat.{_+_}
+use mathlib.Core.Path.{ap}
+use native.Mathlib.Omega.{arith}
+use Rattle.chip.specs.declared.Log.{Log}
+use Rattle.chip.specs.Steps.{due, inRoom}
+use Rattle.chip.proofs.Rooms.{over-most}
+use Rattle.tuning.proofs.Turns.{part-over, swap, try-made}
 use borrow.Author.Needs.{needs}
 use Rattle.tuning.proofs.read_try.Statement.{statement}
 use Rattle.tuning.proofs.read_try.Tie as tie
@@ -14,14 +19,23 @@ add-reply-bytes c = search needs
 reply-bytes-requires : tie.Need-reply-bytes-requires
 reply-bytes-requires c κs = search needs
 
-plain-part-requires : tie.Need-plain-part-requires
-plain-part-requires c κs = search needs
+log-of-requires : tie.Need-log-of-requires
+log-of-requires c κs = search needs
+
+try-entries-requires : tie.Need-try-entries-requires
+try-entries-requires c κs = omega (arith, ap (λ (x : Log). x .count + due (x .held)) (c .before .log-of .ensures), c .before .before .before .before .before .before .pre)
+
+log-end-requires : tie.Need-log-end-requires
+log-end-requires c κs = omega (arith, ap (λ (x : Log). x .count + due (x .held)) (c .before .before .before .before .before .log-of .ensures), c .before .before .before .try-entries .ensures .1, c .before .before .before .try-entries .kept, c .before .before .before .before .before .before .before .before .before .before .pre)
+
+flow-of-requires : tie.Need-flow-of-requires
+flow-of-requires c κs = search needs
 
 same-length : tie.Need-same-length
 same-length c = search needs
 
 returns : tie.Need-returns
-returns c = (swap inRoom _ _ _ _ _ (try-made _ _ _ _ (c .before .before .before .before .reply-bytes .ensures)) (c .before .before .plain-part .ensures .0), search needs)
+returns c = (swap inRoom _ _ _ _ _ (try-made _ _ _ _ (c .before .before .before .before .before .before .before .before .before .before .reply-bytes .ensures)) (part-over _ _ (c .before .before .before .before .before .before .before .before .before .before .before .before .before .before .args .f) _ _ _ _ _ _ _ (c .before .before .before .before .before .before .before .before .before .log-of .ensures) (c .before .before .before .before .before .before .before .try-entries .ensures .0) (c .before .before .before .log-end .ensures .0) (c .flow-of .ensures)), omega (arith, over-most (c .before .before .before .before .before .before .before .before .before .before .before .before .before .before .args .f) _ _ _ _ 2 (c .before .before .before .before .before .before .before .before .before .log-of .ensures) (c .flow-of .ensures) (omega (arith, c .before .before .before .log-end .ensures .1, c .before .before .before .before .before .before .before .try-entries .ensures .1))))
 
 pub read-try-spec : {M : Type 1} → statement M
 read-try-spec =
@@ -30,6 +44,9 @@ read-try-spec =
     mul-reply-bytes
     add-reply-bytes
     reply-bytes-requires
-    plain-part-requires
+    log-of-requires
+    try-entries-requires
+    log-end-requires
+    flow-of-requires
     same-length
     returns)

@@ -1,0 +1,23 @@
+-- `tuning::try_entries` meets its contract: the entries one by one. Assumes nothing.
+use Rattle.chip.specs.Steps.{inRoom}
+use Rattle.tuning.proofs.Turns.{ahead, none-left}
+use borrow.Author.Needs.{needs}
+use Rattle.tuning.proofs.try_entries.Statement.{statement}
+use Rattle.tuning.proofs.try_entries.Tie as tie
+
+log-plain-requires : tie.Need-log-plain-requires
+log-plain-requires c κs = search needs
+
+log-plain-requires-2 : tie.Need-log-plain-requires-2
+log-plain-requires-2 c κs = search needs
+
+same-length : tie.Need-same-length
+same-length c = search needs
+
+returns : tie.Need-returns
+returns c = (λ chip. ahead inRoom _ _ _ _ _ _ (c .before .before .before .before .before .before .log-plain .ensures .0 chip) (ahead inRoom _ _ _ _ _ _ (c .before .before .log-plain2 .ensures .0 chip) (none-left inRoom _ _)), search needs)
+
+pub try-entries-spec : {M : Type 1} → statement M
+try-entries-spec =
+    tie.close
+    (tie.spec log-plain-requires log-plain-requires-2 same-length returns)
