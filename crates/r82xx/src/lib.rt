@@ -9,7 +9,7 @@ ghost use Prim.Native.Nat.{_+_, _≤_, _<_};
 ghost use lib.ListN.{length, take};
 ghost use Rattle.chip.specs.Calls.{called};
 ghost use Rattle.chip.specs.Steps.{allIn, goes};
-ghost use Rattle.r82xx.specs.Record.{endedBy, freshTuner, lockBy, madeOf, reloaded, soundBy, withCorrected, withNotch};
+ghost use Rattle.r82xx.specs.Record.{endedBy, freshTuner, lockBy, madeOf, pick, reloaded, soundBy, withCorrected, withNotch};
 ghost use Rattle.r82xx.specs.Calls.{bandwidthCall, bracketCall, gainCall, hzRefusal, ifCall, indexCall, initCall, keptNotch, keptPpm, pathCall, ppmAnswer, refusalOf, reloadCall, shadowCall, soundAnswer, stepCall, tableOf, tuneCall, wholeOf};
 use board::PathRead;
 use chip::Answer;

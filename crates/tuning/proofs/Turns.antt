@@ -92,15 +92,6 @@ inner-rest address rs i =
     (every-app inner (afterTry i) (triesFrom address rs (10 - (i + 1)) (i + 1)) (inner-after i) (inner-tries address rs (10 - (i + 1)) (i + 1)))
 
 module _ {L : Type 0} (put : L → ℕ → Entry → L) (os : List ℕ) where
-  -- steps taken one by one: the first of them, and what the others have done from there
-  pub ahead : (s : Step) (ss : List Step) (w x y : Line L) → x ≡ step put os s w → y ≡ run put os ss x → y ≡ run put os (s ∷ ss) w
-  unfolding run
-  ahead s ss w x y e h = h ∙ ap (run put os ss) e
-
-  pub none-left : (w : Line L) → w ≡ run put os [] w
-  unfolding run
-  none-left w = refl
-
   pub swap : (xs ys : List Step) (w v : Line L) → xs ≡ ys → v ≡ closing put os (run put os xs w) → v ≡ closing put os (run put os ys w)
   swap xs ys w v e h = h ∙ ap (λ (ss : List Step). closing put os (run put os ss w)) e
 

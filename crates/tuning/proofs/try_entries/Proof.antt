@@ -1,6 +1,6 @@
 -- `tuning::try_entries` meets its contract: the entries one by one. Assumes nothing.
 use Rattle.chip.specs.Steps.{inRoom}
-use Rattle.tuning.proofs.Turns.{ahead, none-left}
+use Rattle.chip.proofs.Laws.{one-last, one-more}
 use borrow.Author.Needs.{needs}
 use Rattle.tuning.proofs.try_entries.Statement.{statement}
 use Rattle.tuning.proofs.try_entries.Tie as tie
@@ -15,7 +15,7 @@ same-length : tie.Need-same-length
 same-length c = search needs
 
 returns : tie.Need-returns
-returns c = (λ chip. ahead inRoom _ _ _ _ _ _ (c .before .before .before .before .before .before .log-plain .ensures .0 chip) (ahead inRoom _ _ _ _ _ _ (c .before .before .log-plain2 .ensures .0 chip) (none-left inRoom _ _)), search needs)
+returns c = (λ chip. one-more inRoom _ _ _ _ _ _ (c .before .before .before .before .before .before .log-plain .ensures .0 chip) (one-last inRoom _ _ _ _ (c .before .before .log-plain2 .ensures .0 chip)), search needs)
 
 pub try-entries-spec : {M : Type 1} → statement M
 try-entries-spec =

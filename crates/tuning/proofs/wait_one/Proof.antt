@@ -5,7 +5,8 @@ use native.Mathlib.Omega.{arith}
 use Rattle.chip.specs.declared.Log.{Log}
 use Rattle.chip.specs.Steps.{due, inRoom}
 use Rattle.chip.proofs.Rooms.{over-most}
-use Rattle.tuning.proofs.Turns.{ahead, none-left, part-over}
+use Rattle.chip.proofs.Laws.{one-last}
+use Rattle.tuning.proofs.Turns.{part-over}
 use borrow.Author.Needs.{needs}
 use Rattle.tuning.proofs.wait_one.Statement.{statement}
 use Rattle.tuning.proofs.wait_one.Tie as tie
@@ -26,7 +27,7 @@ same-length : tie.Need-same-length
 same-length c = search needs
 
 returns : tie.Need-returns
-returns c = (part-over _ _ (c .before .before .before .before .before .before .before .before .before .before .before .before .args .f) _ _ _ _ _ _ _ (c .before .before .before .before .before .before .before .before .before .log-of .ensures) (λ chip. ahead inRoom _ _ _ _ _ _ (c .before .before .before .before .before .before .before .log-plain .ensures .0 chip) (none-left inRoom _ _)) (c .before .before .before .log-end .ensures .0) (c .flow-of .ensures), omega (arith, over-most (c .before .before .before .before .before .before .before .before .before .before .before .before .args .f) _ _ _ _ 1 (c .before .before .before .before .before .before .before .before .before .log-of .ensures) (c .flow-of .ensures) (omega (arith, c .before .before .before .log-end .ensures .1, c .before .before .before .before .before .before .before .log-plain .ensures .1))))
+returns c = (part-over _ _ (c .before .before .before .before .before .before .before .before .before .before .before .before .args .f) _ _ _ _ _ _ _ (c .before .before .before .before .before .before .before .before .before .log-of .ensures) (λ chip. one-last inRoom _ _ _ _ (c .before .before .before .before .before .before .before .log-plain .ensures .0 chip)) (c .before .before .before .log-end .ensures .0) (c .flow-of .ensures), omega (arith, over-most (c .before .before .before .before .before .before .before .before .before .before .before .before .args .f) _ _ _ _ 1 (c .before .before .before .before .before .before .before .before .before .log-of .ensures) (c .flow-of .ensures) (omega (arith, c .before .before .before .log-end .ensures .1, c .before .before .before .before .before .before .before .log-plain .ensures .1))))
 
 pub wait-one-spec : {M : Type 1} → statement M
 wait-one-spec =
