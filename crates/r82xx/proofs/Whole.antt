@@ -14,10 +14,11 @@ use Rattle.chip.specs.declared.Chip.{Chip}
 use Rattle.chip.specs.declared.Flow.{Flow}
 use Rattle.chip.specs.declared.Seen.{Seen}
 use Rattle.chip.specs.declared.Update.{Update}
+use Rattle.chip.specs.declared.Went.{Went}
 use Rattle.chip.specs.declared.Went.the-variants.{Going}
 use Rattle.chip.specs.Calls.{Called, answerOf, callOf, called, laidOut, lockedIn, sealed, seenFrom, triesIn}
 use Rattle.chip.specs.Entries.{unseen}
-use Rattle.chip.specs.Steps.{Line, Logged, Step, Trace, behind, eight, every, inRoom, line, logged, onRoom, run, trace, tunerWrite, updates}
+use Rattle.chip.specs.Steps.{Line, Logged, Step, Trace, behind, eight, every, goes, inRoom, line, logged, onRoom, run, trace, tunerWrite, updates}
 use Rattle.chip.specs.Steps.Step.{Open, Close, Plain}
 use Rattle.chip.proofs.Chunks.{chunk-eight}
 use Rattle.chip.proofs.Taken.{handed, performs, refuses, seen-counted, stands}
@@ -27,7 +28,7 @@ use Rattle.gain.specs.Steps.{stepAt}
 use Rattle.writes.specs.Lists.{gainUpdates, ifUpdates, initArray, initUpdates}
 use Rattle.writes.specs.Programs.{initSteps, sendAll}
 use Rattle.r82xx.specs.declared.Tuner.{Tuner}
-use Rattle.r82xx.specs.Record.{lockBy, withGain}
+use Rattle.r82xx.specs.Record.{endedBy, lockBy, pick, withChip, withGain}
 use Rattle.r82xx.specs.Calls.{bracketCall, stepCall}
 
 -- refused by a number that was worked out apart
@@ -85,6 +86,15 @@ pub step-by : (k bits : ℕ) (actual : Float) (us : List Update) (os : List ℕ)
 unfolding stepCall
 step-by k bits actual us os t room x e g b h =
     h ∙ (λ i. bracketCall t (withGain t (g i)) (Done ((b ∙ ap (toBits binary32) g) i)) (e i) 5 os t room)
+
+-- the record of a gain's call, whose gain alone was chosen
+pub gain-kept : (t : Tuner) (actual g : Float) (went : Went) (chip : Chip) → g ≡ pick (goes went) actual (t .gain)
+    → withChip (withGain t g) chip ≡ endedBy t (withGain t actual) went chip
+gain-kept t actual g went chip e = ap (λ (x : Float). withChip (withGain t x) chip) e ∙ by (goes went)
+  where
+    by : (b : Bool) → withChip (withGain t (pick b actual (t .gain))) chip ≡ withChip (pick b (withGain t actual) t) chip
+    by true = refl
+    by false = refl
 
 -- the lock, by what the tries have said
 pub lock-by : (os room : List ℕ) (ss : List Step) (c : Chip) (old : Bool) → every eight ss ≡ true → length (trace os ss c .log) < 2 ^ 64

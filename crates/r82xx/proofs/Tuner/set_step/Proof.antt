@@ -1,11 +1,25 @@
 -- `r82xx::Tuner::set_step` meets its contract. Each return is one law of the definition, with what the calls before it ensure. Assumes nothing.
-use Rattle.r82xx.proofs.Whole.{step-by}
+use mathlib.Core.Path.{_≡_, refl, sym, _∙_}
+use native.Mathlib.Omega.{arith}
+use Prim.Native.Nat.{_+_, _*_, _≤_}
+use denote.Ref.{now}
+use lib.ListN.{length}
+use Rattle.chip.specs.Steps.{Line, Logged, behind, due, updates}
+use Rattle.writes.specs.Lists.{gainUpdates}
+use Rattle.r82xx.specs.Record.{endedBy, withGain}
+use Rattle.r82xx.specs.Calls.{bracketCall, stepCall}
+use Rattle.r82xx.proofs.Refusals.{taken-by}
+use Rattle.r82xx.proofs.Whole.{bracket-eight, gain-kept, perform-by, refuse-by, step-by}
 use borrow.Author.Needs.{needs}
 use Rattle.r82xx.proofs.Tuner.set_step.Statement.{statement}
 use Rattle.r82xx.proofs.Tuner.set_step.Tie as tie
 
-gain-updates-requires : tie.Need-gain-updates-requires
-gain-updates-requires c κs = search needs
+refusal-requires : tie.Need-refusal-requires
+refusal-requires c κs = search needs
+
+returns : tie.Need-returns
+unfolding stepCall bracketCall
+returns c = refuse-by _ _ _ _ _ _ _ _ _ (c .before .refusal .ensures) (c .if1 .taken)
 
 gain-at-requires : tie.Need-gain-at-requires
 gain-at-requires c κs = search needs
@@ -13,26 +27,44 @@ gain-at-requires c κs = search needs
 bits-of-requires : tie.Need-bits-of-requires
 bits-of-requires c κs = search needs
 
-cast-t9 : tie.Need-cast-t9
-cast-t9 c = search needs
+gain-steps-requires : tie.Need-gain-steps-requires
+gain-steps-requires c κs = let z = taken-by (c .before .before .before .before .before .before .before .before .args .self) 0 7 0 (length (now (c .before .before .before .before .before .before .before .before .args .room))) (length (now (c .before .before .before .before .before .before .before .before .args .outcomes))) 0 (sym (c .before .before .before .before .before .refusal .ensures) ∙ c .before .before .before .before .if1 .left) in let one = z .lent .rooms in let two = z .lent .outs in (c .before .before .before .before .before .before .before .before .pre, omega arith, omega arith)
 
-operate-requires : tie.Need-operate-requires
-operate-requires c κs = search needs
+cast-t22 : tie.Need-cast-t22
+cast-t22 c = search needs
+
+finish-requires : tie.Need-finish-requires
+finish-requires c κs = let z = taken-by (c .before .before .before .before .before .before .before .before .before .before .before .before .args .self) 0 7 0 (length (now (c .before .before .before .before .before .before .before .before .before .before .before .before .args .room))) (length (now (c .before .before .before .before .before .before .before .before .before .before .before .before .args .outcomes))) 0 (sym (c .before .before .before .before .before .before .before .before .before .refusal .ensures) ∙ c .before .before .before .before .before .before .before .before .if1 .left) in let one = z .lent .rooms in let two = z .lent .outs in let a : c .before .before .before .gain-steps .result .count + due (c .before .before .before .gain-steps .result .held) ≤ 0 + 7 = c .before .before .before .gain-steps .ensures .1 in
+    let d : length (c .before .before .before .gain-steps .last .1 .1 .1 .0) ≡ length (now (c .before .before .before .before .before .before .before .before .before .before .before .before .args .room)) = c .before .before .before .gain-steps .kept .1 .1 .1 .0 in
+    let g : (c .before .before .before .gain-steps .result .count ≤ 4096) × (16 * c .before .before .before .gain-steps .result .count + 8 ≤ length (c .before .before .before .gain-steps .last .1 .1 .1 .0)) = omega arith in
+    g
+
+kept-gain-requires : tie.Need-kept-gain-requires
+kept-gain-requires c κs = search needs
 
 same-length : tie.Need-same-length
 same-length c = search needs
 
-returns : tie.Need-returns
-returns c = step-by _ _ _ _ _ _ _ _ (c .before .before .before .before .before .before .gain-updates .ensures .0) (c .before .before .before .before .before .gain-at .ensures) (c .before .before .before .before .bits-of .ensures) (c .before .before .operate .ensures)
+returns-2 : tie.Need-returns-2
+unfolding stepCall bracketCall
+returns-2 c =
+    let t = c .before .before .before .before .before .before .before .before .before .before .before .before .before .before .before .before .before .args .self in
+    let k = c .before .before .before .before .before .before .before .before .before .before .before .before .before .before .before .before .before .args .k in
+    let actual = c .before .before .before .before .before .before .before .before .before .before .before .before .gain-at .result in
+    step-by k _ _ (gainUpdates k) (now (c .before .before .before .before .before .before .before .before .before .before .before .before .before .before .before .before .before .args .outcomes)) t (now (c .before .before .before .before .before .before .before .before .before .before .before .before .before .before .before .before .before .args .room)) _ refl (c .before .before .before .before .before .before .before .before .before .before .before .before .gain-at .ensures) (c .before .before .before .before .before .before .before .before .before .before .before .bits-of .ensures)
+    (perform-by _ _ _ _ (behind (updates (gainUpdates k))) _ _ (λ (w : Line Logged). endedBy t (withGain t actual) (w .went) (w .chip)) _ _ _ (c .before .before .before .before .before .before .before .before .gain-steps .result) _ _ _ (c .before .before .before .before .before .before .before .before .before .before .before .before .before .before .refusal .ensures) (c .before .before .before .before .before .before .before .before .before .before .before .before .before .if1 .left) (bracket-eight (gainUpdates k)) (c .before .before .before .before .before .before .before .before .gain-steps .ensures .0) (c .before .before .before .before .finish .ensures .1) (c .before .before .before .before .finish .ensures .0) (gain-kept t actual (c .kept-gain .result) (c .before .before .before .before .before .before .before .before .gain-steps .result .went) (c .before .before .before .before .before .before .before .before .gain-steps .result .chip) (c .kept-gain .ensures)) refl)
 
 pub set-step-spec : {M : Type 1} → statement M
 set-step-spec =
     tie.close
     (tie.spec
-    gain-updates-requires
+    refusal-requires
+    returns
     gain-at-requires
     bits-of-requires
-    cast-t9
-    operate-requires
+    gain-steps-requires
+    cast-t22
+    finish-requires
+    kept-gain-requires
     same-length
-    returns)
+    returns-2)
