@@ -84,13 +84,6 @@ module _ {L : Type 0} (put : L → ℕ → Entry → L) (os : List ℕ) where
   unfolding run
   one-more s ss w x y p q = q ∙ ap (run put os ss) p
 
-  -- and between an opening and a closing
-  pub bracket-made : (ss : List Step) (w x y z : Line L) → x ≡ step put os Open w → y ≡ run put os ss x → z ≡ step put os Close y
-      → z ≡ run put os (Open ∷ (ss ++ (Close ∷ []))) w
-  unfolding run
-  bracket-made ss w x y z p q r =
-      r ∙ ap (step put os Close) q ∙ ap (λ (v : Line L). step put os Close (run put os ss v)) p ∙ sym (run-app ss (Close ∷ []) (step put os Open w))
-
   -- ---- a closing
 
   pub closing-going : (w : Line L) → goes (w .went) ≡ true → closing put os w ≡ w
@@ -148,9 +141,25 @@ module _ {L : Type 0} (put : L → ℕ → Entry → L) (os : List ℕ) where
       let same : x ≡ y = idle-run rest x i h ∙ e in
       sym (closing-stopped x h) ∙ ap (closing put os) same
 
+  -- steps one after the other, each looked at: a failed one that others follow, one that went, and the last
+  pub cut-here : (s : Step) (rest : List Step) (w x y : Line L) → x ≡ step put os s w → goes (x .went) ≡ false → every inner rest ≡ true
+      → y ≡ step put os Close x → y ≡ closing put os (run put os (s ∷ rest) w)
+  cut-here s rest w x y p h i q = q ∙ stop rest x (run put os (s ∷ rest) w) h i (one-more s rest w x (run put os rest x) p refl)
+
+  pub went-on : (s : Step) (rest : List Step) (w x y : Line L) → x ≡ step put os s w → y ≡ closing put os (run put os rest x)
+      → y ≡ closing put os (run put os (s ∷ rest) w)
+  went-on s rest w x y p q = q ∙ ap (closing put os) (one-more s rest w x (run put os rest x) p refl)
+
+  pub ended-here : (s : Step) (w x y : Line L) → x ≡ step put os s w → y ≡ closing put os x → y ≡ closing put os (run put os (s ∷ []) w)
+  ended-here s w x y p q = q ∙ ap (closing put os) (one-last s w x p)
+
   -- a program that went through
   pub keep : (x y : Line L) → x ≡ y → goes (x .went) ≡ true → x ≡ closing put os y
   keep x y e h = sym (closing-going x h) ∙ ap (closing put os) e
+
+  -- a program whose list was worked out apart
+  pub swap : (xs ys : List Step) (w v : Line L) → xs ≡ ys → v ≡ closing put os (run put os xs w) → v ≡ closing put os (run put os ys w)
+  swap xs ys w v e h = h ∙ ap (λ (ss : List Step). closing put os (run put os ss w)) e
 
   -- two parts behind one open repeater
   pub part : (xs ys : List Step) (w : Line L) → every inner ys ≡ true

@@ -582,16 +582,34 @@ fn first_chunks(
 ) -> Log
     requires { ⌜ (l .count + 3 + due (l .held) ≤ length (now outcomes)) × (16 * (l .count + 3 + due (l .held)) ≤ length (now room)) ⌝ }
     ensures { λ r. ⌜ ((shadow : List ℕ) → onLists address shadow (now (attempted .exit)) (now (doubtful .exit)) r (now (room .exit))
-        ≡ run inRoom (now (outcomes .entry)) (map (chunkStep bs) (drop 0 (take 3 chunkTable)))
-        (onLists address shadow (now (attempted .entry)) (now (doubtful .entry)) l (now (room .entry)))) ⌝ }
+        ≡ closing inRoom (now (outcomes .entry)) (run inRoom (now (outcomes .entry)) (map (chunkStep bs) (drop 0 (take 3 chunkTable)))
+        (onLists address shadow (now (attempted .entry)) (now (doubtful .entry)) l (now (room .entry))))) ⌝ }
     ensures bounds { λ r. ⌜ r .count + due (r .held) ≤ l .count + 3 + due (l .held) ⌝ }
 {
     let one = Chunk { at: 0, size: 7 };
     let two = Chunk { at: 7, size: 7 };
     let three = Chunk { at: 14, size: 2 };
-    let l = send_chunk(l, address, bs, one, attempted, doubtful, outcomes, room);
-    let l = send_chunk(l, address, bs, two, attempted, doubtful, outcomes, room);
-    send_chunk(l, address, bs, three, attempted, doubtful, outcomes, room)
+    let first = send_chunk(l, address, bs, one, attempted, doubtful, outcomes, room);
+    let went = first.went;
+    let Went::Going = went else {
+        return log_close(first, outcomes, room);
+    };
+    let second = send_chunk(first, address, bs, two, attempted, doubtful, outcomes, room);
+    let went = second.went;
+    let Went::Going = went else {
+        return log_close(second, outcomes, room);
+    };
+    let third = send_chunk(
+        second,
+        address,
+        bs,
+        three,
+        attempted,
+        doubtful,
+        outcomes,
+        room,
+    );
+    log_end(third, outcomes, room)
 }
 
 // The last two of them.
@@ -606,14 +624,28 @@ fn last_chunks(
 ) -> Log
     requires { ⌜ (l .count + 2 + due (l .held) ≤ length (now outcomes)) × (16 * (l .count + 2 + due (l .held)) ≤ length (now room)) ⌝ }
     ensures { λ r. ⌜ ((shadow : List ℕ) → onLists address shadow (now (attempted .exit)) (now (doubtful .exit)) r (now (room .exit))
-        ≡ run inRoom (now (outcomes .entry)) (map (chunkStep bs) (drop 3 (take 5 chunkTable)))
-        (onLists address shadow (now (attempted .entry)) (now (doubtful .entry)) l (now (room .entry)))) ⌝ }
+        ≡ closing inRoom (now (outcomes .entry)) (run inRoom (now (outcomes .entry)) (map (chunkStep bs) (drop 3 (take 5 chunkTable)))
+        (onLists address shadow (now (attempted .entry)) (now (doubtful .entry)) l (now (room .entry))))) ⌝ }
     ensures bounds { λ r. ⌜ r .count + due (r .held) ≤ l .count + 2 + due (l .held) ⌝ }
 {
     let four = Chunk { at: 16, size: 7 };
     let five = Chunk { at: 23, size: 4 };
-    let l = send_chunk(l, address, bs, four, attempted, doubtful, outcomes, room);
-    send_chunk(l, address, bs, five, attempted, doubtful, outcomes, room)
+    let first = send_chunk(l, address, bs, four, attempted, doubtful, outcomes, room);
+    let went = first.went;
+    let Went::Going = went else {
+        return log_close(first, outcomes, room);
+    };
+    let second = send_chunk(
+        first,
+        address,
+        bs,
+        five,
+        attempted,
+        doubtful,
+        outcomes,
+        room,
+    );
+    log_end(second, outcomes, room)
 }
 
 // `i2c_write_tuner` of the first 16 registers.

@@ -15,7 +15,7 @@ use Rattle.chip.specs.declared.Flow.{Flow}
 use Rattle.chip.specs.declared.Log.{Log}
 use Rattle.chip.specs.Steps.{Step, Line, closing, every, flowOf, goes, inRoom, inner, logOf, onLog, onRoom, run, step, updates}
 use Rattle.chip.specs.Steps.Step.{Close, Plain}
-use Rattle.chip.proofs.Laws.{parts, stop}
+use Rattle.chip.proofs.Laws.{parts, stop, swap}
 use Rattle.chip.proofs.Lists.{every-inner, inner-update}
 use Rattle.chip.proofs.Rooms.{over}
 use Rattle.pll.specs.declared.Kind.{Kind}
@@ -92,13 +92,10 @@ inner-rest address rs i =
     (every-app inner (afterTry i) (triesFrom address rs (10 - (i + 1)) (i + 1)) (inner-after i) (inner-tries address rs (10 - (i + 1)) (i + 1)))
 
 module _ {L : Type 0} (put : L → ℕ → Entry → L) (os : List ℕ) where
-  pub swap : (xs ys : List Step) (w v : Line L) → xs ≡ ys → v ≡ closing put os (run put os xs w) → v ≡ closing put os (run put os ys w)
-  swap xs ys w v e h = h ∙ ap (λ (ss : List Step). closing put os (run put os ss w)) e
-
   module _ (address : ℕ) (rs : List ℕ) (i : ℕ) (few : i < 10) (w x : Line L) (read : x ≡ closing put os (run put os (tryRead address rs i) w)) where
     all : (y : Line L) → y ≡ closing put os (run put os (restOf address rs i) x) → y ≡ closing put os (run put os (triesFrom address rs (10 - i) i) w)
     all y e =
-        swap (tryRead address rs i ++ restOf address rs i) (triesFrom address rs (10 - i) i) w y (sym (opened address rs i few))
+        swap put os (tryRead address rs i ++ restOf address rs i) (triesFrom address rs (10 - i) i) w y (sym (opened address rs i few))
         (parts put os (tryRead address rs i) (restOf address rs i) w x y (inner-rest address rs i) read e)
 
     -- the read failed
@@ -107,7 +104,7 @@ module _ {L : Type 0} (put : L → ℕ → Entry → L) (os : List ℕ) where
 
     -- it has the lock bit
     pub lock-try : (y : Line L) → locksAt rs i ≡ true → y ≡ closing put os (run put os (updates locked) x) → y ≡ closing put os (run put os (triesFrom address rs (10 - i) i) w)
-    lock-try y b e = all y (swap (updates locked) (restOf address rs i) x y (sym (ap (λ (t : Bool). pick t (updates locked) (afterTry i ++ triesFrom address rs (10 - (i + 1)) (i + 1))) b)) e)
+    lock-try y b e = all y (swap put os (updates locked) (restOf address rs i) x y (sym (ap (λ (t : Bool). pick t (updates locked) (afterTry i ++ triesFrom address rs (10 - (i + 1)) (i + 1))) b)) e)
 
     -- it has not
     pub next-try : (y : Line L) → locksAt rs i ≡ false → y ≡ closing put os (run put os (afterTry i) x)
@@ -115,7 +112,7 @@ module _ {L : Type 0} (put : L → ℕ → Entry → L) (os : List ℕ) where
     next-try y b e =
         let z : Line L = closing put os (run put os (triesFrom address rs (10 - (i + 1)) (i + 1)) y) in
         all z
-        (swap (afterTry i ++ triesFrom address rs (10 - (i + 1)) (i + 1)) (restOf address rs i) x z
+        (swap put os (afterTry i ++ triesFrom address rs (10 - (i + 1)) (i + 1)) (restOf address rs i) x z
         (sym (ap (λ (t : Bool). pick t (updates locked) (afterTry i ++ triesFrom address rs (10 - (i + 1)) (i + 1))) b))
         (parts put os (afterTry i) (triesFrom address rs (10 - (i + 1)) (i + 1)) x y z (inner-tries address rs (10 - (i + 1)) (i + 1)) e refl))
 
@@ -125,10 +122,8 @@ module _ {L : Type 0} (put : L → ℕ → Entry → L) (os : List ℕ) where
       let none : 10 - i ≡ 0 = omega arith in
       rw none
 
--- a part behind an open repeater that went over the log alone, and its end
-pub part-over : (os : List ℕ) (ss : List Step) (f : Flow) (l y z : Log) (r : Flow) (room mid after : List ℕ)
-    → l ≡ logOf f → ((chip : Chip) → onLog chip y mid ≡ run inRoom os ss (onLog chip l room))
-    → ((chip : Chip) → onLog chip z after ≡ closing inRoom os (onLog chip y mid)) → r ≡ flowOf z (f .chip)
+-- a part behind an open repeater that went over the log alone
+pub part-over : (os : List ℕ) (ss : List Step) (f : Flow) (l z : Log) (r : Flow) (room after : List ℕ)
+    → l ≡ logOf f → ((chip : Chip) → onLog chip z after ≡ closing inRoom os (run inRoom os ss (onLog chip l room))) → r ≡ flowOf z (f .chip)
     → onRoom r after ≡ closing inRoom os (run inRoom os ss (onRoom f room))
-part-over os ss f l y z r room mid after p e h q =
-    over (λ w. closing inRoom os (run inRoom os ss w)) f l z r room after p (λ chip. h chip ∙ ap (closing inRoom os) (e chip)) q
+part-over os ss f l z r room after p e q = over (λ w. closing inRoom os (run inRoom os ss w)) f l z r room after p e q

@@ -208,8 +208,8 @@ fn reply_bytes(replies: &[u8], at: usize, n: usize) -> [u8; 8]
 fn status_entries(l: Log, address: u8, bytes: [u8; 8], outcomes: &[u8], room: &mut [u8]) -> Log
     requires { ⌜ (l .count + 3 + due (l .held) ≤ length (now outcomes)) × (16 * (l .count + 3 + due (l .held)) ≤ length (now room)) ⌝ }
     ensures { λ r. ⌜ ((chip : Chip) → onLog chip r (now (room .exit))
-        ≡ run inRoom (now (outcomes .entry)) (Plain (wait 2) ∷ Plain (pointer address) ∷ Plain (readEntry address 5 bytes) ∷ [])
-        (onLog chip l (now (room .entry)))) ⌝ }
+        ≡ closing inRoom (now (outcomes .entry)) (run inRoom (now (outcomes .entry)) (Plain (wait 2) ∷ Plain (pointer address) ∷ Plain (readEntry address 5 bytes) ∷ [])
+        (onLog chip l (now (room .entry))))) ⌝ }
     ensures bounds { λ r. ⌜ r .count + due (r .held) ≤ l .count + 3 + due (l .held) ⌝ }
 {
     let waited = chip::log_plain(
@@ -225,6 +225,10 @@ fn status_entries(l: Log, address: u8, bytes: [u8; 8], outcomes: &[u8], room: &m
         outcomes,
         room,
     );
+    let went = waited.went;
+    let Went::Going = went else {
+        return chip::log_close(waited, outcomes, room);
+    };
     let pointed = chip::log_plain(
         waited,
         Entry {
@@ -238,7 +242,11 @@ fn status_entries(l: Log, address: u8, bytes: [u8; 8], outcomes: &[u8], room: &m
         outcomes,
         room,
     );
-    chip::log_plain(
+    let went = pointed.went;
+    let Went::Going = went else {
+        return chip::log_close(pointed, outcomes, room);
+    };
+    let read = chip::log_plain(
         pointed,
         Entry {
             kind: 3,
@@ -250,7 +258,8 @@ fn status_entries(l: Log, address: u8, bytes: [u8; 8], outcomes: &[u8], room: &m
         },
         outcomes,
         room,
-    )
+    );
+    chip::log_end(read, outcomes, room)
 }
 
 // "wait 2, status": the VCO settles, then five status bytes are read.
@@ -265,8 +274,7 @@ fn read_status_raw(f: Flow, address: u8, replies: &[u8], outcomes: &[u8], room: 
     let bytes = reply_bytes(replies, 0, 5);
     let l = chip::log_of(f);
     let read = status_entries(l, address, bytes, outcomes, room);
-    let ended = chip::log_end(read, outcomes, room);
-    chip::flow_of(ended, f.chip)
+    chip::flow_of(read, f.chip)
 }
 
 // The Rust's `vco_power_ref`.
@@ -340,7 +348,8 @@ fn locks(byte: u8) -> bool
 fn try_entries(l: Log, address: u8, bytes: [u8; 8], outcomes: &[u8], room: &mut [u8]) -> Log
     requires { ⌜ (l .count + 2 + due (l .held) ≤ length (now outcomes)) × (16 * (l .count + 2 + due (l .held)) ≤ length (now room)) ⌝ }
     ensures { λ r. ⌜ ((chip : Chip) → onLog chip r (now (room .exit))
-        ≡ run inRoom (now (outcomes .entry)) (Plain (pointer address) ∷ Plain (readEntry address 3 bytes) ∷ []) (onLog chip l (now (room .entry)))) ⌝ }
+        ≡ closing inRoom (now (outcomes .entry))
+        (run inRoom (now (outcomes .entry)) (Plain (pointer address) ∷ Plain (readEntry address 3 bytes) ∷ []) (onLog chip l (now (room .entry))))) ⌝ }
     ensures bounds { λ r. ⌜ r .count + due (r .held) ≤ l .count + 2 + due (l .held) ⌝ }
 {
     let pointed = chip::log_plain(
@@ -356,7 +365,11 @@ fn try_entries(l: Log, address: u8, bytes: [u8; 8], outcomes: &[u8], room: &mut 
         outcomes,
         room,
     );
-    chip::log_plain(
+    let went = pointed.went;
+    let Went::Going = went else {
+        return chip::log_close(pointed, outcomes, room);
+    };
+    let read = chip::log_plain(
         pointed,
         Entry {
             kind: 3,
@@ -368,7 +381,8 @@ fn try_entries(l: Log, address: u8, bytes: [u8; 8], outcomes: &[u8], room: &mut 
         },
         outcomes,
         room,
-    )
+    );
+    chip::log_end(read, outcomes, room)
 }
 
 // The read of try i.
@@ -390,8 +404,7 @@ fn read_try(
     let bytes = reply_bytes(replies, 5 + 3 * i, 3);
     let l = chip::log_of(f);
     let read = try_entries(l, address, bytes, outcomes, room);
-    let ended = chip::log_end(read, outcomes, room);
-    chip::flow_of(ended, f.chip)
+    chip::flow_of(read, f.chip)
 }
 
 // The wait of 1 behind a try.

@@ -6,7 +6,7 @@ ghost use mathlib.Core.List.{_++_};
 ghost use Prim.Native.Nat.{_+_, _*_, _≤_, _<_};
 ghost use lib.Dec.{leb};
 ghost use lib.ListN.{length, take};
-ghost use Rattle.chip.specs.Steps.{allIn, behind, due, inRoom, onLists, onRoom, run, updates};
+ghost use Rattle.chip.specs.Steps.{allIn, behind, closing, due, inRoom, onLists, onRoom, run, updates};
 ghost use Rattle.writes.specs.Lists.{bandwidthUpdates, byHand, gainUpdates, ifUpdates, initUpdates, pathUpdates, pick, stepValues};
 ghost use Rattle.writes.specs.Programs.{initSteps, sendAll};
 use board::Path;
@@ -14,6 +14,7 @@ use chip::Chip;
 use chip::Flow;
 use chip::Log;
 use chip::Update;
+use chip::Went;
 use gain::GainEntry;
 
 pub const IF_FREQ_NARROW: u64 = 2_300_000;
@@ -196,8 +197,8 @@ fn gain_by_hand(
 ) -> Log
     requires { ⌜ (l .count + 2 + due (l .held) ≤ length (now outcomes)) × (16 * (l .count + 2 + due (l .held)) ≤ length (now room)) ⌝ }
     ensures { λ r. ⌜ onLists address (now (shadow .exit)) (now (attempted .exit)) (now (doubtful .exit)) r (now (room .exit))
-        ≡ run inRoom (now (outcomes .entry)) (updates byHand)
-        (onLists address (now (shadow .entry)) (now (attempted .entry)) (now (doubtful .entry)) l (now (room .entry))) ⌝ }
+        ≡ closing inRoom (now (outcomes .entry)) (run inRoom (now (outcomes .entry)) (updates byHand)
+        (onLists address (now (shadow .entry)) (now (attempted .entry)) (now (doubtful .entry)) l (now (room .entry)))) ⌝ }
     ensures bounds { λ r. ⌜ r .count + due (r .held) ≤ l .count + 2 + due (l .held) ⌝ }
 {
     let lna = chip::write_reg_mask_raw(
@@ -212,7 +213,11 @@ fn gain_by_hand(
         outcomes,
         room,
     );
-    chip::write_reg_mask_raw(
+    let went = lna.went;
+    let Went::Going = went else {
+        return chip::log_close(lna, outcomes, room);
+    };
+    let mix = chip::write_reg_mask_raw(
         lna,
         address,
         0x07,
@@ -223,7 +228,8 @@ fn gain_by_hand(
         doubtful,
         outcomes,
         room,
-    )
+    );
+    chip::log_end(mix, outcomes, room)
 }
 
 // The step's three values. 0x05: bits 0 to 3 are the LNA's gain, bits 5 and 6 the antenna's path, which the mask leaves.
@@ -239,8 +245,8 @@ fn gain_values(
 ) -> Log
     requires { ⌜ (l .count + 3 + due (l .held) ≤ length (now outcomes)) × (16 * (l .count + 3 + due (l .held)) ≤ length (now room)) ⌝ }
     ensures { λ r. ⌜ onLists address (now (shadow .exit)) (now (attempted .exit)) (now (doubtful .exit)) r (now (room .exit))
-        ≡ run inRoom (now (outcomes .entry)) (updates (stepValues cfg))
-        (onLists address (now (shadow .entry)) (now (attempted .entry)) (now (doubtful .entry)) l (now (room .entry))) ⌝ }
+        ≡ closing inRoom (now (outcomes .entry)) (run inRoom (now (outcomes .entry)) (updates (stepValues cfg))
+        (onLists address (now (shadow .entry)) (now (attempted .entry)) (now (doubtful .entry)) l (now (room .entry)))) ⌝ }
     ensures bounds { λ r. ⌜ r .count + due (r .held) ≤ l .count + 3 + due (l .held) ⌝ }
 {
     let lna = chip::write_reg_mask_raw(
@@ -255,6 +261,10 @@ fn gain_values(
         outcomes,
         room,
     );
+    let went = lna.went;
+    let Went::Going = went else {
+        return chip::log_close(lna, outcomes, room);
+    };
     let mix = chip::write_reg_mask_raw(
         lna,
         address,
@@ -267,7 +277,11 @@ fn gain_values(
         outcomes,
         room,
     );
-    chip::write_reg_mask_raw(
+    let went = mix.went;
+    let Went::Going = went else {
+        return chip::log_close(mix, outcomes, room);
+    };
+    let vga = chip::write_reg_mask_raw(
         mix,
         address,
         0x0c,
@@ -278,7 +292,8 @@ fn gain_values(
         doubtful,
         outcomes,
         room,
-    )
+    );
+    chip::log_end(vga, outcomes, room)
 }
 
 // `set_gain`'s five writes, for the step of index k. No list and no loop: each write has its register in the code, so that most of it is worked out before it is run.
@@ -294,8 +309,8 @@ fn gain_writes(
 ) -> Log
     requires { ⌜ (k < 29) × (l .count + 5 + due (l .held) ≤ length (now outcomes)) × (16 * (l .count + 5 + due (l .held)) ≤ length (now room)) ⌝ }
     ensures { λ r. ⌜ onLists address (now (shadow .exit)) (now (attempted .exit)) (now (doubtful .exit)) r (now (room .exit))
-        ≡ run inRoom (now (outcomes .entry)) (updates (gainUpdates k))
-        (onLists address (now (shadow .entry)) (now (attempted .entry)) (now (doubtful .entry)) l (now (room .entry))) ⌝ }
+        ≡ closing inRoom (now (outcomes .entry)) (run inRoom (now (outcomes .entry)) (updates (gainUpdates k))
+        (onLists address (now (shadow .entry)) (now (attempted .entry)) (now (doubtful .entry)) l (now (room .entry)))) ⌝ }
     ensures bounds { λ r. ⌜ r .count + due (r .held) ≤ l .count + 5 + due (l .held) ⌝ }
 {
     let cfg = gain::entry_at(k);

@@ -1,8 +1,8 @@
--- `chip::first_chunks` meets its contract. The steps of its calls, one after the other. Assumes nothing.
-use mathlib.Core.Path.{refl}
+-- `chip::first_chunks` meets its contract. Its steps one after the other, each looked at. Assumes nothing.
+use mathlib.Core.Path.{refl, ap}
 use native.Mathlib.Omega.{arith}
-use Rattle.chip.specs.Steps.{inRoom}
-use Rattle.chip.proofs.Laws.{one-last, one-more}
+use Rattle.chip.specs.Steps.{every, goes, inRoom}
+use Rattle.chip.proofs.Laws.{cut-here, ended-here, went-on}
 use borrow.Author.Needs.{needs}
 use Rattle.chip.proofs.first_chunks.Statement.{statement}
 use Rattle.chip.proofs.first_chunks.Tie as tie
@@ -10,19 +10,70 @@ use Rattle.chip.proofs.first_chunks.Tie as tie
 send-chunk-requires : tie.Need-send-chunk-requires
 send-chunk-requires c κs = (refl, search needs, search needs)
 
-send-chunk-requires-2 : tie.Need-send-chunk-requires-2
-send-chunk-requires-2 c κs = (refl, search needs, search needs)
+enum-told : tie.Need-enum-told
+enum-told c = search needs
 
-send-chunk-requires-3 : tie.Need-send-chunk-requires-3
-send-chunk-requires-3 c κs = (refl, search needs, search needs)
+enum-told-2 : tie.Need-enum-told-2
+enum-told-2 c = search needs
+
+log-close-requires : tie.Need-log-close-requires
+log-close-requires c κs = omega (arith, c .before .before .before .before .before .send-chunk .ensures .1, c .before .before .before .before .before .send-chunk .kept, c .before .before .before .before .before .before .before .before .before .before .before .pre)
 
 same-length : tie.Need-same-length
 same-length c = search needs
 
 returns : tie.Need-returns
-returns c = (λ shadow. one-more inRoom _ _ _ _ _ _ (c .before .before .before .before .before .before .before .before .before .before .before .before .before .before .send-chunk .ensures .0 shadow) (one-more inRoom _ _ _ _ _ _ (c .before .before .before .before .before .before .before .before .send-chunk2 .ensures .0 shadow) (one-last inRoom _ _ _ _ (c .before .before .send-chunk3 .ensures .0 shadow))), search needs)
+unfolding every
+returns c = (λ shadow. cut-here inRoom _ _ _ _ _ _ (c .before .before .before .before .before .before .before .before .send-chunk .ensures .0 shadow) (ap goes (c .before .before .before .before .enum-told2 .given .1)) refl (c .before .before .log-close .ensures .0 _), omega (arith, c .before .before .before .before .before .before .before .before .send-chunk .ensures .1, c .before .before .before .before .before .before .before .before .send-chunk .kept, c .before .before .log-close .ensures .1, c .before .before .log-close .kept, c .before .before .before .before .before .before .before .before .before .before .before .before .before .before .pre))
+
+send-chunk-requires-2 : tie.Need-send-chunk-requires-2
+send-chunk-requires-2 c κs = (refl, omega (arith, c .before .before .before .before .before .before .before .send-chunk .ensures .1, c .before .before .before .before .before .before .before .send-chunk .kept, c .before .before .before .before .before .before .before .before .before .before .before .before .before .pre), omega (arith, c .before .before .before .before .before .before .before .send-chunk .ensures .1, c .before .before .before .before .before .before .before .send-chunk .kept, c .before .before .before .before .before .before .before .before .before .before .before .before .before .pre))
+
+enum-told-3 : tie.Need-enum-told-3
+enum-told-3 c = search needs
+
+enum-told-4 : tie.Need-enum-told-4
+enum-told-4 c = search needs
+
+log-close-requires-2 : tie.Need-log-close-requires-2
+log-close-requires-2 c κs = omega (arith, c .before .before .before .before .before .before .before .before .before .before .before .before .before .send-chunk .ensures .1, c .before .before .before .before .before .before .before .before .before .before .before .before .before .send-chunk .kept, c .before .before .before .before .before .send-chunk2 .ensures .1, c .before .before .before .before .before .send-chunk2 .kept, c .before .before .before .before .before .before .before .before .before .before .before .before .before .before .before .before .before .before .before .pre)
+
+same-length-2 : tie.Need-same-length-2
+same-length-2 c = search needs
+
+returns-2 : tie.Need-returns-2
+unfolding every
+returns-2 c = (λ shadow. went-on inRoom _ _ _ _ _ _ (c .before .before .before .before .before .before .before .before .before .before .before .before .before .before .before .before .send-chunk .ensures .0 shadow) (cut-here inRoom _ _ _ _ _ _ (c .before .before .before .before .before .before .before .before .send-chunk2 .ensures .0 shadow) (ap goes (c .before .before .before .before .enum-told4 .given .1)) refl (c .before .before .log-close2 .ensures .0 _)), omega (arith, c .before .before .before .before .before .before .before .before .before .before .before .before .before .before .before .before .send-chunk .ensures .1, c .before .before .before .before .before .before .before .before .before .before .before .before .before .before .before .before .send-chunk .kept, c .before .before .before .before .before .before .before .before .send-chunk2 .ensures .1, c .before .before .before .before .before .before .before .before .send-chunk2 .kept, c .before .before .log-close2 .ensures .1, c .before .before .log-close2 .kept, c .before .before .before .before .before .before .before .before .before .before .before .before .before .before .before .before .before .before .before .before .before .before .pre))
+
+send-chunk-requires-3 : tie.Need-send-chunk-requires-3
+send-chunk-requires-3 c κs = (refl, omega (arith, c .before .before .before .before .before .before .before .before .before .before .before .before .before .before .before .send-chunk .ensures .1, c .before .before .before .before .before .before .before .before .before .before .before .before .before .before .before .send-chunk .kept, c .before .before .before .before .before .before .before .send-chunk2 .ensures .1, c .before .before .before .before .before .before .before .send-chunk2 .kept, c .before .before .before .before .before .before .before .before .before .before .before .before .before .before .before .before .before .before .before .before .before .pre), omega (arith, c .before .before .before .before .before .before .before .before .before .before .before .before .before .before .before .send-chunk .ensures .1, c .before .before .before .before .before .before .before .before .before .before .before .before .before .before .before .send-chunk .kept, c .before .before .before .before .before .before .before .send-chunk2 .ensures .1, c .before .before .before .before .before .before .before .send-chunk2 .kept, c .before .before .before .before .before .before .before .before .before .before .before .before .before .before .before .before .before .before .before .before .before .pre))
+
+log-end-requires : tie.Need-log-end-requires
+log-end-requires c κs = omega (arith, c .before .before .before .before .before .before .before .before .before .before .before .before .before .before .before .before .before .before .before .send-chunk .ensures .1, c .before .before .before .before .before .before .before .before .before .before .before .before .before .before .before .before .before .before .before .send-chunk .kept, c .before .before .before .before .before .before .before .before .before .before .before .send-chunk2 .ensures .1, c .before .before .before .before .before .before .before .before .before .before .before .send-chunk2 .kept, c .before .before .before .send-chunk3 .ensures .1, c .before .before .before .send-chunk3 .kept, c .before .before .before .before .before .before .before .before .before .before .before .before .before .before .before .before .before .before .before .before .before .before .before .before .before .pre)
+
+same-length-3 : tie.Need-same-length-3
+same-length-3 c = omega (arith, c .before .before .before .before .before .before .before .before .before .before .before .before .before .before .before .before .before .before .before .before .before .before .send-chunk .kept, c .before .before .before .before .before .before .before .before .before .before .before .before .before .before .send-chunk2 .kept, c .before .before .before .before .before .before .send-chunk3 .kept, c .before .before .log-end .kept)
+
+returns-3 : tie.Need-returns-3
+returns-3 c = (λ shadow. went-on inRoom _ _ _ _ _ _ (c .before .before .before .before .before .before .before .before .before .before .before .before .before .before .before .before .before .before .before .before .before .before .send-chunk .ensures .0 shadow) (went-on inRoom _ _ _ _ _ _ (c .before .before .before .before .before .before .before .before .before .before .before .before .before .before .send-chunk2 .ensures .0 shadow) (ended-here inRoom _ _ _ _ _ (c .before .before .before .before .before .before .send-chunk3 .ensures .0 shadow) (c .before .before .log-end .ensures .0 _))), omega (arith, c .before .before .before .before .before .before .before .before .before .before .before .before .before .before .before .before .before .before .before .before .before .before .send-chunk .ensures .1, c .before .before .before .before .before .before .before .before .before .before .before .before .before .before .before .before .before .before .before .before .before .before .send-chunk .kept, c .before .before .before .before .before .before .before .before .before .before .before .before .before .before .send-chunk2 .ensures .1, c .before .before .before .before .before .before .before .before .before .before .before .before .before .before .send-chunk2 .kept, c .before .before .before .before .before .before .send-chunk3 .ensures .1, c .before .before .before .before .before .before .send-chunk3 .kept, c .before .before .log-end .ensures .1, c .before .before .log-end .kept, c .before .before .before .before .before .before .before .before .before .before .before .before .before .before .before .before .before .before .before .before .before .before .before .before .before .before .before .before .pre))
 
 pub first-chunks-spec : {M : Type 1} → statement M
 first-chunks-spec =
     tie.close
-    (tie.spec send-chunk-requires send-chunk-requires-2 send-chunk-requires-3 same-length returns)
+    (tie.spec
+    send-chunk-requires
+    enum-told
+    enum-told-2
+    log-close-requires
+    same-length
+    returns
+    send-chunk-requires-2
+    enum-told-3
+    enum-told-4
+    log-close-requires-2
+    same-length-2
+    returns-2
+    send-chunk-requires-3
+    log-end-requires
+    same-length-3
+    returns-3)

@@ -3,9 +3,9 @@ use mathlib.Core.Path.{_≡_, refl, ap, _∙_}
 use native.Mathlib.Omega.{arith}
 use Prim.Native.Nat.{_+_, _-_, _≤_}
 use Rattle.chip.specs.Steps.{due, every, inRoom, updates}
-use Rattle.chip.proofs.Laws.{parts}
+use Rattle.chip.proofs.Laws.{parts, swap}
 use Rattle.tuning.specs.Tries.{again}
-use Rattle.tuning.proofs.Turns.{first-write, swap, wait-alone}
+use Rattle.tuning.proofs.Turns.{first-write, wait-alone}
 use mathlib.Core.List.{[], _∷_}
 use Rattle.chip.specs.Entries.{wait}
 use Rattle.chip.specs.Steps.Step.{Plain}

@@ -5,7 +5,8 @@ use native.Mathlib.Omega.{arith}
 use Rattle.chip.specs.declared.Log.{Log}
 use Rattle.chip.specs.Steps.{due, inRoom}
 use Rattle.chip.proofs.Rooms.{over-most}
-use Rattle.tuning.proofs.Turns.{part-over, swap, try-made}
+use Rattle.chip.proofs.Laws.{swap}
+use Rattle.tuning.proofs.Turns.{part-over, try-made}
 use borrow.Author.Needs.{needs}
 use Rattle.tuning.proofs.read_try.Statement.{statement}
 use Rattle.tuning.proofs.read_try.Tie as tie
@@ -25,9 +26,6 @@ log-of-requires c κs = search needs
 try-entries-requires : tie.Need-try-entries-requires
 try-entries-requires c κs = omega (arith, ap (λ (x : Log). x .count + due (x .held)) (c .before .log-of .ensures), c .before .before .before .before .before .before .pre)
 
-log-end-requires : tie.Need-log-end-requires
-log-end-requires c κs = omega (arith, ap (λ (x : Log). x .count + due (x .held)) (c .before .before .before .before .before .log-of .ensures), c .before .before .before .try-entries .ensures .1, c .before .before .before .try-entries .kept, c .before .before .before .before .before .before .before .before .before .before .pre)
-
 flow-of-requires : tie.Need-flow-of-requires
 flow-of-requires c κs = search needs
 
@@ -35,7 +33,7 @@ same-length : tie.Need-same-length
 same-length c = search needs
 
 returns : tie.Need-returns
-returns c = (swap inRoom _ _ _ _ _ (try-made _ _ _ _ (c .before .before .before .before .before .before .before .before .before .before .reply-bytes .ensures)) (part-over _ _ (c .before .before .before .before .before .before .before .before .before .before .before .before .before .before .args .f) _ _ _ _ _ _ _ (c .before .before .before .before .before .before .before .before .before .log-of .ensures) (c .before .before .before .before .before .before .before .try-entries .ensures .0) (c .before .before .before .log-end .ensures .0) (c .flow-of .ensures)), omega (arith, over-most (c .before .before .before .before .before .before .before .before .before .before .before .before .before .before .args .f) _ _ _ _ 2 (c .before .before .before .before .before .before .before .before .before .log-of .ensures) (c .flow-of .ensures) (omega (arith, c .before .before .before .log-end .ensures .1, c .before .before .before .before .before .before .before .try-entries .ensures .1))))
+returns c = (swap inRoom _ _ _ _ _ (try-made _ _ _ _ (c .before .before .before .before .before .before .reply-bytes .ensures)) (part-over _ _ (c .before .before .before .before .before .before .before .before .before .before .args .f) _ _ _ _ _ (c .before .before .before .before .before .log-of .ensures) (c .before .before .before .try-entries .ensures .0) (c .flow-of .ensures)), omega (arith, over-most (c .before .before .before .before .before .before .before .before .before .before .args .f) _ _ _ _ 2 (c .before .before .before .before .before .log-of .ensures) (c .flow-of .ensures) (omega (arith, c .before .before .before .try-entries .ensures .1))))
 
 pub read-try-spec : {M : Type 1} → statement M
 read-try-spec =
@@ -46,7 +44,6 @@ read-try-spec =
     reply-bytes-requires
     log-of-requires
     try-entries-requires
-    log-end-requires
     flow-of-requires
     same-length
     returns)

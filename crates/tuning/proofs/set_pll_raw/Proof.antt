@@ -3,9 +3,8 @@ use mathlib.Core.Path.{_≡_, ap}
 use native.Mathlib.Omega.{arith}
 use Prim.Native.Nat.{_+_, _*_, _≤_}
 use Rattle.chip.specs.Steps.{due, inRoom, updates, inner}
-use Rattle.chip.proofs.Laws.{parts}
+use Rattle.chip.proofs.Laws.{parts, swap}
 use Rattle.tuning.specs.Tries.{repairUpdates, statusSteps, triesFrom}
-use Rattle.tuning.proofs.Turns.{swap}
 use Rattle.tuning.proofs.Programs.{every-app, inner-tries, inner-updates}
 use denote.Ref.{now}
 use lib.ListN.{length, getD}

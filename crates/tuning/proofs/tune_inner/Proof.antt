@@ -3,11 +3,11 @@ use Rattle.tuning.specs.Program.{pllSteps, numberOf}
 use mathlib.Core.Path.{subst, _≡_, ap}
 use Rattle.chip.specs.declared.Update.{Update}
 use Rattle.pll.specs.declared.Pll.{Pll}
-use Rattle.tuning.proofs.Turns.{mux-made, plan-made, swap}
+use Rattle.tuning.proofs.Turns.{mux-made, plan-made}
 use native.Mathlib.Omega.{arith}
 use Prim.Native.Nat.{_+_, _*_, _≤_}
 use Rattle.chip.specs.Steps.{due, every, inRange, inRoom, updates}
-use Rattle.chip.proofs.Laws.{parts}
+use Rattle.chip.proofs.Laws.{parts, swap}
 use Rattle.tuning.proofs.Programs.{inner-pll}
 use denote.Ref.{now}
 use lib.ListN.{length, take}

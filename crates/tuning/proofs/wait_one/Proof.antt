@@ -5,7 +5,7 @@ use native.Mathlib.Omega.{arith}
 use Rattle.chip.specs.declared.Log.{Log}
 use Rattle.chip.specs.Steps.{due, inRoom}
 use Rattle.chip.proofs.Rooms.{over-most}
-use Rattle.chip.proofs.Laws.{one-last}
+use Rattle.chip.proofs.Laws.{ended-here}
 use Rattle.tuning.proofs.Turns.{part-over}
 use borrow.Author.Needs.{needs}
 use Rattle.tuning.proofs.wait_one.Statement.{statement}
@@ -27,7 +27,7 @@ same-length : tie.Need-same-length
 same-length c = search needs
 
 returns : tie.Need-returns
-returns c = (part-over _ _ (c .before .before .before .before .before .before .before .before .before .before .before .before .args .f) _ _ _ _ _ _ _ (c .before .before .before .before .before .before .before .before .before .log-of .ensures) (λ chip. one-last inRoom _ _ _ _ (c .before .before .before .before .before .before .before .log-plain .ensures .0 chip)) (c .before .before .before .log-end .ensures .0) (c .flow-of .ensures), omega (arith, over-most (c .before .before .before .before .before .before .before .before .before .before .before .before .args .f) _ _ _ _ 1 (c .before .before .before .before .before .before .before .before .before .log-of .ensures) (c .flow-of .ensures) (omega (arith, c .before .before .before .log-end .ensures .1, c .before .before .before .before .before .before .before .log-plain .ensures .1))))
+returns c = (part-over _ _ (c .before .before .before .before .before .before .before .before .before .before .before .before .args .f) _ _ _ _ _ (c .before .before .before .before .before .before .before .before .before .log-of .ensures) (λ chip. ended-here inRoom _ _ _ _ _ (c .before .before .before .before .before .before .before .log-plain .ensures .0 chip) (c .before .before .before .log-end .ensures .0 chip)) (c .flow-of .ensures), omega (arith, over-most (c .before .before .before .before .before .before .before .before .before .before .before .before .args .f) _ _ _ _ 1 (c .before .before .before .before .before .before .before .before .before .log-of .ensures) (c .flow-of .ensures) (omega (arith, c .before .before .before .log-end .ensures .1, c .before .before .before .before .before .before .before .log-plain .ensures .1))))
 
 pub wait-one-spec : {M : Type 1} → statement M
 wait-one-spec =

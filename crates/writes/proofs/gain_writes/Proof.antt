@@ -1,11 +1,11 @@
 -- `writes::gain_writes` meets its contract: two programs, one after the other. Assumes nothing.
-use mathlib.Core.Path.{ap}
+use mathlib.Core.Path.{refl, ap}
 use native.Mathlib.Omega.{arith}
-use Rattle.chip.specs.Steps.{inRoom, updates}
+use Rattle.chip.specs.Steps.{every, inRoom, updates}
+use Rattle.chip.proofs.Laws.{parts, swap}
 use Rattle.gain.specs.declared.GainEntry.{GainEntry}
 use Rattle.gain.specs.Table.{entryAt}
 use Rattle.writes.specs.Lists.{byHand, stepValues}
-use Rattle.writes.proofs.Chains.{from, then}
 use borrow.Author.Needs.{needs}
 use Rattle.writes.proofs.gain_writes.Statement.{statement}
 use Rattle.writes.proofs.gain_writes.Tie as tie
@@ -23,7 +23,8 @@ same-length : tie.Need-same-length
 same-length c = search needs
 
 returns : tie.Need-returns
-returns c = (then inRoom _ (updates byHand) (updates (stepValues (entryAt (c .before .before .before .before .before .before .before .before .before .before .before .before .before .before .before .before .before .args .k)))) _ _ _ (c .before .before .before .before .before .before .before .before .before .gain-by-hand .ensures .0) (from inRoom _ _ _ _ _ (ap (λ (g : GainEntry). updates (stepValues g)) (c .before .before .before .before .before .before .before .before .before .before .before .before .before .before .entry-at .ensures)) (c .before .before .gain-values .ensures .0)), omega (arith, c .before .before .before .before .before .before .before .before .before .gain-by-hand .ensures .1, c .before .before .gain-values .ensures .1))
+unfolding every
+returns c = (parts inRoom _ (updates byHand) (updates (stepValues (entryAt (c .before .before .before .before .before .before .before .before .before .before .before .before .before .before .before .before .before .args .k)))) _ _ _ refl (c .before .before .before .before .before .before .before .before .before .gain-by-hand .ensures .0) (swap inRoom _ _ _ _ _ (ap (λ (g : GainEntry). updates (stepValues g)) (c .before .before .before .before .before .before .before .before .before .before .before .before .before .before .entry-at .ensures)) (c .before .before .gain-values .ensures .0)), omega (arith, c .before .before .before .before .before .before .before .before .before .gain-by-hand .ensures .1, c .before .before .gain-values .ensures .1))
 
 pub gain-writes-spec : {M : Type 1} → statement M
 gain-writes-spec =
