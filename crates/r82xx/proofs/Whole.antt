@@ -87,6 +87,14 @@ unfolding stepCall
 step-by k bits actual us os t room x e g b h =
     h ∙ (λ i. bracketCall t (withGain t (g i)) (Done ((b ∙ ap (toBits binary32) g) i)) (e i) 5 os t room)
 
+-- the record of a call that is the same cut or whole
+pub same-ended : (t : Tuner) (went : Went) (chip : Chip) → withChip t chip ≡ endedBy t t went chip
+same-ended t went chip = by (goes went)
+  where
+    by : (b : Bool) → withChip t chip ≡ withChip (pick b t t) chip
+    by true = refl
+    by false = refl
+
 -- the record of a gain's call, whose gain alone was chosen
 pub gain-kept : (t : Tuner) (actual g : Float) (went : Went) (chip : Chip) → g ≡ pick (goes went) actual (t .gain)
     → withChip (withGain t g) chip ≡ endedBy t (withGain t actual) went chip

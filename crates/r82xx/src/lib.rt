@@ -8,8 +8,9 @@ ghost use lib.Ieee.{binary32, toBits};
 ghost use Prim.Native.Nat.{_+_, _≤_, _<_};
 ghost use lib.ListN.{length, take};
 ghost use Rattle.chip.specs.Calls.{called};
+ghost use Rattle.chip.specs.declared.Answer.the-variants.{Done};
 ghost use Rattle.chip.specs.Steps.{allIn, goes};
-ghost use Rattle.r82xx.specs.Record.{endedBy, freshTuner, lockBy, madeOf, pick, reloaded, soundBy, withCorrected, withNotch};
+ghost use Rattle.r82xx.specs.Record.{freshTuner, lockBy, madeOf, pick, reloaded, soundBy, withCorrected, withNotch};
 ghost use Rattle.r82xx.specs.Calls.{bandwidthCall, bracketCall, gainCall, hzRefusal, ifCall, indexCall, initCall, keptNotch, keptPpm, pathCall, ppmAnswer, refusalOf, reloadCall, shadowCall, soundAnswer, stepCall, tableOf, tuneCall, wholeOf};
 use board::PathRead;
 use chip::Answer;
@@ -79,20 +80,6 @@ fn sound(nominal: u32, corrected: u32) -> bool
     ensures { λ r. ⌜ r ≡ soundBy nominal corrected ⌝ }
 {
     (1 <= nominal) & (1 <= corrected)
-}
-
-// The record behind steps: as it is where one failed, or where all were done, with the chip's part as they left it.
-fn ended(cut: Tuner, whole: Tuner, went: Went, chip: Chip) -> Tuner
-    ensures { λ r. ⌜ r ≡ endedBy cut whole went chip ⌝ }
-{
-    let mut next = whole;
-    let Went::Going = went else {
-        let mut old = cut;
-        old.chip = chip;
-        return old;
-    };
-    next.chip = chip;
-    next
 }
 
 // "gain only when all are done". The number alone: two whole records to choose from cost more than the writes.
@@ -272,12 +259,10 @@ impl Tuner {
         chip::lent(n, m, room, outcomes, replies)
     }
 
-    // A call of one bracket of masked writes.
+    // A call of one bracket of masked writes: the record is `next` behind them, done or not, with the chip's part as they left it.
     fn operate(
         self,
-        cut: Tuner,
-        whole: Tuner,
-        answer: Answer,
+        mut next: Tuner,
         us: [Update; 16],
         n: usize,
         outcomes: &[u8],
@@ -285,7 +270,7 @@ impl Tuner {
     ) -> Told
         requires { ⌜ (n ≤ 14) × (allIn (take n us) ≡ true) ⌝ }
         ensures { λ r. ⌜ called (r .tuner) (now (room .exit)) (r .count) (r .answer)
-            ≡ bracketCall cut whole answer (take n us) n (now (outcomes .entry)) self (now (room .entry)) ⌝ }
+            ≡ bracketCall next next (Done 0) (take n us) n (now (outcomes .entry)) self (now (room .entry)) ⌝ }
     {
         let number = self.refusal(0, n + 2, 0, room.len(), outcomes.len(), 0);
         if number != 0 {
@@ -307,11 +292,11 @@ impl Tuner {
             },
         };
         let f = chip::with_repeater(start, us, n, outcomes, room);
-        let answered = chip::finish(f, answer, room);
-        let went = f.went;
+        let answered = chip::finish(f, Answer::Done(0), room);
         let left = f.chip;
+        next.chip = left;
         Told {
-            tuner: ended(cut, whole, went, left),
+            tuner: next,
             answer: answered,
             count: f.count,
         }
@@ -322,7 +307,7 @@ impl Tuner {
             ≡ bandwidthCall (now (outcomes .entry)) hz self (now (room .entry)) ⌝ }
     {
         let us = writes::bandwidth_updates(hz);
-        self.operate(self, self, Answer::Done(0), us, 1, outcomes, room)
+        self.operate(self, us, 1, outcomes, room)
     }
 
     // The IF changes before its writes are tried.
@@ -333,7 +318,7 @@ impl Tuner {
         let us = writes::if_updates(hz);
         let old = self;
         self.ifreq = hz;
-        old.operate(self, self, Answer::Done(0), us, 2, outcomes, room)
+        old.operate(self, us, 2, outcomes, room)
     }
 
     // The gain changes only when all writes are done.
@@ -409,15 +394,7 @@ impl Tuner {
                 answer: sound_answer(self.nominal, self.corrected, 0),
                 count: 0,
             },
-            Kind::R828D => self.operate(
-                self,
-                self,
-                Answer::Done(0),
-                writes::path_updates(by),
-                2,
-                outcomes,
-                room,
-            ),
+            Kind::R828D => self.operate(self, writes::path_updates(by), 2, outcomes, room),
         }
     }
 

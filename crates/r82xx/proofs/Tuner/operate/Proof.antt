@@ -5,7 +5,7 @@ use Prim.Native.Nat.{_+_, _*_, _≤_}
 use Rattle.r82xx.specs.Record.{endedBy}
 use Rattle.r82xx.specs.Calls.{bracketCall}
 use Rattle.r82xx.proofs.Refusals.{taken-by}
-use Rattle.r82xx.proofs.Whole.{bracket-eight, perform-by, refuse-by}
+use Rattle.r82xx.proofs.Whole.{bracket-eight, perform-by, refuse-by, same-ended}
 use denote.Ref.{now}
 use lib.ListN.{length, take}
 use Rattle.chip.specs.Steps.{Line, Logged, behind, due, updates}
@@ -32,15 +32,15 @@ finish-requires c κs = let z = taken-by (c .before .before .before .before .bef
     let g : (c .before .before .before .with-repeater .result .count ≤ 4096) × (16 * c .before .before .before .with-repeater .result .count + 8 ≤ length (c .before .before .before .with-repeater .last .1 .1 .1 .1 .0)) = omega (arith, c .before .before .before .before .before .before .before .before .before .before .pre .0) in
     g
 
-ended-requires : tie.Need-ended-requires
-ended-requires c κs = search needs
-
 same-length : tie.Need-same-length
 same-length c = search needs
 
 returns-2 : tie.Need-returns-2
 unfolding bracketCall
-returns-2 c = perform-by _ _ _ _ (behind (updates (take (c .before .before .before .before .before .before .before .before .before .before .before .before .before .before .before .args .n) (c .before .before .before .before .before .before .before .before .before .before .before .before .before .before .before .args .us)))) _ _ (λ (w : Line Logged). endedBy (c .before .before .before .before .before .before .before .before .before .before .before .before .before .before .before .args .cut) (c .before .before .before .before .before .before .before .before .before .before .before .before .before .before .before .args .whole) (w .went) (w .chip)) _ _ _ (c .before .before .before .before .before .before .before .before .with-repeater .result) _ _ _ (c .before .before .before .before .before .before .before .before .before .before .before .before .refusal .ensures) (c .before .before .before .before .before .before .before .before .before .before .before .if1 .left) (bracket-eight (take (c .before .before .before .before .before .before .before .before .before .before .before .before .before .before .before .args .n) (c .before .before .before .before .before .before .before .before .before .before .before .before .before .before .before .args .us))) (c .before .before .before .before .before .before .before .before .with-repeater .ensures .0) (c .before .before .before .before .finish .ensures .1) (c .before .before .before .before .finish .ensures .0) (c .ended .ensures) refl
+returns-2 c =
+    let us = take (c .before .before .before .before .before .before .before .before .before .before .before .before .before .before .args .n) (c .before .before .before .before .before .before .before .before .before .before .before .before .before .before .args .us) in
+    let next = c .before .before .before .before .before .before .before .before .before .before .before .before .before .before .args .next in
+    perform-by _ _ _ _ (behind (updates us)) _ _ (λ (w : Line Logged). endedBy next next (w .went) (w .chip)) _ _ _ (c .before .before .before .before .before .before .before .with-repeater .result) _ _ _ (c .before .before .before .before .before .before .before .before .before .before .before .refusal .ensures) (c .before .before .before .before .before .before .before .before .before .before .if1 .left) (bracket-eight us) (c .before .before .before .before .before .before .before .with-repeater .ensures .0) (c .before .before .before .finish .ensures .1) (c .before .before .before .finish .ensures .0) (same-ended next (c .before .before .before .before .before .before .before .with-repeater .result .went) (c .before .before .before .before .before .before .before .with-repeater .result .chip)) refl
 
 pub operate-spec : {M : Type 1} → statement M
 operate-spec =
@@ -51,6 +51,5 @@ operate-spec =
     returns
     with-repeater-requires
     finish-requires
-    ended-requires
     same-length
     returns-2)
