@@ -16,8 +16,6 @@ ghost use Rattle.chip.specs.Calls.{lentOf, answerOf, sealed};
 ghost use Rattle.chip.specs.Steps.Step.{Open, Close, Send, Mask, Plain};
 use transcript::Entry;
 
-pub const NUM_REGS: usize = 27;
-
 pub const REG_SHADOW_START: u8 = 0x05;
 
 // Refusal numbers of document 01's table.

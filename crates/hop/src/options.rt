@@ -2,6 +2,7 @@
 ghost use Prim.Native.Nat.{_≤_};
 use numbers::Number;
 use numbers::Signed;
+use registers::tuner_ids::R828D_I2C_ADDR;
 use words::lines;
 use words::numbers;
 
@@ -35,7 +36,7 @@ fn defaults(hz: u64) -> Request {
         hz: hz,
         kind: 1,
         addressed: false,
-        address: 0x74,
+        address: R828D_I2C_ADDR,
         board: 1,
         reference: 28_800_000,
         corrected: false,

@@ -14,6 +14,8 @@ use files::Got;
 use lines::Line;
 use options::Request;
 use r82xx::Tuner;
+use registers::tuner_ids::R82XX_I2C_ADDR;
+use registers::tuner_ids::R828D_I2C_ADDR;
 use words::answers;
 use words::chips;
 use words::entries;
@@ -59,9 +61,9 @@ fn address(r: Request) -> u8 {
         return r.address;
     }
     if r.kind == 0 {
-        return 0x34;
+        return R82XX_I2C_ADDR;
     }
-    0x74
+    R828D_I2C_ADDR
 }
 
 // What is asked for, defaults included.
