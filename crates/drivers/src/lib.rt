@@ -24,7 +24,7 @@ fn lend(answer: Answer, driver: Driver, out: &mut [u8]) -> Answer
 {
     let image = records::driver_image(driver);
     answers::lend(
-        tuners::number_of(answer),
+        answers::number_of(answer),
         tuners::value_of(answer),
         &image,
         out,
