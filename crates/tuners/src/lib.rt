@@ -230,7 +230,7 @@ pub fn set_frequency(
     hand(told, next)
 }
 
-pub fn value_of(answer: Answer) -> u64
+fn value_of(answer: Answer) -> u64
     ensures { λ r. ⌜ r ≡ valueOf answer ⌝ }
 {
     match answer {
@@ -240,12 +240,18 @@ pub fn value_of(answer: Answer) -> u64
     }
 }
 
-// A record that was worked out without a step, or the number that it was refused by.
+// A record that was worked out without a step, or the number that it was refused by. Takes its bytes, so that crate drivers lends its own by it.
+pub fn lend_image(answer: Answer, image: &[u8], out: &mut [u8]) -> Answer
+    ensures { λ r. ⌜ given r (now (out .exit)) ≡ recordInto answer (now (image .entry)) (now (out .entry)) ⌝ }
+{
+    answers::lend(answers::number_of(answer), value_of(answer), image, out)
+}
+
 fn lend(answer: Answer, tuner: Tuner, out: &mut [u8]) -> Answer
     ensures { λ r. ⌜ given r (now (out .exit)) ≡ recordInto answer (tunerBytes tuner) (now (out .entry)) ⌝ }
 {
     let image = records::tuner_image(tuner);
-    answers::lend(answers::number_of(answer), value_of(answer), &image, out)
+    lend_image(answer, &image, out)
 }
 
 pub fn fresh(kind: u64, address: u8, nominal: u64, next: &mut [u8]) -> Answer
