@@ -136,7 +136,7 @@ pub fn unpack_fir(bytes: &[u8], out: &mut [u8]) -> Answer
 }
 
 // The number of an answer's refusal, 0 for none.
-fn number(answer: Answer) -> u8
+pub fn number_of(answer: Answer) -> u8
     ensures { λ r. ⌜ r ≡ numberOf answer ⌝ }
 {
     match answer {
@@ -153,5 +153,5 @@ pub fn gain_table(tuner: Tuner, out: &mut [u8]) -> Answer
     let table = tuner.get_gain_table();
     let answer = table.answer;
     let steps = table.steps;
-    lend_words(number(answer), &steps, out)
+    lend_words(number_of(answer), &steps, out)
 }

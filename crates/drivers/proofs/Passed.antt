@@ -3,19 +3,16 @@
 use Prim.Native.Nat.{ℕ, _<_, _≤_}
 use mathlib.Core.Path.{_≡_, refl, sym, ap, _∙_}
 use mathlib.Core.Bool.{Bool, true, false, _&&_, _||_}
-use mathlib.Core.List.{List, []}
+use mathlib.Core.List.{List}
 use native.Mathlib.Omega.{arith}
 use borrow.Author.Tests.{eq-eqb, ne-eqb, lt-ltb, le-ltb, ltb-false}
 use lib.Dec.{eqb, ltb}
-use lib.IntN.{ℤ}
 use lib.ListN.{length}
-use Rattle.answers.specs.Lent.{Given, given}
 use Rattle.chip.specs.declared.Answer.{Answer}
 use Rattle.chip.specs.declared.Answer.the-variants.{Refused}
 use Rattle.chip.specs.Calls.{Called, called, pickN}
 use Rattle.driver.specs.declared.Driver.{Driver}
-use Rattle.driver.specs.Calls.{Both, both, driverPpmCall, rateRefusal, sampleRateCall, xtalAnswer}
-use Rattle.driver.specs.Record.{xtalOf}
+use Rattle.driver.specs.Calls.{Both, both, sampleRateCall}
 use Rattle.r82xx.specs.declared.Tuner.{Tuner}
 use Rattle.records.specs.declared.DriverRead.{DriverRead}
 use Rattle.records.specs.declared.TunerRead.{TunerRead}
@@ -24,8 +21,8 @@ use Rattle.records.specs.Tuners.{tunerBytes, tunerOf}
 use Rattle.replies.specs.declared.Reply.{Reply}
 use Rattle.replies.specs.Replies.{replyOf}
 use Rattle.tuners.specs.Over.{nextOf}
-use Rattle.tuners.specs.Still.{recordInto}
-use Rattle.drivers.specs.Drivers.{Rates, bothReady, ppmInto, rateOver, rates, ratesMade, ratesRefused, xtalOver}
+use Rattle.tuners.proofs.Passed.{not-refused, refused}
+use Rattle.drivers.specs.Drivers.{Rates, bothReady, rateOver, rates, ratesMade, ratesRefused}
 
 -- the five ways of `ready`
 module _ (ok : Bool) (rate driver tuner : ℕ) where
@@ -69,13 +66,8 @@ module _ (os : List ℕ) (rate : ℕ) (d t room driver tuner : List ℕ) where
   abbrev number : ℕ
   number = bothReady (driverOf d .ok && tunerOf t .ok) rate (length driver) (length tuner)
 
-  refused : (n : ℕ) → n ≡ number → (n ≡ 0 → ⊥) → ratesRefused n room driver tuner ≡ rateOver os rate d t room driver tuner
-  unfolding rateOver
-  refused n e h = ap (λ (k : ℕ). ratesRefused k room driver tuner) e ∙ rw (ne-eqb number 0 (λ z. h (e ∙ z)))
-
-  made : number ≡ 0 → ratesMade (sampleRateCall os rate (tunerOf t .tuner) (driverOf d .driver) room) driver tuner ≡ rateOver os rate d t room driver tuner
-  unfolding rateOver
-  made z = rw (eq-eqb number 0 z)
+  abbrev made : Rates
+  made = ratesMade (sampleRateCall os rate (tunerOf t .tuner) (driverOf d .driver) room) driver tuner
 
   -- what is read, and the number that it is refused by, as the code has them
   module _ (dr : DriverRead) (tr : TunerRead) (n : ℕ) (is-driver : dr ≡ driverOf d) (is-tuner : tr ≡ tunerOf t) (said : n ≡ bothReady (dr .ok && tr .ok) rate (length driver) (length tuner)) where
@@ -86,7 +78,9 @@ module _ (os : List ℕ) (rate : ℕ) (d t room driver tuner : List ℕ) where
         ∙ ap (λ (x : TunerRead). bothReady (driverOf d .ok && x .ok) rate (length driver) (length tuner)) is-tuner
 
     pub refused-by : (r : Reply) → (n ≡ 0 → ⊥) → r ≡ replyOf (Refused n) 0 → rates r room driver tuner ≡ rateOver os rate d t room driver tuner
-    refused-by r h e = ap (λ (x : Reply). rates x room driver tuner) e ∙ refused n number-is h
+    unfolding rateOver
+    refused-by r h e =
+        ap (λ (x : Reply). rates x room driver tuner) e ∙ refused number (λ n. ratesRefused n room driver tuner) made n number-is h
 
     pub handed-back : n ≡ 0
         → (t′ : Tuner) (d′ : Driver) (left : List ℕ) (count : ℕ) (a : Answer)
@@ -94,6 +88,7 @@ module _ (os : List ℕ) (rate : ℕ) (d t room driver tuner : List ℕ) where
         → (r : Reply) (wrote-driver wrote-tuner : List ℕ)
         → (r ≡ replyOf a count) × (wrote-driver ≡ nextOf driverBytes a count d′ driver) × (wrote-tuner ≡ nextOf tunerBytes a count t′ tuner)
         → rates r left wrote-driver wrote-tuner ≡ rateOver os rate d t room driver tuner
+    unfolding rateOver
     handed-back z t′ d′ left count a e r wd wt h =
         ap (λ (x : Reply). rates x left wd wt) (h .0)
         ∙ ap (λ (x : List ℕ). rates (replyOf a count) left x wt) (h .1)
@@ -101,37 +96,4 @@ module _ (os : List ℕ) (rate : ℕ) (d t room driver tuner : List ℕ) where
         ∙ ap (λ (x : Called Both). ratesMade x driver tuner) e
         ∙ ap (λ (x : DriverRead). ratesMade (sampleRateCall os rate (tr .tuner) (x .driver) room) driver tuner) is-driver
         ∙ ap (λ (x : TunerRead). ratesMade (sampleRateCall os rate (x .tuner) (driverOf d .driver) room) driver tuner) is-tuner
-        ∙ made (sym number-is ∙ z)
-
--- the calls without steps: bytes that are no record, or the call on the one that they are
-module _ (b : List ℕ) (read : DriverRead) (is : read ≡ driverOf b) where
-  ok-is : (ok : Bool) → read .ok ≡ ok → driverOf b .ok ≡ ok
-  ok-is ok h = sym (ap (λ (x : DriverRead). x .ok) is) ∙ h
-
-  pub no-change : (ppm : ℤ) (out : List ℕ) → read .ok ≡ false → given (Refused 1) out ≡ ppmInto ppm b out
-  unfolding ppmInto
-  no-change ppm out h = rw (ok-is false h)
-
-  whole : (ppm : ℤ) (out : List ℕ) → read .ok ≡ true → recordInto (driverPpmCall ppm (driverOf b .driver) .answer) (driverBytes (driverPpmCall ppm (driverOf b .driver) .next)) out ≡ ppmInto ppm b out
-  unfolding ppmInto
-  whole ppm out h = rw (ok-is true h)
-
-  pub changed : (ppm : ℤ) (out : List ℕ) → read .ok ≡ true
-      → (d : Driver) (count : ℕ) (a : Answer) → called d [] count a ≡ driverPpmCall ppm (read .driver)
-      → (g : Given) → g ≡ recordInto a (driverBytes d) out → g ≡ ppmInto ppm b out
-  changed ppm out h d count a e g w =
-      w
-      ∙ ap (λ (x : Called Driver). recordInto (x .answer) (driverBytes (x .next)) out) e
-      ∙ ap (λ (x : DriverRead). recordInto (driverPpmCall ppm (x .driver) .answer) (driverBytes (driverPpmCall ppm (x .driver) .next)) out) is
-      ∙ whole ppm out h
-
-  pub no-xtal : read .ok ≡ false → Refused 1 ≡ xtalOver b
-  unfolding xtalOver
-  no-xtal h = rw (ok-is false h)
-
-  xtal-there : read .ok ≡ true → xtalAnswer (xtalOf (driverOf b .driver)) ≡ xtalOver b
-  unfolding xtalOver
-  xtal-there h = rw (ok-is true h)
-
-  pub answered : read .ok ≡ true → (a : Answer) → a ≡ xtalAnswer (xtalOf (read .driver)) → a ≡ xtalOver b
-  answered h a e = e ∙ ap (λ (x : DriverRead). xtalAnswer (xtalOf (x .driver))) is ∙ xtal-there h
+        ∙ not-refused number (λ n. ratesRefused n room driver tuner) made (sym number-is ∙ z)

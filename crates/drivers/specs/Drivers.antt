@@ -13,27 +13,24 @@ use Rattle.chip.specs.Calls.{Called, pickN}
 use Rattle.driver.specs.declared.Driver.{Driver}
 use Rattle.driver.specs.Calls.{Both, driverPpmCall, rateRefusal, sampleRateCall, xtalAnswer}
 use Rattle.driver.specs.Record.{driverOf as madeDriver, xtalOf}
-use Rattle.r82xx.specs.Record.{pick}
 use Rattle.records.specs.Drivers.{driverBytes, driverOf}
 use Rattle.records.specs.Tuners.{tunerBytes, tunerOf}
 use Rattle.replies.specs.declared.Reply.{Reply}
 use Rattle.replies.specs.Replies.{replyOf}
-use Rattle.tuners.specs.Over.{nextOf}
-use Rattle.tuners.specs.Still.{recordInto}
+use Rattle.tuners.specs.Over.{nextOf, unlessRefused}
+use Rattle.tuners.specs.Still.{changedTo, ofRecord, recordInto}
 
 -- a fresh one, and its correction
 abbrev pub freshInto : ℕ → ℕ → ℤ → ℕ → ℕ → List ℕ → Given
 freshInto board nominal ppm frequency rate out =
     recordInto (madeDriver board nominal ppm frequency rate .answer) (driverBytes (madeDriver board nominal ppm frequency rate .driver)) out
 
-unfoldable pub ppmInto : ℤ → List ℕ → List ℕ → Given
+abbrev pub ppmInto : ℤ → List ℕ → List ℕ → Given
 ppmInto ppm b out =
-    pick (driverOf b .ok)
-    (recordInto (driverPpmCall ppm (driverOf b .driver) .answer) (driverBytes (driverPpmCall ppm (driverOf b .driver) .next)) out)
-    (given (Refused 1) out)
+    ofRecord (driverOf b .ok) (driverOf b .driver) (changedTo driverBytes (driverPpmCall ppm) out) (given (Refused 1) out)
 
-unfoldable pub xtalOver : List ℕ → Answer
-xtalOver b = pick (driverOf b .ok) (xtalAnswer (xtalOf (driverOf b .driver))) (Refused 1)
+abbrev pub xtalOver : List ℕ → Answer
+xtalOver b = ofRecord (driverOf b .ok) (driverOf b .driver) (λ d. xtalAnswer (xtalOf d)) (Refused 1)
 
 -- what a rate leaves: its answer, the room, the slices for both next records
 pub record Rates : Type 0 where
@@ -60,6 +57,6 @@ ratesRefused number room driver tuner = rates (replyOf (Refused number) 0) room 
 
 unfoldable pub rateOver : List ℕ → ℕ → List ℕ → List ℕ → List ℕ → List ℕ → List ℕ → Rates
 rateOver os rate d t room driver tuner =
-    pick (eqb (bothReady (driverOf d .ok && tunerOf t .ok) rate (length driver) (length tuner)) 0)
+    unlessRefused (bothReady (driverOf d .ok && tunerOf t .ok) rate (length driver) (length tuner))
+    (λ n. ratesRefused n room driver tuner)
     (ratesMade (sampleRateCall os rate (tunerOf t .tuner) (driverOf d .driver) room) driver tuner)
-    (ratesRefused (bothReady (driverOf d .ok && tunerOf t .ok) rate (length driver) (length tuner)) room driver tuner)

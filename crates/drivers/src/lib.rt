@@ -18,17 +18,11 @@ use records::DRIVER;
 use records::TUNER;
 use replies::Reply;
 
-// A record that was worked out without a step, or the number that it was refused by.
 fn lend(answer: Answer, driver: Driver, out: &mut [u8]) -> Answer
     ensures { λ r. ⌜ given r (now (out .exit)) ≡ recordInto answer (driverBytes driver) (now (out .entry)) ⌝ }
 {
     let image = records::driver_image(driver);
-    answers::lend(
-        tuners::number_of(answer),
-        tuners::value_of(answer),
-        &image,
-        out,
-    )
+    tuners::lend_image(answer, &image, out)
 }
 
 pub fn fresh(

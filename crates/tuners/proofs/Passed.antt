@@ -3,23 +3,21 @@
 use Prim.Native.Nat.{ℕ, _<_, _≤_}
 use mathlib.Core.Path.{_≡_, refl, sym, ap, _∙_}
 use mathlib.Core.Bool.{Bool, true, false}
-use mathlib.Core.List.{List, []}
+use mathlib.Core.List.{List}
 use native.Mathlib.Omega.{arith}
 use borrow.Author.Tests.{eq-eqb, ne-eqb, lt-ltb, le-ltb, ltb-false}
 use lib.Dec.{eqb, ltb}
 use lib.ListN.{length}
 use lib.Seq.{sets}
-use Rattle.answers.specs.Lent.{Given, given, tableInto}
 use Rattle.chip.specs.declared.Answer.{Answer}
-use Rattle.chip.specs.declared.Answer.the-variants.{Done, Refused}
+use Rattle.chip.specs.declared.Answer.the-variants.{Refused}
 use Rattle.chip.specs.Calls.{Called, called, pickN}
 use Rattle.r82xx.specs.declared.Tuner.{Tuner}
 use Rattle.records.specs.declared.TunerRead.{TunerRead}
 use Rattle.records.specs.Tuners.{tunerBytes, tunerOf}
 use Rattle.replies.specs.declared.Reply.{Reply}
 use Rattle.replies.specs.Replies.{replyOf}
-use Rattle.tuners.specs.Over.{After, after, handed, keptOf, nextOf, overTuner, readyOf, refusal}
-use Rattle.tuners.specs.Still.{answerOver, changedInto, recordInto, tableOver}
+use Rattle.tuners.specs.Over.{After, after, handed, keptOf, nextOf, overTuner, readyOf, refusal, unlessRefused}
 
 -- where nothing is refused, the slice has the bytes that are written
 room-fits : (b : Bool) (next need : ℕ) → ltb next need ≡ b → pickN b 8 0 ≡ 0 → need ≤ next
@@ -56,18 +54,23 @@ module _ (ok : Bool) (argument next need : ℕ) where
   unfolding readyOf
   all-there o z h = rw (o, eq-eqb argument 0 z, le-ltb next need h)
 
+-- a call that was refused by a number, and one that was made
+module _ {A : Type 0} (number : ℕ) (refuse : ℕ → A) (made : A) where
+  pub refused : (n : ℕ) → n ≡ number → (n ≡ 0 → ⊥) → refuse n ≡ unlessRefused number refuse made
+  unfolding unlessRefused
+  refused n e h = ap refuse e ∙ rw (ne-eqb number 0 (λ z. h (e ∙ z)))
+
+  pub not-refused : number ≡ 0 → made ≡ unlessRefused number refuse made
+  unfolding unlessRefused
+  not-refused z = rw (eq-eqb number 0 z)
+
 -- a call with steps, by its argument's refusal and its definition
 module _ (argument : Tuner → ℕ) (call : Tuner → List ℕ → Called Tuner) (b room next : List ℕ) where
   abbrev number : ℕ
   number = readyOf (tunerOf b .ok) (argument (tunerOf b .tuner)) (length next) 105
 
-  refused : (n : ℕ) → n ≡ number → (n ≡ 0 → ⊥) → refusal n room next ≡ overTuner argument call b room next
-  unfolding overTuner
-  refused n e h = ap (λ (k : ℕ). refusal k room next) e ∙ rw (ne-eqb number 0 (λ z. h (e ∙ z)))
-
-  made : number ≡ 0 → handed (call (tunerOf b .tuner) room) next ≡ overTuner argument call b room next
-  unfolding overTuner
-  made z = rw (eq-eqb number 0 z)
+  abbrev made : After
+  made = handed (call (tunerOf b .tuner) room) next
 
   -- what is read, and the number that it is refused by, as the code has them
   module _ (read : TunerRead) (k n : ℕ) (is : read ≡ tunerOf b) (asked : k ≡ argument (read .tuner)) (said : n ≡ readyOf (read .ok) k (length next) 105) where
@@ -78,18 +81,22 @@ module _ (argument : Tuner → ℕ) (call : Tuner → List ℕ → Called Tuner)
         ∙ ap (λ (x : TunerRead). readyOf (x .ok) (argument (x .tuner)) (length next) 105) is
 
     pub refused-by : (r : Reply) → (n ≡ 0 → ⊥) → r ≡ replyOf (Refused n) 0 → after r room next ≡ overTuner argument call b room next
-    refused-by r h e = ap (λ (x : Reply). after x room next) e ∙ refused n number-is h
+    unfolding overTuner
+    refused-by r h e =
+        ap (λ (x : Reply). after x room next) e
+        ∙ refused number (λ n. refusal n room next) made n number-is h
 
     pub handed-back : n ≡ 0
         → (t : Tuner) (left : List ℕ) (count : ℕ) (a : Answer) → called t left count a ≡ call (read .tuner) room
         → (r : Reply) (wrote : List ℕ) → (r ≡ replyOf a count) × (wrote ≡ nextOf tunerBytes a count t next)
         → after r left wrote ≡ overTuner argument call b room next
+    unfolding overTuner
     handed-back z t left count a e r wrote h =
         ap (λ (x : Reply). after x left wrote) (h .0)
         ∙ ap (after (replyOf a count) left) (h .1)
         ∙ ap (λ (x : Called Tuner). handed x next) e
         ∙ ap (λ (x : TunerRead). handed (call (x .tuner) room) next) is
-        ∙ made (sym number-is ∙ z)
+        ∙ not-refused number (λ n. refusal n room next) made (sym number-is ∙ z)
 
 -- a next record that is written, and one that is not
 module _ {R : Type 0} (bytes : R → List ℕ) (a : Answer) (count : ℕ) (new : R) (next : List ℕ) where
@@ -100,49 +107,3 @@ module _ {R : Type 0} (bytes : R → List ℕ) (a : Answer) (count : ℕ) (new :
   pub left : keptOf a count ≡ false → next ≡ nextOf bytes a count new next
   unfolding nextOf
   left h = rw h
-
--- the calls without steps: bytes that are no record, or the call on the one that they are
-module _ (b : List ℕ) (read : TunerRead) (is : read ≡ tunerOf b) where
-  ok-is : (ok : Bool) → read .ok ≡ ok → tunerOf b .ok ≡ ok
-  ok-is ok h = sym (ap (λ (x : TunerRead). x .ok) is) ∙ h
-
-  module _ (call : Tuner → Called Tuner) (out : List ℕ) where
-    pub no-change : read .ok ≡ false → given (Refused 1) out ≡ changedInto call b out
-    unfolding changedInto
-    no-change h = rw (ok-is false h)
-
-    whole : read .ok ≡ true → recordInto (call (tunerOf b .tuner) .answer) (tunerBytes (call (tunerOf b .tuner) .next)) out ≡ changedInto call b out
-    unfolding changedInto
-    whole h = rw (ok-is true h)
-
-    pub changed : read .ok ≡ true
-        → (t : Tuner) (count : ℕ) (a : Answer) → called t [] count a ≡ call (read .tuner)
-        → (g : Given) → g ≡ recordInto a (tunerBytes t) out → g ≡ changedInto call b out
-    changed h t count a e g w =
-        w
-        ∙ ap (λ (x : Called Tuner). recordInto (x .answer) (tunerBytes (x .next)) out) e
-        ∙ ap (λ (x : TunerRead). recordInto (call (x .tuner) .answer) (tunerBytes (call (x .tuner) .next)) out) is
-        ∙ whole h
-
-  module _ (call : Tuner → Answer) where
-    pub no-answer : read .ok ≡ false → Refused 1 ≡ answerOver call b
-    unfolding answerOver
-    no-answer h = rw (ok-is false h)
-
-    told : read .ok ≡ true → call (tunerOf b .tuner) ≡ answerOver call b
-    unfolding answerOver
-    told h = rw (ok-is true h)
-
-    pub answered : read .ok ≡ true → (a : Answer) → a ≡ call (read .tuner) → a ≡ answerOver call b
-    answered h a e = e ∙ ap (λ (x : TunerRead). call (x .tuner)) is ∙ told h
-
-  pub no-table : (out : List ℕ) → read .ok ≡ false → given (Refused 1) out ≡ tableOver b out
-  unfolding tableOver
-  no-table out h = rw (ok-is false h)
-
-  table-there : (out : List ℕ) → read .ok ≡ true → tableInto (tunerOf b .tuner) out ≡ tableOver b out
-  unfolding tableOver
-  table-there out h = rw (ok-is true h)
-
-  pub tabled : (out : List ℕ) → read .ok ≡ true → (g : Given) → g ≡ tableInto (read .tuner) out → g ≡ tableOver b out
-  tabled out h g e = e ∙ ap (λ (x : TunerRead). tableInto (x .tuner) out) is ∙ table-there out h

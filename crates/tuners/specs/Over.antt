@@ -46,12 +46,16 @@ handed c next =
 abbrev pub refusal : ℕ → List ℕ → List ℕ → After
 refusal number room next = after (replyOf (Refused number) 0) room next
 
+-- what a call comes to by the number that it is refused by before its steps, 0 for none; said for any answer, as crate drivers has its own
+unfoldable pub unlessRefused : {A : Type 0} → ℕ → (ℕ → A) → A → A
+unlessRefused number refuse made = pick (eqb number 0) made (refuse number)
+
 -- one call over bytes, by the number that its argument is refused by and its definition over a record
 unfoldable pub overTuner : (Tuner → ℕ) → (Tuner → List ℕ → Called Tuner) → List ℕ → List ℕ → List ℕ → After
 overTuner argument call b room next =
-    pick (eqb (readyOf (tunerOf b .ok) (argument (tunerOf b .tuner)) (length next) 105) 0)
+    unlessRefused (readyOf (tunerOf b .ok) (argument (tunerOf b .tuner)) (length next) 105)
+    (λ n. refusal n room next)
     (handed (call (tunerOf b .tuner) room) next)
-    (refusal (readyOf (tunerOf b .ok) (argument (tunerOf b .tuner)) (length next) 105) room next)
 
 -- a call whose arguments are never refused
 abbrev pub anyArgument : Tuner → ℕ

@@ -14,6 +14,10 @@ use Rattle.r82xx.specs.Calls.{keptNotch, keptPpm, ppmAnswer, shadowCall, soundA
 use Rattle.r82xx.specs.Record.{madeOf, pick, withCorrected, withNotch}
 use Rattle.records.specs.Tuners.{tunerBytes, tunerOf}
 
+-- what is made of the record that bytes are read as, or what is told where they are none; said for any record, as crate drivers has its own
+unfoldable pub ofRecord : {R A : Type 0} → Bool → R → (R → A) → A → A
+ofRecord ok r make none = pick ok (make r) none
+
 -- a record behind an answer, as bytes
 abbrev pub recordInto : Answer → List ℕ → List ℕ → Given
 recordInto a bytes out = lentTo (numberOf a) (valueOf a) bytes out
@@ -23,12 +27,14 @@ abbrev pub freshInto : ℕ → ℕ → ℕ → List ℕ → Given
 freshInto kind address nominal out =
     recordInto (madeOf kind address nominal .answer) (tunerBytes (madeOf kind address nominal .tuner)) out
 
--- a call without steps on the record that the bytes are, 1 where they are none
-unfoldable pub changedInto : (Tuner → Called Tuner) → List ℕ → List ℕ → Given
+-- the record that a call without steps makes of the one that it is given
+abbrev pub changedTo : {R : Type 0} → (R → List ℕ) → (R → Called R) → List ℕ → R → Given
+changedTo bytes call out r = recordInto (call r .answer) (bytes (call r .next)) out
+
+-- such a call on the record that the bytes are, 1 where they are none
+abbrev pub changedInto : (Tuner → Called Tuner) → List ℕ → List ℕ → Given
 changedInto call b out =
-    pick (tunerOf b .ok)
-    (recordInto (call (tunerOf b .tuner) .answer) (tunerBytes (call (tunerOf b .tuner) .next)) out)
-    (given (Refused 1) out)
+    ofRecord (tunerOf b .ok) (tunerOf b .tuner) (changedTo tunerBytes call out) (given (Refused 1) out)
 
 -- "only `set_ppm` and `apply_notch` change the caller's record where it lies"
 abbrev pub ppmCall : ℤ → Tuner → Called Tuner
@@ -40,8 +46,8 @@ notchCall on t =
     called (withNotch t (keptNotch (t .nominal) (t .corrected) (t .notch) on)) [] 0 (soundAnswer (t .nominal) (t .corrected) 0)
 
 -- an answer alone
-unfoldable pub answerOver : (Tuner → Answer) → List ℕ → Answer
-answerOver call b = pick (tunerOf b .ok) (call (tunerOf b .tuner)) (Refused 1)
+abbrev pub answerOver : (Tuner → Answer) → List ℕ → Answer
+answerOver call b = ofRecord (tunerOf b .ok) (tunerOf b .tuner) call (Refused 1)
 
 abbrev pub gainAnswer : Tuner → Answer
 gainAnswer t = soundAnswer (t .nominal) (t .corrected) (toBits binary32 (t .gain))
@@ -50,5 +56,5 @@ abbrev pub ifAnswer : Tuner → Answer
 ifAnswer t = soundAnswer (t .nominal) (t .corrected) (t .ifreq)
 
 -- the gain table's bytes
-unfoldable pub tableOver : List ℕ → List ℕ → Given
-tableOver b out = pick (tunerOf b .ok) (tableInto (tunerOf b .tuner) out) (given (Refused 1) out)
+abbrev pub tableOver : List ℕ → List ℕ → Given
+tableOver b out = ofRecord (tunerOf b .ok) (tunerOf b .tuner) (λ t. tableInto t out) (given (Refused 1) out)

@@ -6,7 +6,7 @@ ghost use mathlib.Core.Path.{_≡_};
 ghost use Prim.Native.Nat.{_≤_};
 ghost use lib.ListN.{length};
 ghost use Rattle.answers.specs.Lent.{given};
-ghost use Rattle.chip.specs.Calls.{numberOf, valueOf};
+ghost use Rattle.chip.specs.Calls.{valueOf};
 ghost use Rattle.r82xx.specs.Calls.{bandwidthCall, gainCall, hzRefusal, ifCall, indexCall, initCall, pathCall, reloadCall, shadowCall, tuneCall};
 ghost use Rattle.records.specs.Tuners.{tunerBytes};
 ghost use Rattle.replies.specs.Replies.{replyOf};
@@ -230,17 +230,7 @@ pub fn set_frequency(
     hand(told, next)
 }
 
-pub fn number_of(answer: Answer) -> u8
-    ensures { λ r. ⌜ r ≡ numberOf answer ⌝ }
-{
-    match answer {
-        Answer::Done(_) => 0,
-        Answer::Refused(n) => n,
-        Answer::Stopped(_) => 11,
-    }
-}
-
-pub fn value_of(answer: Answer) -> u64
+fn value_of(answer: Answer) -> u64
     ensures { λ r. ⌜ r ≡ valueOf answer ⌝ }
 {
     match answer {
@@ -250,12 +240,18 @@ pub fn value_of(answer: Answer) -> u64
     }
 }
 
-// A record that was worked out without a step, or the number that it was refused by.
+// A record that was worked out without a step, or the number that it was refused by. Takes its bytes, so that crate drivers lends its own by it.
+pub fn lend_image(answer: Answer, image: &[u8], out: &mut [u8]) -> Answer
+    ensures { λ r. ⌜ given r (now (out .exit)) ≡ recordInto answer (now (image .entry)) (now (out .entry)) ⌝ }
+{
+    answers::lend(answers::number_of(answer), value_of(answer), image, out)
+}
+
 fn lend(answer: Answer, tuner: Tuner, out: &mut [u8]) -> Answer
     ensures { λ r. ⌜ given r (now (out .exit)) ≡ recordInto answer (tunerBytes tuner) (now (out .entry)) ⌝ }
 {
     let image = records::tuner_image(tuner);
-    answers::lend(number_of(answer), value_of(answer), &image, out)
+    lend_image(answer, &image, out)
 }
 
 pub fn fresh(kind: u64, address: u8, nominal: u64, next: &mut [u8]) -> Answer

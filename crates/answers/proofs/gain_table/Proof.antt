@@ -14,8 +14,8 @@ use Rattle.answers.proofs.gain_table.Tie as tie
 get-gain-table-requires : tie.Need-get-gain-table-requires
 get-gain-table-requires c κs = search needs
 
-number-requires : tie.Need-number-requires
-number-requires c κs = search needs
+number-of-requires : tie.Need-number-of-requires
+number-of-requires c κs = search needs
 
 slice-aggregate-lend-words : tie.Need-slice-aggregate-lend-words
 slice-aggregate-lend-words c = search needs
@@ -31,7 +31,7 @@ returns c =
     let a = c .before .before .before .before .before .before .before .before .before .args in
     let r = c .before .before .before .before .before .before .before .get-gain-table .result in
     c .before .before .lend-words .ensures
-    ∙ ap (λ (n : ℕ). lentTo n 0 (wordBytes (r .steps)) (now (a .out))) (c .before .before .before .before .before .number .ensures)
+    ∙ ap (λ (n : ℕ). lentTo n 0 (wordBytes (r .steps)) (now (a .out))) (c .before .before .before .before .before .number-of .ensures)
     ∙ ap (λ (t : Table). lentTo (numberOf (t .answer)) 0 (wordBytes (t .steps)) (now (a .out))) (c .before .before .before .before .before .before .before .get-gain-table .ensures)
     ∙ table-given (a .tuner) (now (a .out))
 
@@ -40,7 +40,7 @@ gain-table-spec =
     tie.close
     (tie.spec
     get-gain-table-requires
-    number-requires
+    number-of-requires
     slice-aggregate-lend-words
     lend-words-requires
     same-length

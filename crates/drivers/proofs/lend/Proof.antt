@@ -1,11 +1,10 @@
--- `drivers::lend` meets its contract: what is lent is the record's bytes, behind the answer's number and value.
+-- `drivers::lend` meets its contract: what is lent is the record's bytes, behind the answer.
 -- Assumes nothing.
 use Prim.Native.Nat.{ℕ}
 use mathlib.Core.Path.{ap, _∙_}
 use mathlib.Core.List.{List}
 use denote.Ref.{now}
-use Rattle.answers.specs.Lent.{lentTo}
-use Rattle.chip.specs.Calls.{numberOf, valueOf}
+use Rattle.tuners.specs.Still.{recordInto}
 use borrow.Author.Needs.{needs}
 use Rattle.drivers.proofs.lend.Statement.{statement}
 use Rattle.drivers.proofs.lend.Tie as tie
@@ -13,32 +12,27 @@ use Rattle.drivers.proofs.lend.Tie as tie
 driver-image-requires : tie.Need-driver-image-requires
 driver-image-requires c κs = search needs
 
-number-of-requires : tie.Need-number-of-requires
-number-of-requires c κs = search needs
+slice-aggregate-lend-image : tie.Need-slice-aggregate-lend-image
+slice-aggregate-lend-image c = search needs
 
-value-of-requires : tie.Need-value-of-requires
-value-of-requires c κs = search needs
-
-slice-aggregate-lend : tie.Need-slice-aggregate-lend
-slice-aggregate-lend c = search needs
-
-lend-requires : tie.Need-lend-requires
-lend-requires c κs = search needs
+lend-image-requires : tie.Need-lend-image-requires
+lend-image-requires c κs = search needs
 
 same-length : tie.Need-same-length
 same-length c = search needs
 
 returns : tie.Need-returns
-returns c = c .before .before .lend .ensures ∙ ap (λ (n : ℕ). lentTo n (c .before .before .before .before .before .value-of .result) (c .before .before .before .before .before .before .before .driver-image .result) (now (c .before .before .before .before .before .before .before .before .before .args .out))) (c .before .before .before .before .before .before .number-of .ensures) ∙ ap (λ (n : ℕ). lentTo (numberOf (c .before .before .before .before .before .before .before .before .before .args .answer)) n (c .before .before .before .before .before .before .before .driver-image .result) (now (c .before .before .before .before .before .before .before .before .before .args .out))) (c .before .before .before .before .before .value-of .ensures) ∙ ap (λ (x : List ℕ). lentTo (numberOf (c .before .before .before .before .before .before .before .before .before .args .answer)) (valueOf (c .before .before .before .before .before .before .before .before .before .args .answer)) x (now (c .before .before .before .before .before .before .before .before .before .args .out))) (c .before .before .before .before .before .before .before .driver-image .ensures)
+returns c =
+    let a = c .before .before .before .before .before .before .before .args in
+    c .before .before .lend-image .ensures
+    ∙ ap (λ (x : List ℕ). recordInto (a .answer) x (now (a .out))) (c .before .before .before .before .before .driver-image .ensures)
 
 pub lend-spec : {M : Type 1} → statement M
 lend-spec =
     tie.close
     (tie.spec
     driver-image-requires
-    number-of-requires
-    value-of-requires
-    slice-aggregate-lend
-    lend-requires
+    slice-aggregate-lend-image
+    lend-image-requires
     same-length
     returns)

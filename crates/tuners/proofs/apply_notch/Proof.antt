@@ -2,8 +2,10 @@
 -- Assumes nothing.
 use denote.Ref.{now}
 use borrow.Author.Tests.{not-false, not-true}
+use Rattle.records.specs.declared.TunerRead.{TunerRead}
+use Rattle.records.specs.Tuners.{tunerBytes}
 use Rattle.tuners.specs.Still.{notchCall}
-use Rattle.tuners.proofs.Passed.{changed, no-change}
+use Rattle.tuners.proofs.Record.{changed, no-record}
 use borrow.Author.Needs.{needs}
 use Rattle.tuners.proofs.apply_notch.Statement.{statement}
 use Rattle.tuners.proofs.apply_notch.Tie as tie
@@ -15,7 +17,7 @@ same-length : tie.Need-same-length
 same-length c = search needs
 
 returns : tie.Need-returns
-returns c = no-change (now (c .before .before .before .before .before .args .tuner)) _ (c .before .before .decode-tuner .ensures) (notchCall (c .before .before .before .before .before .args .on)) (now (c .before .before .before .before .before .args .tuner)) (not-true _ (c .if1 .taken))
+returns c = no-record (λ (x : TunerRead). x .ok) (λ (x : TunerRead). x .tuner) _ _ (c .before .before .decode-tuner .ensures) _ _ (not-true _ (c .if1 .taken))
 
 with-notch-requires : tie.Need-with-notch-requires
 with-notch-requires c κs = search needs
@@ -27,7 +29,7 @@ same-length-2 : tie.Need-same-length-2
 same-length-2 c = search needs
 
 returns-2 : tie.Need-returns-2
-returns-2 c = changed (now (c .before .before .before .before .before .before .before .before .before .before .before .args .tuner)) _ (c .before .before .before .before .before .before .before .before .decode-tuner .ensures) (notchCall (c .before .before .before .before .before .before .before .before .before .before .before .args .on)) (now (c .before .before .before .before .before .before .before .before .before .before .before .args .tuner)) (not-false _ (c .before .before .before .before .before .before .if1 .left)) _ _ _ (c .before .before .before .before .with-notch .ensures) _ (c .before .before .lend .ensures)
+returns-2 c = changed (λ (x : TunerRead). x .ok) (λ (x : TunerRead). x .tuner) _ _ (c .before .before .before .before .before .before .before .before .decode-tuner .ensures) tunerBytes (notchCall (c .before .before .before .before .before .before .before .before .before .before .before .args .on)) (now (c .before .before .before .before .before .before .before .before .before .before .before .args .tuner)) (not-false _ (c .before .before .before .before .before .before .if1 .left)) _ _ _ (c .before .before .before .before .with-notch .ensures) _ (c .before .before .lend .ensures)
 
 pub apply-notch-spec : {M : Type 1} → statement M
 apply-notch-spec =

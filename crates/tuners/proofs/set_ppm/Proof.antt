@@ -5,8 +5,10 @@ use lib.IntN.{ℤ}
 use mir.Facts.{toZ-ofZ}
 use denote.Ref.{now}
 use borrow.Author.Tests.{not-false, not-true}
+use Rattle.records.specs.declared.TunerRead.{TunerRead}
+use Rattle.records.specs.Tuners.{tunerBytes}
 use Rattle.tuners.specs.Still.{ppmCall}
-use Rattle.tuners.proofs.Passed.{changed, no-change}
+use Rattle.tuners.proofs.Record.{changed, no-record}
 use borrow.Author.Needs.{needs}
 use Rattle.tuners.proofs.set_ppm.Statement.{statement}
 use Rattle.tuners.proofs.set_ppm.Tie as tie
@@ -18,7 +20,7 @@ same-length : tie.Need-same-length
 same-length c = search needs
 
 returns : tie.Need-returns
-returns c = no-change (now (c .before .before .before .before .before .args .tuner)) _ (c .before .before .decode-tuner .ensures) (ppmCall (c .before .before .before .before .before .args .ppm)) (now (c .before .before .before .before .before .args .tuner)) (not-true _ (c .if1 .taken))
+returns c = no-record (λ (x : TunerRead). x .ok) (λ (x : TunerRead). x .tuner) _ _ (c .before .before .decode-tuner .ensures) _ _ (not-true _ (c .if1 .taken))
 
 with-ppm-requires : tie.Need-with-ppm-requires
 with-ppm-requires c κs = search needs
@@ -30,7 +32,7 @@ same-length-2 : tie.Need-same-length-2
 same-length-2 c = search needs
 
 returns-2 : tie.Need-returns-2
-returns-2 c = changed (now (c .before .before .before .before .before .before .before .before .before .before .before .args .tuner)) _ (c .before .before .before .before .before .before .before .before .decode-tuner .ensures) (ppmCall (c .before .before .before .before .before .before .before .before .before .before .before .args .ppm)) (now (c .before .before .before .before .before .before .before .before .before .before .before .args .tuner)) (not-false _ (c .before .before .before .before .before .before .if1 .left)) _ _ _ (c .before .before .before .before .with-ppm .ensures ∙ ap (λ (z : ℤ). ppmCall z (c .before .before .before .before .before .before .before .before .decode-tuner .result .tuner)) (toZ-ofZ (c .before .before .before .before .before .before .before .before .before .before .before .fits .ppm))) _ (c .before .before .lend .ensures)
+returns-2 c = changed (λ (x : TunerRead). x .ok) (λ (x : TunerRead). x .tuner) _ _ (c .before .before .before .before .before .before .before .before .decode-tuner .ensures) tunerBytes (ppmCall (c .before .before .before .before .before .before .before .before .before .before .before .args .ppm)) (now (c .before .before .before .before .before .before .before .before .before .before .before .args .tuner)) (not-false _ (c .before .before .before .before .before .before .if1 .left)) _ _ _ (c .before .before .before .before .with-ppm .ensures ∙ ap (λ (z : ℤ). ppmCall z (c .before .before .before .before .before .before .before .before .decode-tuner .result .tuner)) (toZ-ofZ (c .before .before .before .before .before .before .before .before .before .before .before .fits .ppm))) _ (c .before .before .lend .ensures)
 
 pub set-ppm-spec : {M : Type 1} → statement M
 set-ppm-spec =

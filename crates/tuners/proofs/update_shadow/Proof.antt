@@ -2,8 +2,10 @@
 -- Assumes nothing.
 use denote.Ref.{now}
 use borrow.Author.Tests.{not-false, not-true}
+use Rattle.records.specs.declared.TunerRead.{TunerRead}
+use Rattle.records.specs.Tuners.{tunerBytes}
 use Rattle.r82xx.specs.Calls.{shadowCall}
-use Rattle.tuners.proofs.Passed.{changed, no-change}
+use Rattle.tuners.proofs.Record.{changed, no-record}
 use borrow.Author.Needs.{needs}
 use Rattle.tuners.proofs.update_shadow.Statement.{statement}
 use Rattle.tuners.proofs.update_shadow.Tie as tie
@@ -12,7 +14,7 @@ decode-tuner-requires : tie.Need-decode-tuner-requires
 decode-tuner-requires c κs = search needs
 
 returns : tie.Need-returns
-returns c = no-change (now (c .before .before .before .before .before .args .tuner)) _ (c .before .before .decode-tuner .ensures) (shadowCall (c .before .before .before .before .before .args .register) (c .before .before .before .before .before .args .value) (c .before .before .before .before .before .args .mask)) (now (c .before .before .before .before .before .args .next)) (not-true _ (c .if1 .taken))
+returns c = no-record (λ (x : TunerRead). x .ok) (λ (x : TunerRead). x .tuner) _ _ (c .before .before .decode-tuner .ensures) _ _ (not-true _ (c .if1 .taken))
 
 update-shadow-requires : tie.Need-update-shadow-requires
 update-shadow-requires c κs = search needs
@@ -24,7 +26,7 @@ same-length : tie.Need-same-length
 same-length c = search needs
 
 returns-2 : tie.Need-returns-2
-returns-2 c = changed (now (c .before .before .before .before .before .before .before .before .before .before .before .args .tuner)) _ (c .before .before .before .before .before .before .before .before .decode-tuner .ensures) (shadowCall (c .before .before .before .before .before .before .before .before .before .before .before .args .register) (c .before .before .before .before .before .before .before .before .before .before .before .args .value) (c .before .before .before .before .before .before .before .before .before .before .before .args .mask)) (now (c .before .before .before .before .before .before .before .before .before .before .before .args .next)) (not-false _ (c .before .before .before .before .before .before .if1 .left)) _ _ _ (c .before .before .before .before .update-shadow .ensures) _ (c .before .before .lend .ensures)
+returns-2 c = changed (λ (x : TunerRead). x .ok) (λ (x : TunerRead). x .tuner) _ _ (c .before .before .before .before .before .before .before .before .decode-tuner .ensures) tunerBytes (shadowCall (c .before .before .before .before .before .before .before .before .before .before .before .args .register) (c .before .before .before .before .before .before .before .before .before .before .before .args .value) (c .before .before .before .before .before .before .before .before .before .before .before .args .mask)) (now (c .before .before .before .before .before .before .before .before .before .before .before .args .next)) (not-false _ (c .before .before .before .before .before .before .if1 .left)) _ _ _ (c .before .before .before .before .update-shadow .ensures) _ (c .before .before .lend .ensures)
 
 pub update-shadow-spec : {M : Type 1} → statement M
 update-shadow-spec =
