@@ -75,6 +75,16 @@ module _ {L : Type 0} (put : L → ℕ → Entry → L) (os : List ℕ) where
   run-app [] ys w = refl
   run-app (x ∷ xs) ys w = run-app xs ys (step put os x w)
 
+  -- a step or a program that was worked out apart, and programs one after the other
+  pub by-entry : (d e : Entry) (w v : Line L) → d ≡ e → v ≡ step put os (Plain d) w → v ≡ step put os (Plain e) w
+  by-entry d e w v same h = h ∙ ap (λ (x : Entry). step put os (Plain x) w) same
+
+  pub by-program : (xs ys : List Step) (w v : Line L) → xs ≡ ys → v ≡ run put os xs w → v ≡ run put os ys w
+  by-program xs ys w v same h = h ∙ ap (λ (ss : List Step). run put os ss w) same
+
+  pub then : (xs ys : List Step) (w x y : Line L) → x ≡ run put os xs w → y ≡ run put os ys x → y ≡ run put os (xs ++ ys) w
+  then xs ys w x y p q = q ∙ ap (run put os ys) p ∙ sym (run-app xs ys w)
+
   -- steps one after the other, each by what a piece of code has done
   pub one-last : (s : Step) (w y : Line L) → y ≡ step put os s w → y ≡ run put os (s ∷ []) w
   unfolding run

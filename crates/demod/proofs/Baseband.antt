@@ -1,4 +1,5 @@
 -- `init_baseband`'s program: its parts, and that each of its entries has eight data bytes. Assumes nothing.
+use Rattle.chip.proofs.Laws.{then}
 use Prim.Native.Nat.{ℕ}
 use mathlib.Core.Path.{_≡_, refl, ap, _∙_}
 use mathlib.Core.Bool.{true}
@@ -6,7 +7,6 @@ use mathlib.Core.List.{List, _++_}
 use lib.ListN.{replicate}
 use Rattle.transcript.specs.declared.Entry.{Entry}
 use Rattle.chip.specs.Steps.{Line, eight, every, run}
-use Rattle.device.proofs.Programs.{then}
 use Rattle.fir.specs.Packing.{packOf}
 use Rattle.demod.specs.Programs.{firSteps, initSteps, modeSteps, powerSteps, upward}
 

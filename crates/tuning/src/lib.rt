@@ -203,6 +203,46 @@ fn reply_bytes(replies: &[u8], at: usize, n: usize) -> [u8; 8]
     bytes
 }
 
+// The entries that a tuning makes beside the registers' writes, as they are when their steps are done: a wait, "the one-byte write of 0x00", and a read.
+fn wait(ms: u16) -> Entry
+    ensures { λ r. ⌜ r ≡ wait ms ⌝ }
+{
+    Entry {
+        kind: 9,
+        outcome: 0,
+        target: 0,
+        n: 0,
+        address: ms,
+        bytes: [0u8; 8],
+    }
+}
+
+fn pointer(address: u8) -> Entry
+    ensures { λ r. ⌜ r ≡ pointer address ⌝ }
+{
+    Entry {
+        kind: 2,
+        outcome: 0,
+        target: address,
+        n: 1,
+        address: 0,
+        bytes: [0u8; 8],
+    }
+}
+
+fn read_entry(address: u8, n: u8, bytes: [u8; 8]) -> Entry
+    ensures { λ r. ⌜ r ≡ readEntry address n bytes ⌝ }
+{
+    Entry {
+        kind: 3,
+        outcome: 0,
+        target: address,
+        n: n,
+        address: 0,
+        bytes: bytes,
+    }
+}
+
 // The status' entries. A straight line over the log, and no loop over an array of entries: so the compiler puts each entry's constants
 // in place, and the chip is carried nowhere. The same below.
 fn status_entries(l: Log, address: u8, bytes: [u8; 8], outcomes: &[u8], room: &mut [u8]) -> Log
@@ -212,53 +252,17 @@ fn status_entries(l: Log, address: u8, bytes: [u8; 8], outcomes: &[u8], room: &m
         (onLog chip l (now (room .entry))))) ⌝ }
     ensures bounds { λ r. ⌜ r .count + due (r .held) ≤ l .count + 3 + due (l .held) ⌝ }
 {
-    let waited = chip::log_plain(
-        l,
-        Entry {
-            kind: 9,
-            outcome: 0,
-            target: 0,
-            n: 0,
-            address: 2,
-            bytes: [0u8; 8],
-        },
-        outcomes,
-        room,
-    );
+    let waited = chip::log_plain(l, wait(2), outcomes, room);
     let went = waited.went;
     let Went::Going = went else {
         return chip::log_close(waited, outcomes, room);
     };
-    let pointed = chip::log_plain(
-        waited,
-        Entry {
-            kind: 2,
-            outcome: 0,
-            target: address,
-            n: 1,
-            address: 0,
-            bytes: [0u8; 8],
-        },
-        outcomes,
-        room,
-    );
+    let pointed = chip::log_plain(waited, pointer(address), outcomes, room);
     let went = pointed.went;
     let Went::Going = went else {
         return chip::log_close(pointed, outcomes, room);
     };
-    let read = chip::log_plain(
-        pointed,
-        Entry {
-            kind: 3,
-            outcome: 0,
-            target: address,
-            n: 5,
-            address: 0,
-            bytes: bytes,
-        },
-        outcomes,
-        room,
-    );
+    let read = chip::log_plain(pointed, read_entry(address, 5, bytes), outcomes, room);
     chip::log_end(read, outcomes, room)
 }
 
@@ -352,36 +356,12 @@ fn try_entries(l: Log, address: u8, bytes: [u8; 8], outcomes: &[u8], room: &mut 
         (run inRoom (now (outcomes .entry)) (Plain (pointer address) ∷ Plain (readEntry address 3 bytes) ∷ []) (onLog chip l (now (room .entry))))) ⌝ }
     ensures bounds { λ r. ⌜ r .count + due (r .held) ≤ l .count + 2 + due (l .held) ⌝ }
 {
-    let pointed = chip::log_plain(
-        l,
-        Entry {
-            kind: 2,
-            outcome: 0,
-            target: address,
-            n: 1,
-            address: 0,
-            bytes: [0u8; 8],
-        },
-        outcomes,
-        room,
-    );
+    let pointed = chip::log_plain(l, pointer(address), outcomes, room);
     let went = pointed.went;
     let Went::Going = went else {
         return chip::log_close(pointed, outcomes, room);
     };
-    let read = chip::log_plain(
-        pointed,
-        Entry {
-            kind: 3,
-            outcome: 0,
-            target: address,
-            n: 3,
-            address: 0,
-            bytes: bytes,
-        },
-        outcomes,
-        room,
-    );
+    let read = chip::log_plain(pointed, read_entry(address, 3, bytes), outcomes, room);
     chip::log_end(read, outcomes, room)
 }
 
@@ -415,19 +395,7 @@ fn wait_one(f: Flow, outcomes: &[u8], room: &mut [u8]) -> Flow
     ensures bounds { λ r. ⌜ r .count + due (r .held) ≤ f .count + 1 + due (f .held) ⌝ }
 {
     let l = chip::log_of(f);
-    let waited = chip::log_plain(
-        l,
-        Entry {
-            kind: 9,
-            outcome: 0,
-            target: 0,
-            n: 0,
-            address: 1,
-            bytes: [0u8; 8],
-        },
-        outcomes,
-        room,
-    );
+    let waited = chip::log_plain(l, wait(1), outcomes, room);
     let ended = chip::log_end(waited, outcomes, room);
     chip::flow_of(ended, f.chip)
 }

@@ -2,8 +2,8 @@
 use mathlib.Core.Path.{ap}
 use Rattle.chip.specs.Steps.{inRoom, run}
 use Rattle.device.specs.Accesses.{accessStep, demodWrite}
-use Rattle.device.proofs.Programs.{by-entry}
 use Rattle.demod.specs.Programs.{ddcSteps}
+use Rattle.chip.proofs.Laws.{by-entry}
 use borrow.Author.Needs.{needs}
 use Rattle.demod.proofs.ddc.Statement.{statement}
 use Rattle.demod.proofs.ddc.Tie as tie

@@ -3,8 +3,8 @@ use native.Mathlib.Omega.{arith}
 use lib.ListN.{replicate}
 use Rattle.chip.specs.Steps.{inRoom}
 use Rattle.device.specs.Accesses.{accessStep}
-use Rattle.device.proofs.Programs.{then}
 use Rattle.demod.specs.Programs.{powerSteps, upward}
+use Rattle.chip.proofs.Laws.{then}
 use borrow.Author.Needs.{needs}
 use Rattle.demod.proofs.power_steps.Statement.{statement}
 use Rattle.demod.proofs.power_steps.Tie as tie

@@ -1,6 +1,6 @@
 -- `demod::rate_steps` meets its contract. Assumes nothing.
 use Rattle.chip.specs.Steps.{inRoom}
-use Rattle.device.proofs.Programs.{by-program}
+use Rattle.chip.proofs.Laws.{by-program}
 use borrow.Author.Needs.{needs}
 use Rattle.demod.proofs.rate_steps.Statement.{statement}
 use Rattle.demod.proofs.rate_steps.Tie as tie

@@ -4,9 +4,9 @@ use mathlib.Core.Path.{ap}
 use mathlib.Core.List.{List}
 use lib.ListN.{take}
 use Rattle.chip.specs.Steps.{inRoom}
-use Rattle.device.proofs.Programs.{by-program}
 use Rattle.fir.specs.Packing.{packOf}
 use Rattle.demod.specs.Programs.{firSteps, upward}
+use Rattle.chip.proofs.Laws.{by-program}
 use borrow.Author.Needs.{needs}
 use Rattle.demod.proofs.set_fir.Statement.{statement}
 use Rattle.demod.proofs.set_fir.Tie as tie

@@ -1,6 +1,6 @@
 -- `device::gpio_bit` meets its contract. Assumes nothing.
 use Rattle.chip.specs.Steps.{inRoom}
-use Rattle.device.proofs.Programs.{by-program}
+use Rattle.chip.proofs.Laws.{by-program}
 use borrow.Author.Needs.{needs}
 use Rattle.device.proofs.gpio_bit.Statement.{statement}
 use Rattle.device.proofs.gpio_bit.Tie as tie

@@ -1,6 +1,6 @@
 -- `device::gpio_output` meets its contract. Assumes nothing.
 use Rattle.chip.specs.Steps.{inRoom}
-use Rattle.device.proofs.Programs.{by-program}
+use Rattle.chip.proofs.Laws.{by-program}
 use borrow.Author.Needs.{needs}
 use Rattle.device.proofs.gpio_output.Statement.{statement}
 use Rattle.device.proofs.gpio_output.Tie as tie

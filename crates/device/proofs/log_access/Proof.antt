@@ -1,8 +1,8 @@
 -- `device::log_access` meets its contract: the plain step of the access's entry. Assumes nothing.
+use Rattle.chip.proofs.Laws.{by-entry}
 use borrow.Author.Needs.{needs}
 use Rattle.chip.specs.Steps.{inRoom}
 use Rattle.device.specs.Accesses.{accessStep}
-use Rattle.device.proofs.Programs.{by-entry}
 use Rattle.device.proofs.log_access.Statement.{statement}
 use Rattle.device.proofs.log_access.Tie as tie
 use Rattle.device.proofs.log_access.Reads as reads

@@ -2,8 +2,8 @@
 use native.Mathlib.Omega.{arith}
 use mathlib.Core.List.{_++_}
 use Rattle.chip.specs.Steps.{inRoom}
-use Rattle.device.proofs.Programs.{then}
 use Rattle.demod.specs.Programs.{ifSteps, rateSteps, resetSteps}
+use Rattle.chip.proofs.Laws.{then}
 use borrow.Author.Needs.{needs}
 use Rattle.driver.proofs.anew_steps.Statement.{statement}
 use Rattle.driver.proofs.anew_steps.Tie as tie

@@ -4,8 +4,8 @@ use mathlib.Core.Path.{ap}
 use mathlib.Core.List.{List}
 use Rattle.chip.specs.declared.Update.{Update}
 use Rattle.chip.specs.Steps.{behind, inRoom, updates}
-use Rattle.device.proofs.Programs.{by-program, then}
 use Rattle.writes.specs.Lists.{bandwidthUpdates, ifUpdates}
+use Rattle.chip.proofs.Laws.{by-program, then}
 use borrow.Author.Needs.{needs}
 use Rattle.driver.proofs.filter_steps.Statement.{statement}
 use Rattle.driver.proofs.filter_steps.Tie as tie

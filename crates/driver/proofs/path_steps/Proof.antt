@@ -5,10 +5,10 @@ use mathlib.Core.List.{_++_}
 use lib.ListN.{getD, length}
 use denote.Ref.{now}
 use Rattle.chip.specs.Steps.{due, inRoom}
-use Rattle.device.proofs.Programs.{by-program, then}
 use Rattle.device.specs.Gpio.{bitSteps, outputSteps}
 use Rattle.driver.specs.Programs.{levelFor, tunerPath}
 use Prim.Native.Nat.{ℕ, _+_, _*_, _≤_}
+use Rattle.chip.proofs.Laws.{by-program, then}
 use borrow.Author.Needs.{needs}
 use Rattle.driver.proofs.path_steps.Statement.{statement}
 use Rattle.driver.proofs.path_steps.Tie as tie

@@ -2,9 +2,9 @@
 use native.Mathlib.Omega.{arith}
 use mathlib.Core.List.{_++_}
 use Rattle.chip.specs.Steps.{inRoom}
-use Rattle.device.proofs.Programs.{then}
 use Rattle.demod.specs.Programs.{ddcSteps}
 use Rattle.driver.specs.Programs.{anewSteps, filterSteps}
+use Rattle.chip.proofs.Laws.{then}
 use borrow.Author.Needs.{needs}
 use Rattle.driver.proofs.sample_rate_steps.Statement.{statement}
 use Rattle.driver.proofs.sample_rate_steps.Tie as tie

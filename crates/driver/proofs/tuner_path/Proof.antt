@@ -1,8 +1,8 @@
 -- `driver::tuner_path` meets its contract: nothing on R820T, a bracket on R828D. Assumes nothing.
 use native.Mathlib.Omega.{arith}
 use Rattle.chip.specs.Steps.{inRoom}
-use Rattle.device.proofs.Programs.{by-program}
 use Rattle.driver.proofs.Paths.{own-path, still}
+use Rattle.chip.proofs.Laws.{by-program}
 use borrow.Author.Needs.{needs}
 use Rattle.driver.proofs.tuner_path.Statement.{statement}
 use Rattle.driver.proofs.tuner_path.Tie as tie

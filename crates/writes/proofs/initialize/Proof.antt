@@ -3,11 +3,11 @@ use mathlib.Core.Path.{ap}
 use native.Mathlib.Omega.{arith}
 use Prim.Native.Nat.{_+_, _≤_}
 use Rattle.chip.specs.Steps.{behind, due, inRoom, updates}
-use Rattle.writes.proofs.Chains.{from, then}
 use mathlib.Core.List.{List, _++_}
 use Rattle.chip.specs.declared.Update.{Update}
 use Rattle.writes.specs.Lists.{ifUpdates, initArray, initUpdates}
 use Rattle.writes.specs.Programs.{sendAll}
+use Rattle.chip.proofs.Laws.{by-program, then}
 use borrow.Author.Needs.{needs}
 use Rattle.writes.proofs.initialize.Statement.{statement}
 use Rattle.writes.proofs.initialize.Tie as tie
@@ -36,8 +36,8 @@ returns c = let a : c .before .before .before .before .before .before .before .b
     let d : c .before .before .with-repeater2 .result .count + due (c .before .before .with-repeater2 .result .held) ≤ c .before .before .before .before .before .before .before .with-repeater .result .count + 2 + 2 = c .before .before .with-repeater2 .ensures .1 in
     let most : c .before .before .with-repeater2 .result .count + due (c .before .before .with-repeater2 .result .held) ≤ c .before .before .before .before .before .before .before .before .before .before .before .before .before .before .before .before .args .f .count + 19 = omega arith in (
       then inRoom _ (sendAll initArray) (behind (updates initUpdates) ++ behind (updates (ifUpdates 2_300_000))) _ _ _ (c .before .before .before .before .before .before .before .before .before .before .before .before .send-all .ensures .0)
-          (then inRoom _ (behind (updates initUpdates)) (behind (updates (ifUpdates 2_300_000))) _ _ _ (from inRoom _ _ _ _ _ (ap (λ (us : List Update). behind (updates us)) (c .before .before .before .before .before .before .before .before .before .init-updates .ensures .0)) (c .before .before .before .before .before .before .before .with-repeater .ensures .0))
-          (from inRoom _ _ _ _ _ (ap (λ (us : List Update). behind (updates us)) (c .before .before .before .before .if-updates .ensures .0)) (c .before .before .with-repeater2 .ensures .0))),
+          (then inRoom _ (behind (updates initUpdates)) (behind (updates (ifUpdates 2_300_000))) _ _ _ (by-program inRoom _ _ _ _ _ (ap (λ (us : List Update). behind (updates us)) (c .before .before .before .before .before .before .before .before .before .init-updates .ensures .0)) (c .before .before .before .before .before .before .before .with-repeater .ensures .0))
+          (by-program inRoom _ _ _ _ _ (ap (λ (us : List Update). behind (updates us)) (c .before .before .before .before .if-updates .ensures .0)) (c .before .before .with-repeater2 .ensures .0))),
       most,
     )
 

@@ -2,7 +2,7 @@
 use native.Mathlib.Omega.{arith}
 use Prim.Native.Nat.{_+_, _≤_}
 use Rattle.chip.specs.Steps.{due, inRoom, tunerWrite}
-use Rattle.writes.proofs.Chains.{then}
+use Rattle.chip.proofs.Laws.{then}
 use borrow.Author.Needs.{needs}
 use Rattle.writes.proofs.send_all.Statement.{statement}
 use Rattle.writes.proofs.send_all.Tie as tie
