@@ -76,7 +76,7 @@ pub struct Flow {
     pub seen: Seen,
 }
 
-// The flow but for the chip: all that a step goes by and changes which leaves the chip alone. Small, so that such steps carry the chip nowhere.
+// The flow but for the chip: small, so that steps carry the chip nowhere. One that writes a register takes the chip's lists beside it, where they lie.
 pub struct Log {
     pub count: usize,
     pub went: Went,
