@@ -1,4 +1,4 @@
--- Programs that are lists of one kind of step, worked off one by one: what is left, turn by turn. One law serves updates, chunks and plain steps.
+-- Programs that are lists of one kind of step, worked off one by one: what is left, turn by turn. One law serves updates and accesses.
 -- Assumes nothing.
 use Prim.Native.Nat.{ℕ, zero, suc, _+_, _≤_, _<_}
 use mathlib.Core.Path.{_≡_, refl, sym, ap, _∙_}
@@ -12,10 +12,9 @@ use lib.Dec.{leb}
 use lib.ListN.{length, getD, take, drop, drop-of-length-le, length-take}
 use lib.Seq.{drop-cons, getD-take, length-take-le}
 use Rattle.transcript.specs.declared.Entry.{Entry}
-use Rattle.chip.specs.declared.Chunk.{Chunk}
 use Rattle.chip.specs.declared.Update.{Update}
 use Rattle.chip.specs.Chips.{pair}
-use Rattle.chip.specs.Steps.{Step, Line, chunkStep, every, inRange, inner, run, step, updateStep}
+use Rattle.chip.specs.Steps.{Step, Line, every, inRange, inner, run, step, updateStep}
 use Rattle.chip.specs.Steps.Step.{Send, Mask, Plain}
 use Rattle.chip.proofs.Laws.{and-left, and-right}
 
@@ -46,9 +45,6 @@ inner-update u = go (u .past) refl
     go : (p : Bool) → u .past ≡ p → inner (updateStep u) ≡ true
     go true e = rw e
     go false e = rw e
-
-pub inner-chunk : (bs : List ℕ) (k : Chunk) → inner (chunkStep bs k) ≡ true
-inner-chunk bs k = refl
 
 -- a register in range
 pub low : (u : Update) → inRange u ≡ true → 5 ≤ u .register
