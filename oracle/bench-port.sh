@@ -1,9 +1,9 @@
 #!/bin/bash
 # The port beside the original in one run: nanoseconds per call (minimum over rounds in which both take their turn), two
 # threads against one, instructions per call by callgrind, and that the archive asks for no allocator. The archive is the
-# one that PASETONE_ARCHIVE names, else ../target/staticlib/libpasetone.a. Measure on a quiet machine.
+# one that PASETONE_ARCHIVE names, else the one that host/archive finds or makes. Measure on a quiet machine.
 set -euo pipefail
-archive=${PASETONE_ARCHIVE:-$(dirname "$0")/../target/staticlib/libpasetone.a}
+archive=${PASETONE_ARCHIVE:-$("$(dirname "$0")/../host/archive")/libpasetone.a}
 PASETONE_ARCHIVE=$(realpath "$archive")
 export PASETONE_ARCHIVE
 cd "$(dirname "$0")"
