@@ -197,6 +197,12 @@ module _ {L : Type 0} (put : L → ℕ → Entry → L) (os : List ℕ) where
       → step put os Close y ≡ run put os (Open ∷ (ss ++ (Close ∷ []))) w
   bracketed ss w x y p q = ap (step put os Close) q ∙ ap (λ (v : Line L). step put os Close (closing put os (run put os ss v))) p ∙ bracket ss w
 
+  -- a bracket whose opening failed, or that came stopped: nothing of it is taken but the closing of what is open
+  pub unopened : (ss : List Step) (w x y : Line L) → x ≡ step put os Open w → goes (x .went) ≡ false → every inner ss ≡ true
+      → y ≡ step put os Close x → y ≡ run put os (Open ∷ (ss ++ (Close ∷ []))) w
+  unopened ss w x y p h i q =
+      q ∙ ap (step put os Close) (idle-run ss x i h) ∙ sym (close-closing (run put os ss x)) ∙ bracketed ss w x (closing put os (run put os ss x)) p refl
+
   -- a write whose bytes were worked out apart
   pub by-bytes : (n : ℕ) (xs ys : List ℕ) (w v : Line L) → xs ≡ ys → v ≡ step put os (Send n xs) w → v ≡ step put os (Send n ys) w
   by-bytes n xs ys w v e h = h ∙ ap (λ (l : List ℕ). step put os (Send n l) w) e

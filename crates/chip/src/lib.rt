@@ -522,6 +522,10 @@ pub fn with_repeater(f: Flow, us: [Update; 16], n: usize, outcomes: &[u8], room:
     ensures bounds { λ r. ⌜ r .count + due (r .held) ≤ f .count + n + 2 ⌝ }
 {
     let opened = open_repeater(f, outcomes, room);
+    let went = opened.went;
+    let Went::Going = went else {
+        return close_repeater(opened, outcomes, room);
+    };
     let written = write_all(opened, us, n, outcomes, room);
     close_repeater(written, outcomes, room)
 }
@@ -653,10 +657,15 @@ pub fn i2c_write_first(f: Flow, bs: [u8; 27], outcomes: &[u8], room: &mut [u8]) 
     ensures bounds { λ r. ⌜ r .count + due (r .held) ≤ f .count + 5 ⌝ }
 {
     let chip = f.chip;
+    let opened = log_open(log_of(f), outcomes, room);
+    let went = opened.went;
+    let Went::Going = went else {
+        let shut = log_close(opened, outcomes, room);
+        return flow_of(shut, chip);
+    };
     let shadow = chip.shadow;
     let mut attempted = chip.attempted;
     let mut doubtful = chip.doubtful;
-    let opened = log_open(log_of(f), outcomes, room);
     let sent = first_chunks(
         opened,
         chip.address,
@@ -683,10 +692,15 @@ pub fn i2c_write_last(f: Flow, bs: [u8; 27], outcomes: &[u8], room: &mut [u8]) -
     ensures bounds { λ r. ⌜ r .count + due (r .held) ≤ f .count + 4 ⌝ }
 {
     let chip = f.chip;
+    let opened = log_open(log_of(f), outcomes, room);
+    let went = opened.went;
+    let Went::Going = went else {
+        let shut = log_close(opened, outcomes, room);
+        return flow_of(shut, chip);
+    };
     let shadow = chip.shadow;
     let mut attempted = chip.attempted;
     let mut doubtful = chip.doubtful;
-    let opened = log_open(log_of(f), outcomes, room);
     let sent = last_chunks(
         opened,
         chip.address,

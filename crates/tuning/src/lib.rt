@@ -415,6 +415,10 @@ fn after_try(f: Flow, i: usize, outcomes: &[u8], room: &mut [u8]) -> Flow
             past: false,
         };
         let written = chip::write_all(f, [u; 16], 1, outcomes, room);
+        let went = written.went;
+        let Went::Going = went else {
+            return chip::close_repeater(written, outcomes, room);
+        };
         return wait_one(written, outcomes, room);
     }
     wait_one(f, outcomes, room)
@@ -548,6 +552,10 @@ pub fn tune(
     ensures bounds { λ r. ⌜ r .count + due (r .held) ≤ f .count + 53 ⌝ }
 {
     let opened = chip::open_repeater(f, outcomes, room);
+    let went = opened.went;
+    let Went::Going = went else {
+        return chip::close_repeater(opened, outcomes, room);
+    };
     let tuned = tune_inner(
         opened,
         address,

@@ -334,11 +334,16 @@ pub fn gain_steps(f: Flow, k: usize, outcomes: &[u8], room: &mut [u8]) -> Flow
     ensures bounds { λ r. ⌜ r .count + due (r .held) ≤ f .count + 7 ⌝ }
 {
     let chip = f.chip;
+    let l = chip::log_of(f);
+    let opened = chip::log_open(l, outcomes, room);
+    let went = opened.went;
+    let Went::Going = went else {
+        let shut = chip::log_close(opened, outcomes, room);
+        return chip::flow_of(shut, chip);
+    };
     let mut shadow = chip.shadow;
     let mut attempted = chip.attempted;
     let mut doubtful = chip.doubtful;
-    let l = chip::log_of(f);
-    let opened = chip::log_open(l, outcomes, room);
     let written = gain_writes(
         opened,
         chip.address,

@@ -1,10 +1,11 @@
 -- `chip::with_repeater` meets its contract. Each return is one law of the definition, with what the calls before it ensure. Assumes nothing.
-use Rattle.chip.specs.Steps.{due, inRoom, updates}
+use Rattle.chip.specs.Steps.{due, goes, inRoom, updates, updateStep}
 use Prim.Native.Nat.{_+_, _*_, _≤_}
 use denote.Ref.{now}
 use lib.ListN.{length, take}
-use Rattle.chip.proofs.Laws.{bracketed}
-use mathlib.Core.Path.{_≡_, _∙_}
+use Rattle.chip.proofs.Laws.{bracketed, unopened}
+use Rattle.chip.proofs.Lists.{every-inner, inner-update}
+use mathlib.Core.Path.{_≡_, ap, _∙_}
 use native.Mathlib.Omega.{arith}
 use borrow.Author.Needs.{needs}
 use Rattle.chip.proofs.with_repeater.Statement.{statement}
@@ -13,34 +14,54 @@ use Rattle.chip.proofs.with_repeater.Tie as tie
 open-repeater-requires : tie.Need-open-repeater-requires
 open-repeater-requires c κs = search needs
 
-write-all-requires : tie.Need-write-all-requires
-write-all-requires c κs = search needs
+enum-told : tie.Need-enum-told
+enum-told c = search needs
+
+enum-told-2 : tie.Need-enum-told-2
+enum-told-2 c = search needs
 
 close-repeater-requires : tie.Need-close-repeater-requires
-close-repeater-requires c κs = let a : c .before .before .before .before .before .before .before .open-repeater .result .count + due (c .before .before .before .before .before .before .before .open-repeater .result .held) ≤ c .before .before .before .before .before .before .before .before .before .before .before .args .f .count + 2 = c .before .before .before .before .before .before .before .open-repeater .ensures .1 in
-    let b : c .before .before .before .write-all .result .count + due (c .before .before .before .write-all .result .held) ≤ c .before .before .before .before .before .before .before .open-repeater .result .count + c .before .before .before .before .before .before .before .before .before .before .before .args .n + due (c .before .before .before .before .before .before .before .open-repeater .result .held) = c .before .before .before .write-all .ensures .1 in
-    let d : length (c .before .before .before .write-all .last .1 .1 .1 .1 .0) ≡ length (c .before .before .before .before .before .before .before .open-repeater .last .1 .1 .0) = c .before .before .before .write-all .kept .1 .1 .1 .1 .0 in
-    let e : length (c .before .before .before .before .before .before .before .open-repeater .last .1 .1 .0) ≡ length (now (c .before .before .before .before .before .before .before .before .before .before .before .args .room)) = c .before .before .before .before .before .before .before .open-repeater .kept .1 .1 .0 in
-    let g : (c .before .before .before .write-all .result .count + due (c .before .before .before .write-all .result .held) ≤ length (now (c .before .before .before .before .before .before .before .before .before .before .before .args .outcomes))) × (16 * (c .before .before .before .write-all .result .count + due (c .before .before .before .write-all .result .held)) ≤ length (c .before .before .before .write-all .last .1 .1 .1 .1 .0)) =
-    omega (arith, c .before .before .before .before .before .before .before .before .before .before .before .pre) in
-    g
+close-repeater-requires c κs = search needs
 
 same-length : tie.Need-same-length
 same-length c = search needs
 
 returns : tie.Need-returns
-returns c = let a : c .before .before .before .before .before .before .before .before .before .before .open-repeater .result .count + due (c .before .before .before .before .before .before .before .before .before .before .open-repeater .result .held) ≤ c .before .before .before .before .before .before .before .before .before .before .before .before .before .before .args .f .count + 2 = c .before .before .before .before .before .before .before .before .before .before .open-repeater .ensures .1 in
-    let b : c .before .before .before .before .before .before .write-all .result .count + due (c .before .before .before .before .before .before .write-all .result .held) ≤ c .before .before .before .before .before .before .before .before .before .before .open-repeater .result .count + c .before .before .before .before .before .before .before .before .before .before .before .before .before .before .args .n + due (c .before .before .before .before .before .before .before .before .before .before .open-repeater .result .held) = c .before .before .before .before .before .before .write-all .ensures .1 in
-    let d : c .before .before .close-repeater .result .count + due (c .before .before .close-repeater .result .held) ≤ c .before .before .before .before .before .before .write-all .result .count + due (c .before .before .before .before .before .before .write-all .result .held) = c .before .before .close-repeater .ensures .1 in
-    let most : c .before .before .close-repeater .result .count + due (c .before .before .close-repeater .result .held) ≤ c .before .before .before .before .before .before .before .before .before .before .before .before .before .before .args .f .count + c .before .before .before .before .before .before .before .before .before .before .before .before .before .before .args .n + 2 = omega arith in
-    (c .before .before .close-repeater .ensures .0 ∙ bracketed inRoom _ (updates (take (c .before .before .before .before .before .before .before .before .before .before .before .before .before .before .args .n) (c .before .before .before .before .before .before .before .before .before .before .before .before .before .before .args .us))) _ _ _ (c .before .before .before .before .before .before .before .before .before .before .open-repeater .ensures .0) (c .before .before .before .before .before .before .write-all .ensures .0), most)
+returns c = (unopened inRoom _ (updates (take (c .before .before .before .before .before .before .before .before .before .before .before .before .args .n) (c .before .before .before .before .before .before .before .before .before .before .before .before .args .us))) _ _ _ (c .before .before .before .before .before .before .before .before .open-repeater .ensures .0) (ap goes (c .before .before .before .before .enum-told2 .given .1)) (every-inner updateStep inner-update (take (c .before .before .before .before .before .before .before .before .before .before .before .before .args .n) (c .before .before .before .before .before .before .before .before .before .before .before .before .args .us))) (c .before .before .close-repeater .ensures .0), omega (arith, c .before .before .before .before .before .before .before .before .open-repeater .ensures .1, c .before .before .close-repeater .ensures .1))
+
+write-all-requires : tie.Need-write-all-requires
+write-all-requires c κs = search needs
+
+close-repeater-requires-2 : tie.Need-close-repeater-requires-2
+close-repeater-requires-2 c κs = let a : c .before .before .before .before .before .before .before .before .before .open-repeater .result .count + due (c .before .before .before .before .before .before .before .before .before .open-repeater .result .held) ≤ c .before .before .before .before .before .before .before .before .before .before .before .before .before .args .f .count + 2 = c .before .before .before .before .before .before .before .before .before .open-repeater .ensures .1 in
+    let b : c .before .before .before .write-all .result .count + due (c .before .before .before .write-all .result .held) ≤ c .before .before .before .before .before .before .before .before .before .open-repeater .result .count + c .before .before .before .before .before .before .before .before .before .before .before .before .before .args .n + due (c .before .before .before .before .before .before .before .before .before .open-repeater .result .held) = c .before .before .before .write-all .ensures .1 in
+    let d : length (c .before .before .before .write-all .last .1 .1 .1 .1 .0) ≡ length (c .before .before .before .before .before .before .before .before .before .open-repeater .last .1 .1 .0) = c .before .before .before .write-all .kept .1 .1 .1 .1 .0 in
+    let e : length (c .before .before .before .before .before .before .before .before .before .open-repeater .last .1 .1 .0) ≡ length (now (c .before .before .before .before .before .before .before .before .before .before .before .before .before .args .room)) = c .before .before .before .before .before .before .before .before .before .open-repeater .kept .1 .1 .0 in
+    let g : (c .before .before .before .write-all .result .count + due (c .before .before .before .write-all .result .held) ≤ length (now (c .before .before .before .before .before .before .before .before .before .before .before .before .before .args .outcomes))) × (16 * (c .before .before .before .write-all .result .count + due (c .before .before .before .write-all .result .held)) ≤ length (c .before .before .before .write-all .last .1 .1 .1 .1 .0)) =
+    omega (arith, c .before .before .before .before .before .before .before .before .before .before .before .before .before .pre) in
+    g
+
+same-length-2 : tie.Need-same-length-2
+same-length-2 c = search needs
+
+returns-2 : tie.Need-returns-2
+returns-2 c = let a : c .before .before .before .before .before .before .before .before .before .before .before .before .open-repeater .result .count + due (c .before .before .before .before .before .before .before .before .before .before .before .before .open-repeater .result .held) ≤ c .before .before .before .before .before .before .before .before .before .before .before .before .before .before .before .before .args .f .count + 2 = c .before .before .before .before .before .before .before .before .before .before .before .before .open-repeater .ensures .1 in
+    let b : c .before .before .before .before .before .before .write-all .result .count + due (c .before .before .before .before .before .before .write-all .result .held) ≤ c .before .before .before .before .before .before .before .before .before .before .before .before .open-repeater .result .count + c .before .before .before .before .before .before .before .before .before .before .before .before .before .before .before .before .args .n + due (c .before .before .before .before .before .before .before .before .before .before .before .before .open-repeater .result .held) = c .before .before .before .before .before .before .write-all .ensures .1 in
+    let d : c .before .before .close-repeater2 .result .count + due (c .before .before .close-repeater2 .result .held) ≤ c .before .before .before .before .before .before .write-all .result .count + due (c .before .before .before .before .before .before .write-all .result .held) = c .before .before .close-repeater2 .ensures .1 in
+    let most : c .before .before .close-repeater2 .result .count + due (c .before .before .close-repeater2 .result .held) ≤ c .before .before .before .before .before .before .before .before .before .before .before .before .before .before .before .before .args .f .count + c .before .before .before .before .before .before .before .before .before .before .before .before .before .before .before .before .args .n + 2 = omega arith in
+    (c .before .before .close-repeater2 .ensures .0 ∙ bracketed inRoom _ (updates (take (c .before .before .before .before .before .before .before .before .before .before .before .before .before .before .before .before .args .n) (c .before .before .before .before .before .before .before .before .before .before .before .before .before .before .before .before .args .us))) _ _ _ (c .before .before .before .before .before .before .before .before .before .before .before .before .open-repeater .ensures .0) (c .before .before .before .before .before .before .write-all .ensures .0), most)
 
 pub with-repeater-spec : {M : Type 1} → statement M
 with-repeater-spec =
     tie.close
     (tie.spec
     open-repeater-requires
-    write-all-requires
+    enum-told
+    enum-told-2
     close-repeater-requires
     same-length
-    returns)
+    returns
+    write-all-requires
+    close-repeater-requires-2
+    same-length-2
+    returns-2)

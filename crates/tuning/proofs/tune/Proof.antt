@@ -1,11 +1,12 @@
 -- `tuning::tune` meets its contract. Each return is one law of the definition, with what the calls before it ensure. Assumes nothing.
-use mathlib.Core.Path.{_∙_}
+use mathlib.Core.Path.{ap, _∙_}
 use native.Mathlib.Omega.{arith}
 use Prim.Native.Nat.{_+_, _≤_}
-use Rattle.chip.specs.Steps.{due, inRoom}
-use Rattle.chip.proofs.Laws.{bracketed}
+use Rattle.chip.specs.Steps.{due, goes, inRoom}
+use Rattle.chip.proofs.Laws.{bracketed, unopened}
 use denote.Ref.{now}
 use Rattle.tuning.specs.Program.{innerSteps}
+use Rattle.tuning.proofs.Programs.{inner-inner}
 use borrow.Author.Needs.{needs}
 use Rattle.tuning.proofs.tune.Statement.{statement}
 use Rattle.tuning.proofs.tune.Tie as tie
@@ -13,8 +14,11 @@ use Rattle.tuning.proofs.tune.Tie as tie
 open-repeater-requires : tie.Need-open-repeater-requires
 open-repeater-requires c κs = search needs
 
-tune-inner-requires : tie.Need-tune-inner-requires
-tune-inner-requires c κs = search needs
+enum-told : tie.Need-enum-told
+enum-told c = search needs
+
+enum-told-2 : tie.Need-enum-told-2
+enum-told-2 c = search needs
 
 close-repeater-requires : tie.Need-close-repeater-requires
 close-repeater-requires c κs = search needs
@@ -23,18 +27,35 @@ same-length : tie.Need-same-length
 same-length c = search needs
 
 returns : tie.Need-returns
-returns c = let a : c .before .before .before .before .before .before .before .before .before .before .open-repeater .result .count + due (c .before .before .before .before .before .before .before .before .before .before .open-repeater .result .held) ≤ c .before .before .before .before .before .before .before .before .before .before .before .before .before .before .before .args .f .count + 2 = c .before .before .before .before .before .before .before .before .before .before .open-repeater .ensures .1 in
-    let b : c .before .before .before .before .before .before .tune-inner .result .count + due (c .before .before .before .before .before .before .tune-inner .result .held) ≤ c .before .before .before .before .before .before .before .before .before .before .open-repeater .result .count + 51 + due (c .before .before .before .before .before .before .before .before .before .before .open-repeater .result .held) = c .before .before .before .before .before .before .tune-inner .ensures .1 in
-    let d : c .before .before .close-repeater .result .count + due (c .before .before .close-repeater .result .held) ≤ c .before .before .before .before .before .before .tune-inner .result .count + due (c .before .before .before .before .before .before .tune-inner .result .held) = c .before .before .close-repeater .ensures .1 in
-    let most : c .before .before .close-repeater .result .count + due (c .before .before .close-repeater .result .held) ≤ c .before .before .before .before .before .before .before .before .before .before .before .before .before .before .before .args .f .count + 53 = omega arith in
-    (c .before .before .close-repeater .ensures .0 ∙ bracketed inRoom _ (innerSteps (c .before .before .before .before .before .before .before .before .before .before .before .before .before .before .before .args .address) (c .before .before .before .before .before .before .before .before .before .before .before .before .before .before .before .args .kind) (c .before .before .before .before .before .before .before .before .before .before .before .before .before .before .before .args .notch) (c .before .before .before .before .before .before .before .before .before .before .before .before .before .before .before .args .plan) (c .before .before .before .before .before .before .before .before .before .before .before .before .before .before .before .args .hz) (now (c .before .before .before .before .before .before .before .before .before .before .before .before .before .before .before .args .replies))) _ _ _ (c .before .before .before .before .before .before .before .before .before .before .open-repeater .ensures .0) (c .before .before .before .before .before .before .tune-inner .ensures .0), most)
+returns c = (unopened inRoom _ (innerSteps (c .before .before .before .before .before .before .before .before .before .before .before .before .before .args .address) (c .before .before .before .before .before .before .before .before .before .before .before .before .before .args .kind) (c .before .before .before .before .before .before .before .before .before .before .before .before .before .args .notch) (c .before .before .before .before .before .before .before .before .before .before .before .before .before .args .plan) (c .before .before .before .before .before .before .before .before .before .before .before .before .before .args .hz) (now (c .before .before .before .before .before .before .before .before .before .before .before .before .before .args .replies))) _ _ _ (c .before .before .before .before .before .before .before .before .open-repeater .ensures .0) (ap goes (c .before .before .before .before .enum-told2 .given .1)) (inner-inner (c .before .before .before .before .before .before .before .before .before .before .before .before .before .args .address) (c .before .before .before .before .before .before .before .before .before .before .before .before .before .args .kind) (c .before .before .before .before .before .before .before .before .before .before .before .before .before .args .notch) (c .before .before .before .before .before .before .before .before .before .before .before .before .before .args .plan) (c .before .before .before .before .before .before .before .before .before .before .before .before .before .args .hz) (now (c .before .before .before .before .before .before .before .before .before .before .before .before .before .args .replies))) (c .before .before .close-repeater .ensures .0), omega (arith, c .before .before .before .before .before .before .before .before .open-repeater .ensures .1, c .before .before .close-repeater .ensures .1))
+
+tune-inner-requires : tie.Need-tune-inner-requires
+tune-inner-requires c κs = search needs
+
+close-repeater-requires-2 : tie.Need-close-repeater-requires-2
+close-repeater-requires-2 c κs = search needs
+
+same-length-2 : tie.Need-same-length-2
+same-length-2 c = search needs
+
+returns-2 : tie.Need-returns-2
+returns-2 c = let a : c .before .before .before .before .before .before .before .before .before .before .before .before .open-repeater .result .count + due (c .before .before .before .before .before .before .before .before .before .before .before .before .open-repeater .result .held) ≤ c .before .before .before .before .before .before .before .before .before .before .before .before .before .before .before .before .before .args .f .count + 2 = c .before .before .before .before .before .before .before .before .before .before .before .before .open-repeater .ensures .1 in
+    let b : c .before .before .before .before .before .before .tune-inner .result .count + due (c .before .before .before .before .before .before .tune-inner .result .held) ≤ c .before .before .before .before .before .before .before .before .before .before .before .before .open-repeater .result .count + 51 + due (c .before .before .before .before .before .before .before .before .before .before .before .before .open-repeater .result .held) = c .before .before .before .before .before .before .tune-inner .ensures .1 in
+    let d : c .before .before .close-repeater2 .result .count + due (c .before .before .close-repeater2 .result .held) ≤ c .before .before .before .before .before .before .tune-inner .result .count + due (c .before .before .before .before .before .before .tune-inner .result .held) = c .before .before .close-repeater2 .ensures .1 in
+    let most : c .before .before .close-repeater2 .result .count + due (c .before .before .close-repeater2 .result .held) ≤ c .before .before .before .before .before .before .before .before .before .before .before .before .before .before .before .before .before .args .f .count + 53 = omega arith in
+    (c .before .before .close-repeater2 .ensures .0 ∙ bracketed inRoom _ (innerSteps (c .before .before .before .before .before .before .before .before .before .before .before .before .before .before .before .before .before .args .address) (c .before .before .before .before .before .before .before .before .before .before .before .before .before .before .before .before .before .args .kind) (c .before .before .before .before .before .before .before .before .before .before .before .before .before .before .before .before .before .args .notch) (c .before .before .before .before .before .before .before .before .before .before .before .before .before .before .before .before .before .args .plan) (c .before .before .before .before .before .before .before .before .before .before .before .before .before .before .before .before .before .args .hz) (now (c .before .before .before .before .before .before .before .before .before .before .before .before .before .before .before .before .before .args .replies))) _ _ _ (c .before .before .before .before .before .before .before .before .before .before .before .before .open-repeater .ensures .0) (c .before .before .before .before .before .before .tune-inner .ensures .0), most)
 
 pub tune-spec : {M : Type 1} → statement M
 tune-spec =
     tie.close
     (tie.spec
     open-repeater-requires
-    tune-inner-requires
+    enum-told
+    enum-told-2
     close-repeater-requires
     same-length
-    returns)
+    returns
+    tune-inner-requires
+    close-repeater-requires-2
+    same-length-2
+    returns-2)
