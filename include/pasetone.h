@@ -215,8 +215,10 @@ pasetone_tune_reply pasetone_set_frequency(const uint8_t *tuner, size_t tuner_le
                                            size_t room_len, uint8_t *next, size_t next_len);
 
 /*
- * The gain step nearest to `db`, the lower one on a tie; a NaN is 0 dB. The record's gain changes only when all steps are done.
- * Outcomes 7, room 120. Value: the gain set, as the 32 bits of a binary32. Refuses 1, 8, 9, 11.
+ * The gain step for `db`. First db * 10 (one binary32 product; a NaN is 0) is cut toward zero to whole tenths of a dB, then the step nearest to
+ * these is taken, the lower one on a tie. So 0.46 is 4 tenths and gives 0.0 dB, not 0.9; 3.25 is 32 tenths and gives 2.7 dB, not 3.7.
+ * `get_gain_table` has the steps. The record's gain changes only when all steps are done. Outcomes 7, room 120. Value: the gain set, as the 32
+ * bits of a binary32. Refuses 1, 8, 9, 11.
  */
 pasetone_reply pasetone_set_gain(const uint8_t *tuner, size_t tuner_len, float db, const uint8_t *outcomes, size_t outcomes_len,
                                  uint8_t *room, size_t room_len, uint8_t *next, size_t next_len);

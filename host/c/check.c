@@ -183,6 +183,9 @@ static void check_tuner(void)
     uint8_t table[PASETONE_GAIN_TABLE_SIZE];
     done("initialise", pasetone_initialize(TUNER, OUTCOMES, ROOM, NEXT), 0, 19);
     done("gain 3.2 dB", pasetone_set_gain(TUNER, 3.2f, OUTCOMES, ROOM, NEXT), 0x402ccccd, 7);
+    /* Whole tenths first: 0.46 is 4, nearer to 0 than to 9; 3.25 is 32, in the middle of 27 and 37. */
+    done("gain 0.46 dB", pasetone_set_gain(TUNER, 0.46f, OUTCOMES, ROOM, NEXT), 0, 7);
+    done("gain 3.25 dB", pasetone_set_gain(TUNER, 3.25f, OUTCOMES, ROOM, NEXT), 0x402ccccd, 7);
     done("gain by index", pasetone_set_gain_by_index(TUNER, 99, OUTCOMES, ROOM, NEXT), 0x42466666, 7);
     done("IF", pasetone_set_if_freq(TUNER, 3570000, OUTCOMES, ROOM, NEXT), 0, 4);
     done("IF set", pasetone_get_if_freq(NEXT), 3570000, 0);

@@ -94,7 +94,12 @@ impl Tuner {
         })
     }
 
-    /// The gain step nearest to `db`: 7 outcomes. The value is the gain set. Refused: 9, 11.
+    /// The gain step for `db`: 7 outcomes. The value is the gain set.
+    ///
+    /// First db · 10 is cut toward zero to whole tenths (a NaN is 0), then the step nearest to these is taken, the lower one on a tie. So 0.46 is
+    /// 4 tenths and gives 0.0, not 0.9; 3.25 is 32 tenths and gives 2.7, not 3.7. [`Tuner::gain_table`] has the steps.
+    ///
+    /// Refused: 9, 11.
     pub fn set_gain(&mut self, db: f32, script: &Script) -> Answer<f32> {
         let o = script.outcomes();
         decibels(self.operate(7, |t, room, next| unsafe {

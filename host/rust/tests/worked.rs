@@ -129,6 +129,9 @@ fn gain() {
     let mut tuner = r828d();
     assert_eq!(tuner.set_gain(3.2, &done()).result, Ok(2.7));
     assert_eq!(tuner.gain(), 2.7);
+    // Whole tenths first: 0.46 is 4, nearer to 0 than to 9; 3.25 is 32, in the middle of 27 and 37.
+    assert_eq!(tuner.set_gain(0.46, &done()).result, Ok(0.0));
+    assert_eq!(tuner.set_gain(3.25, &done()).result, Ok(2.7));
     assert_eq!(tuner.set_gain(f32::NAN, &done()).result, Ok(0.0));
     assert_eq!(tuner.set_gain(-214_748_352.0, &done()).result, Ok(0.0));
     assert_eq!(tuner.set_gain_by_index(usize::MAX, &done()).result, Ok(49.6));
