@@ -178,6 +178,43 @@ static void check_receivers(void)
     }
 }
 
+/* Whether a next record was written, by the bytes that lay there before. */
+static int written(void)
+{
+    size_t i;
+    for (i = 0; i < sizeof next && next[i] == 0xa5; i++) {
+    }
+    return i < sizeof next;
+}
+
+static void stands(const char *what, int told, int must)
+{
+    same(what, (uint64_t)told, (uint64_t)must);
+    same(what, (uint64_t)written(), (uint64_t)must);
+    memset(next, 0xa5, sizeof next);
+}
+
+/* `pasetone_stands` says whether the next record was written: done, refused before any step, by a step, in the PLL, and done with no step. */
+static void check_stands(void)
+{
+    uint8_t small[PASETONE_TUNER_SIZE];
+    memset(next, 0xa5, sizeof next);
+    stands("stands: done", pasetone_stands(pasetone_initialize(TUNER, OUTCOMES, ROOM, NEXT)), 1);
+    stands("stands: no outcomes", pasetone_stands(pasetone_initialize(TUNER, outcomes, 0, ROOM, NEXT)), 0);
+    stands("stands: no record", pasetone_stands(pasetone_initialize(tuner, 0, OUTCOMES, ROOM, NEXT)), 0);
+    outcomes[0] = 1;
+    stands("stands: opening failed", pasetone_stands(pasetone_initialize(TUNER, OUTCOMES, ROOM, NEXT)), 1);
+    stands("stands: tune, opening failed", pasetone_tune_stands(pasetone_set_frequency(TUNER, 100000000, OUTCOMES, REPLIES, ROOM, NEXT)), 1);
+    outcomes[0] = 0;
+    stands("stands: tune", pasetone_tune_stands(pasetone_set_frequency(TUNER, 100000000, OUTCOMES, REPLIES, ROOM, NEXT)), 1);
+    stands("stands: 0 Hz", pasetone_tune_stands(pasetone_set_frequency(TUNER, 0, OUTCOMES, REPLIES, ROOM, NEXT)), 0);
+    stands("stands: PLL", pasetone_tune_stands(pasetone_set_frequency(TUNER, 1, OUTCOMES, REPLIES, ROOM, NEXT)), 1);
+    done("R820T", pasetone_tuner_new(PASETONE_R820T, 0x34, 28800000, small, sizeof small), 0, 0);
+    stands("stands: R820T's path", pasetone_stands(pasetone_set_input_path(small, sizeof small, PASETONE_HF, outcomes, 0, room, 0, NEXT)), 1);
+    stands("stands: shadow", pasetone_stands(pasetone_update_shadow(TUNER, 0x05, 0, 0, NEXT)), 1);
+    stands("stands: register 0x04", pasetone_stands(pasetone_update_shadow(TUNER, 0x04, 0, 0, NEXT)), 0);
+}
+
 static void check_tuner(void)
 {
     uint8_t table[PASETONE_GAIN_TABLE_SIZE];
@@ -291,6 +328,7 @@ int main(void)
     check_bandwidth();
     check_tuning();
     check_receivers();
+    check_stands();
     check_tuner();
     check_driver();
     check_demod();
