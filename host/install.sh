@@ -7,19 +7,18 @@
 # A space or another character that a shell looks at stands in pasetone.pc behind a backslash, as pkg-config wants it. It prints it so as well: where
 # the prefix has one, the line that takes the flags has to be read by the shell once more (eval "gcc $(pkg-config --cflags --libs pasetone) ..").
 set -eu
-use() {
-    echo "use: host/install.sh PREFIX; with DESTDIR set, PREFIX begins with a slash" >&2
-    exit 2
-}
-[ $# -eq 1 ] || use
-case $1 in
-    '' | -*) use ;;
+use="use: host/install.sh PREFIX    with DESTDIR set, PREFIX begins with a slash"
+case "$# ${1:-}" in
+    "1 -h" | "1 --help") echo "$use"; exit 0 ;;
+    "1 " | "1 -"*) echo "$use" >&2; exit 2 ;;
+    "1 "*) ;;
+    *) echo "$use" >&2; exit 2 ;;
 esac
 here=$(cd "$(dirname "$0")" && pwd)
 if [ -n "${DESTDIR:-}" ]; then
     case $1 in
         /*) prefix=$1 ;;
-        *) use ;;
+        *) echo "$use" >&2; exit 2 ;;
     esac
 else
     mkdir -p "$1"
