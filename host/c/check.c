@@ -79,6 +79,10 @@ static void check_making(void)
     done("gain", pasetone_get_gain(TUNER), 0, 0);
     refused("kind 2", pasetone_tuner_new(2, 0x74, 28800000, NEXT), PASETONE_SETUP);
     refused("nominal 0", pasetone_tuner_new(PASETONE_R828D, 0x74, 0, NEXT), PASETONE_SETUP);
+    refused("driver, nominal 0", pasetone_driver_new(PASETONE_V4, 0, 0, 0, 0, next_driver, sizeof next_driver), PASETONE_SETUP);
+    refused("driver, nominal 2^32", pasetone_driver_new(PASETONE_V4, 4294967296u, 0, 0, 0, next_driver, sizeof next_driver), PASETONE_SETUP);
+    refused("driver, nominal 0 and a bad correction", pasetone_driver_new(PASETONE_V4, 0, -1000000, 0, 0, next_driver, sizeof next_driver),
+            PASETONE_SETUP);
     refused("short next", pasetone_tuner_new(PASETONE_R828D, 0x74, 28800000, next, 104), PASETONE_ROOM);
     refused("no record", pasetone_get_gain(tuner, 104), PASETONE_SETUP);
 }
