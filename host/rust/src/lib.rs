@@ -15,7 +15,7 @@
 //! assert_eq!(tuner.doubtful().count(), 0);
 //!
 //! // The write of register 0x14 fails; the repeater is closed behind it.
-//! let answer = tuner.set_frequency(100_000_000, &Script::all_done().failing(13));
+//! let answer = tuner.set_frequency(100_000_000, &Script::all_done().failing(13)?);
 //! assert_eq!(answer.result, Err(Error::Step { index: 13 }));
 //! assert_eq!(answer.transcript.len(), 15);
 //! assert_eq!(tuner.doubtful().collect::<Vec<_>>(), [0x14]);
@@ -25,7 +25,10 @@
 //! # Ok::<(), Error>(())
 //! ```
 
-#![warn(missing_docs)]
+#![no_std]
+#![deny(missing_docs, clippy::missing_errors_doc, clippy::undocumented_unsafe_blocks)]
+
+extern crate alloc;
 
 pub mod demod;
 mod driver;
@@ -62,7 +65,7 @@ impl<T> Answer<T> {
 
 /// A call with at most this many entries, over room of its own.
 fn in_room(entries: usize, call: impl FnOnce(&mut [u8]) -> raw::Reply) -> (raw::Reply, Transcript) {
-    let mut room = vec![0; transcript::room_for(entries)];
+    let mut room = alloc::vec![0; transcript::room_for(entries)];
     let reply = call(&mut room);
     (reply, Transcript::of_room(room, reply.count))
 }
