@@ -27,9 +27,9 @@
  *   8 block read                  block   1       register      the byte, zero if failed
  *   9 wait                        0       0       milliseconds  none
  *
- * On a receiver a repeater entry is a write of one byte to the demodulator, page 1, register 0x01: 0x18 opens, 0x10 closes. Behind each of its
- * writes of kind 1, 4 and 5 that is done, rtlsdr-next reads page 0x0a, register 0x01, and does not look at the byte or at a failure; that read has
- * no entry.
+ * On a receiver a repeater entry is a write of one byte to the demodulator, page 1, register 0x01: 0x18 opens, 0x10 closes. Behind each write to
+ * the demodulator that is done (kinds 1, 4, 5) rtlsdr-next reads page 0x0a, register 0x01, and looks neither at the byte nor at a failure; that
+ * read has no entry. host/README.md has the USB transfer of each kind.
  *
  * When a step fails the rest of the call is not taken, but an open repeater is closed. A closing that fails is recorded and else ignored.
  *
@@ -57,7 +57,7 @@ extern "C" {
 #define PASETONE_SETUP 1        /* a kind, board or path that is none, a nominal reference out of 1..4,294,967,295, bytes that are no record */
 #define PASETONE_FREQUENCY 2    /* 0 Hz; Hz plus IF over 64 bits; or no divider or N in the PLL, when the mux is set already */
 #define PASETONE_RATE 3         /* rate 0 */
-#define PASETONE_CORRECTION 4   /* a corrected reference out of 1..4,294,967,295 */
+#define PASETONE_CORRECTION 4   /* a corrected reference out of 1..4,294,967,295, or a demodulator's reference of 0 */
 #define PASETONE_REGISTER 5     /* a register out of 0x05..0x1f */
 #define PASETONE_PIN 6          /* a GPIO above 7 */
 #define PASETONE_COEFFICIENT 7  /* an FIR value past its width, or not sixteen of them */

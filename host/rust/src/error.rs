@@ -12,7 +12,7 @@ pub enum Error {
     Frequency,
     /// 3: rate 0.
     Rate,
-    /// 4: a corrected reference out of 1..=4,294,967,295.
+    /// 4: a corrected reference out of 1..=4,294,967,295, or a demodulator's reference of 0.
     Correction,
     /// 5: a register out of 0x05..=0x1f.
     Register,

@@ -176,7 +176,7 @@ impl Transcript {
         Transcript { section: room }
     }
 
-    /// The section's bytes, its trailer included: what [`Transcript::read`] takes.
+    /// The section's bytes, its trailer included: what [`Transcript::read`] takes. Where no step was taken there are none.
     pub fn bytes(&self) -> &[u8] {
         &self.section
     }

@@ -189,3 +189,29 @@ fn transcripts_print_in_words() {
     assert_eq!(format!("{:?}", answer.transcript), "Transcript [repeater opens, I2C write 0x74: 0x0a <- d8 FAILED, repeater closes]");
     assert_eq!(format!("{:?}", Transcript::default()), "Transcript []");
 }
+
+/// A receiver that is asked step by step leaves what the whole script leaves at once, wherever it fails. The example of the crate's first page.
+#[test]
+fn rounds_leave_what_one_call_leaves() {
+    for failing in (0..Script::OUTCOMES).map(Some).chain([None]) {
+        let whole = match failing {
+            Some(step) => Script::new([0; Script::OUTCOMES], [0x0a; Script::REPLIES]).failing(step).unwrap(),
+            None => Script::new([0; Script::OUTCOMES], [0x0a; Script::REPLIES]),
+        };
+        let (mut at_once, tuner) = (r828d(), r828d());
+        let wanted = at_once.set_frequency(100_000_000, &whole);
+        let (mut outcomes, mut replies, mut taken, mut read) = ([0; Script::OUTCOMES], [0; Script::REPLIES], 0, 0);
+        let (found, next) = loop {
+            let mut next = tuner.clone();
+            let answer = next.set_frequency(100_000_000, &Script::new(outcomes, replies));
+            let Some(entry) = answer.transcript.get(taken) else { break (answer, next) };
+            outcomes[taken] = whole.outcomes()[taken];
+            if entry.kind == EntryKind::I2cRead {
+                replies[read..read + entry.bytes.len()].fill(0x0a);
+                read += entry.bytes.len();
+            }
+            taken += 1;
+        };
+        assert_eq!((found, next), (wanted, at_once), "step {failing:?}");
+    }
+}
