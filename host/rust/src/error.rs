@@ -107,8 +107,12 @@ impl Error {
             Error::Pin => "there is no such GPIO: give one from 0 to 7",
             Error::Coefficient => "an FIR value is past its width: give -128 to 127 for the first eight, -2048 to 2047 for the others",
             Error::Room => "the library asked for more room than this crate lends: build both from one tree",
-            Error::Outcomes => "the script has too few outcomes: lend Script::OUTCOMES of them, as Script::all_done does",
-            Error::Replies => "the script has too few replies: lend Script::REPLIES of them, as Script::all_done does",
+            Error::Outcomes => {
+                "the script has too few outcomes: take Script::all_done, which has enough for every call, and an index below its length"
+            }
+            Error::Replies => {
+                "the script has too few replies: take Script::all_done, which has enough for every call, and an index below its length"
+            }
             Error::Step { .. } => {
                 "a step failed, and the steps before it stand: see the transcript, reload a tuner with doubtful registers, and make the call again"
             }
