@@ -27,6 +27,10 @@
  *   8 block read                  block   1       register      the byte, zero if failed
  *   9 wait                        0       0       milliseconds  none
  *
+ * On a receiver a repeater entry is a write of one byte to the demodulator, page 1, register 0x01: 0x18 opens, 0x10 closes. Behind each write to
+ * the demodulator that is done (kinds 1, 4, 5) rtlsdr-next reads page 0x0a, register 0x01, and looks neither at the byte nor at a failure; that
+ * read has no entry. host/README.md has the USB transfer of each kind.
+ *
  * When a step fails the rest of the call is not taken, but an open repeater is closed. A closing that fails is recorded and else ignored.
  *
  * Slices. A slice is two arguments: a pointer that is not null and a length; an empty slice is any such pointer and 0. Numbers in bytes stand
@@ -36,7 +40,7 @@
  * Refusals. The reply's `refusal` is 0 or one of the numbers below, in this order: a given record that is none (1); an argument (1 to 7); lent
  * slices too short: room, and the slices for records and bytes that come back (8), outcomes (9), replies (10); then the steps (11, or 2 in
  * the PLL of a tuning). Refused before any step: value, index and count are 0, and every lent byte is as it was. Refused by a step: value 0,
- * and the section and the next records are written, since the steps taken stand.
+ * and the section and the next records are written, since the steps taken stand. `pasetone_stands` tells the two apart.
  */
 #ifndef PASETONE_H
 #define PASETONE_H
@@ -53,7 +57,7 @@ extern "C" {
 #define PASETONE_SETUP 1        /* a kind, board or path that is none, a nominal reference out of 1..4,294,967,295, bytes that are no record */
 #define PASETONE_FREQUENCY 2    /* 0 Hz; Hz plus IF over 64 bits; or no divider or N in the PLL, when the mux is set already */
 #define PASETONE_RATE 3         /* rate 0 */
-#define PASETONE_CORRECTION 4   /* a corrected reference out of 1..4,294,967,295 */
+#define PASETONE_CORRECTION 4   /* a corrected reference out of 1..4,294,967,295, or a demodulator's reference of 0 */
 #define PASETONE_REGISTER 5     /* a register out of 0x05..0x1f */
 #define PASETONE_PIN 6          /* a GPIO above 7 */
 #define PASETONE_COEFFICIENT 7  /* an FIR value past its width, or not sixteen of them */
@@ -156,13 +160,31 @@ typedef struct {
     uint32_t count;   /* entries in the section; 0 where no step was taken */
 } pasetone_reply;
 
-/* What a tuning answers. */
+/*
+ * What a tuning answers. Its fields are those of `pasetone_reply`. It is a type of its own since it is to grow: a change that is asked for adds
+ * how many tries for a lock were made and whether one found it. The reply of every other call stays as it is then.
+ */
 typedef struct {
     uint64_t value;
     uint64_t index;
     uint32_t refusal;
     uint32_t count;
 } pasetone_tune_reply;
+
+/*
+ * Whether the call counts, 1 or 0: it is done, or it is refused and has taken steps, which stand. Then its next records are written and take
+ * the place of the given ones; the section is written where `count` is not 0. Else nothing was written, and the given records stay.
+ */
+static inline int pasetone_stands(pasetone_reply reply)
+{
+    return reply.refusal == PASETONE_DONE || reply.count > 0;
+}
+
+/* The same of a tuning. */
+static inline int pasetone_tune_stands(pasetone_tune_reply reply)
+{
+    return reply.refusal == PASETONE_DONE || reply.count > 0;
+}
 
 /* What the reader of sections answers: entries stand from `start` to `start + 16 * count`, the trailer's 8 bytes behind them. */
 typedef struct {
@@ -179,8 +201,8 @@ uint32_t pasetone_version(void);
 
 /*
  * A tuner as it is before `initialize`: shadow and attempted bytes are the chip's initial ones, every register is doubtful, no lock, gain
- * 0.0, IF 2,300,000, no notch, corrected reference = nominal. `address` is the chip's on I2C, any byte (an R828D: 0x74). `next`: 105 bytes.
- * Value 0. Refuses 1 (kind, nominal), 8.
+ * 0.0, IF 2,300,000, no notch, corrected reference = nominal. `address` is the chip's on I2C, any byte (an R820T has 0x34, an R828D 0x74: eight
+ * bits, the lowest 0). `next`: 105 bytes. Value 0. Refuses 1 (kind, nominal), 8.
  */
 pasetone_reply pasetone_tuner_new(uint64_t kind, uint8_t address, uint64_t nominal, uint8_t *next, size_t next_len);
 
@@ -215,8 +237,10 @@ pasetone_tune_reply pasetone_set_frequency(const uint8_t *tuner, size_t tuner_le
                                            size_t room_len, uint8_t *next, size_t next_len);
 
 /*
- * The gain step nearest to `db`, the lower one on a tie; a NaN is 0 dB. The record's gain changes only when all steps are done.
- * Outcomes 7, room 120. Value: the gain set, as the 32 bits of a binary32. Refuses 1, 8, 9, 11.
+ * The gain step for `db`. First db * 10 (one binary32 product; a NaN is 0) is cut toward zero to whole tenths of a dB, then the step nearest to
+ * these is taken, the lower one on a tie. So 0.46 is 4 tenths and gives 0.0 dB, not 0.9; 3.25 is 32 tenths and gives 2.7 dB, not 3.7.
+ * `get_gain_table` has the steps. The record's gain changes only when all steps are done. Outcomes 7, room 120. Value: the gain set, as the 32
+ * bits of a binary32. Refuses 1, 8, 9, 11.
  */
 pasetone_reply pasetone_set_gain(const uint8_t *tuner, size_t tuner_len, float db, const uint8_t *outcomes, size_t outcomes_len,
                                  uint8_t *room, size_t room_len, uint8_t *next, size_t next_len);

@@ -3,6 +3,12 @@
 # threads against one, instructions per call by callgrind, and that the archive asks for no allocator. The archive is the
 # one that PASETONE_ARCHIVE names, else the one that host/archive finds or makes. Measure on a quiet machine.
 set -euo pipefail
+use="use: oracle/bench-port.sh    takes no word; PASETONE_ARCHIVE may name the archive; some minutes"
+case "$# ${1:-}" in
+    "0 ") ;;
+    "1 -h" | "1 --help") echo "$use"; exit 0 ;;
+    *) echo "$use" >&2; exit 2 ;;
+esac
 archive=${PASETONE_ARCHIVE:-$("$(dirname "$0")/../host/archive")/libpasetone.a}
 PASETONE_ARCHIVE=$(realpath "$archive")
 export PASETONE_ARCHIVE

@@ -2,6 +2,12 @@
 # Speed of the original Rust: nanoseconds per call (minimum of 2,000 rounds of 1,000 calls), then instructions per call
 # by callgrind, with the recorder's own share beside both. Measure on a quiet machine.
 set -euo pipefail
+use="use: oracle/bench.sh    takes no word; some minutes"
+case "$# ${1:-}" in
+    "0 ") ;;
+    "1 -h" | "1 --help") echo "$use"; exit 0 ;;
+    *) echo "$use" >&2; exit 2 ;;
+esac
 cd "$(dirname "$0")"
 cargo build --offline --locked --quiet --profile measure --bin bench
 bench=target/measure/bench

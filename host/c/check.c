@@ -79,6 +79,10 @@ static void check_making(void)
     done("gain", pasetone_get_gain(TUNER), 0, 0);
     refused("kind 2", pasetone_tuner_new(2, 0x74, 28800000, NEXT), PASETONE_SETUP);
     refused("nominal 0", pasetone_tuner_new(PASETONE_R828D, 0x74, 0, NEXT), PASETONE_SETUP);
+    refused("driver, nominal 0", pasetone_driver_new(PASETONE_V4, 0, 0, 0, 0, next_driver, sizeof next_driver), PASETONE_SETUP);
+    refused("driver, nominal 2^32", pasetone_driver_new(PASETONE_V4, 4294967296u, 0, 0, 0, next_driver, sizeof next_driver), PASETONE_SETUP);
+    refused("driver, nominal 0 and a bad correction", pasetone_driver_new(PASETONE_V4, 0, -1000000, 0, 0, next_driver, sizeof next_driver),
+            PASETONE_SETUP);
     refused("short next", pasetone_tuner_new(PASETONE_R828D, 0x74, 28800000, next, 104), PASETONE_ROOM);
     refused("no record", pasetone_get_gain(tuner, 104), PASETONE_SETUP);
 }
@@ -178,11 +182,51 @@ static void check_receivers(void)
     }
 }
 
+/* Whether a next record was written, by the bytes that lay there before. */
+static int written(void)
+{
+    size_t i;
+    for (i = 0; i < sizeof next && next[i] == 0xa5; i++) {
+    }
+    return i < sizeof next;
+}
+
+static void stands(const char *what, int told, int must)
+{
+    same(what, (uint64_t)told, (uint64_t)must);
+    same(what, (uint64_t)written(), (uint64_t)must);
+    memset(next, 0xa5, sizeof next);
+}
+
+/* `pasetone_stands` says whether the next record was written: done, refused before any step, by a step, in the PLL, and done with no step. */
+static void check_stands(void)
+{
+    uint8_t small[PASETONE_TUNER_SIZE];
+    memset(next, 0xa5, sizeof next);
+    stands("stands: done", pasetone_stands(pasetone_initialize(TUNER, OUTCOMES, ROOM, NEXT)), 1);
+    stands("stands: no outcomes", pasetone_stands(pasetone_initialize(TUNER, outcomes, 0, ROOM, NEXT)), 0);
+    stands("stands: no record", pasetone_stands(pasetone_initialize(tuner, 0, OUTCOMES, ROOM, NEXT)), 0);
+    outcomes[0] = 1;
+    stands("stands: opening failed", pasetone_stands(pasetone_initialize(TUNER, OUTCOMES, ROOM, NEXT)), 1);
+    stands("stands: tune, opening failed", pasetone_tune_stands(pasetone_set_frequency(TUNER, 100000000, OUTCOMES, REPLIES, ROOM, NEXT)), 1);
+    outcomes[0] = 0;
+    stands("stands: tune", pasetone_tune_stands(pasetone_set_frequency(TUNER, 100000000, OUTCOMES, REPLIES, ROOM, NEXT)), 1);
+    stands("stands: 0 Hz", pasetone_tune_stands(pasetone_set_frequency(TUNER, 0, OUTCOMES, REPLIES, ROOM, NEXT)), 0);
+    stands("stands: PLL", pasetone_tune_stands(pasetone_set_frequency(TUNER, 1, OUTCOMES, REPLIES, ROOM, NEXT)), 1);
+    done("R820T", pasetone_tuner_new(PASETONE_R820T, 0x34, 28800000, small, sizeof small), 0, 0);
+    stands("stands: R820T's path", pasetone_stands(pasetone_set_input_path(small, sizeof small, PASETONE_HF, outcomes, 0, room, 0, NEXT)), 1);
+    stands("stands: shadow", pasetone_stands(pasetone_update_shadow(TUNER, 0x05, 0, 0, NEXT)), 1);
+    stands("stands: register 0x04", pasetone_stands(pasetone_update_shadow(TUNER, 0x04, 0, 0, NEXT)), 0);
+}
+
 static void check_tuner(void)
 {
     uint8_t table[PASETONE_GAIN_TABLE_SIZE];
     done("initialise", pasetone_initialize(TUNER, OUTCOMES, ROOM, NEXT), 0, 19);
     done("gain 3.2 dB", pasetone_set_gain(TUNER, 3.2f, OUTCOMES, ROOM, NEXT), 0x402ccccd, 7);
+    /* Whole tenths first: 0.46 is 4, nearer to 0 than to 9; 3.25 is 32, in the middle of 27 and 37. */
+    done("gain 0.46 dB", pasetone_set_gain(TUNER, 0.46f, OUTCOMES, ROOM, NEXT), 0, 7);
+    done("gain 3.25 dB", pasetone_set_gain(TUNER, 3.25f, OUTCOMES, ROOM, NEXT), 0x402ccccd, 7);
     done("gain by index", pasetone_set_gain_by_index(TUNER, 99, OUTCOMES, ROOM, NEXT), 0x42466666, 7);
     done("IF", pasetone_set_if_freq(TUNER, 3570000, OUTCOMES, ROOM, NEXT), 0, 4);
     done("IF set", pasetone_get_if_freq(NEXT), 3570000, 0);
@@ -288,6 +332,7 @@ int main(void)
     check_bandwidth();
     check_tuning();
     check_receivers();
+    check_stands();
     check_tuner();
     check_driver();
     check_demod();

@@ -68,9 +68,9 @@ static void print_entry(uint64_t k)
 }
 
 /* The next tuner record is there when the call is done, and also when it is refused by a step: then it tells what the steps taken did. */
-static void keep(struct receiver *r, const uint8_t *next, uint32_t refusal, uint32_t count)
+static void keep(struct receiver *r, const uint8_t *next, int stands)
 {
-    if (refusal == PASETONE_DONE || count > 0) {
+    if (stands) {
         memcpy(r->tuner, next, sizeof r->tuner);
     }
 }
@@ -89,7 +89,7 @@ static void initialize(struct receiver *r)
     pasetone_reply reply =
         pasetone_initialize(r->tuner, sizeof r->tuner, outcomes, sizeof outcomes, room, sizeof room, next, sizeof next);
     print_reply("initialise", reply);
-    keep(r, next, reply.refusal, reply.count);
+    keep(r, next, pasetone_stands(reply));
 }
 
 static void set_rate(struct receiver *r)
@@ -99,8 +99,8 @@ static void set_rate(struct receiver *r)
                                                     sizeof outcomes, room, sizeof room, next_driver, sizeof next_driver, next_tuner,
                                                     sizeof next_tuner);
     print_reply("sample rate 2048000", reply);
-    keep(r, next_tuner, reply.refusal, reply.count);
-    if (reply.count > 0) {
+    keep(r, next_tuner, pasetone_stands(reply));
+    if (pasetone_stands(reply)) {
         memcpy(r->driver, next_driver, sizeof r->driver);
     }
 }
@@ -116,7 +116,7 @@ static void set_gain(struct receiver *r)
     bits = (uint32_t)reply.value;
     memcpy(&db, &bits, sizeof db);
     printf("gain set: %.1f dB\n", (double)db);
-    keep(r, next, reply.refusal, reply.count);
+    keep(r, next, pasetone_stands(reply));
 }
 
 static void tune(struct receiver *r, const char *what)
@@ -128,7 +128,7 @@ static void tune(struct receiver *r, const char *what)
     if (reply.refusal == PASETONE_STEP) {
         print_entry(reply.index);
     }
-    keep(r, next, reply.refusal, reply.count);
+    keep(r, next, pasetone_tune_stands(reply));
     printf("lock: %s\n", r->tuner[PASETONE_TUNER_LOCK] ? "yes" : "no");
 }
 
@@ -138,7 +138,7 @@ static void reload(struct receiver *r)
     pasetone_reply reply =
         pasetone_reload(r->tuner, sizeof r->tuner, outcomes, sizeof outcomes, room, sizeof room, next, sizeof next);
     print_reply("reload", reply);
-    keep(r, next, reply.refusal, reply.count);
+    keep(r, next, pasetone_stands(reply));
 }
 
 int main(void)

@@ -24,7 +24,7 @@ void make_records(void)
 void keep_records(const struct attempt *a)
 {
     uint64_t i = 8 + below(KEPT - 8);
-    if (a->reply.refusal != 0 && a->reply.count == 0) {
+    if (!pasetone_stands(a->reply)) {
         return;
     }
     if (a->call->slots & HAS(NEXT)) {

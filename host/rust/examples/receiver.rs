@@ -1,11 +1,14 @@
 //! A receiver from Rust: set up, tuned with one step failing, and brought back. host/c/receiver.c prints the same lines.
 use pasetone::{Answer, Board, Driver, Error, Script, Tuner, TunerKind};
 
+/// The lines of receiver.c, so in short; an error's own text says in a sentence what to do.
 fn print_answer<T>(what: &str, answer: &Answer<T>) {
-    match &answer.result {
-        Ok(_) => println!("{what}: done, {} entries", answer.transcript.len()),
-        Err(error) => println!("{what}: {error}, {} entries", answer.transcript.len()),
-    }
+    let told = match &answer.result {
+        Ok(_) => String::from("done"),
+        Err(Error::Step { index }) => format!("refusal 11 (step) at entry {index}"),
+        Err(error) => format!("refusal {} ({})", error.number(), error.word()),
+    };
+    println!("{what}: {told}, {} entries", answer.transcript.len());
 }
 
 fn print_doubtful(tuner: &Tuner) {
@@ -46,12 +49,12 @@ fn main() -> Result<(), Error> {
     print_answer("gain 29.7 dB", &tuner.set_gain(29.7, &done));
     println!("gain set: {:.1} dB", tuner.gain());
     // The write of register 0x14 fails. The tuner is updated all the same: the steps taken stand.
-    tune(&mut tuner, "tune 102300000 Hz, step 13 failing", &done.clone().failing(13));
+    tune(&mut tuner, "tune 102300000 Hz, step 13 failing", &done.clone().failing(13)?);
     print_doubtful(&tuner);
     print_answer("reload", &tuner.reload(&done));
     print_doubtful(&tuner);
     // Status bytes come with their bits reversed: the VCO as it should be, and a lock at the first try.
-    tune(&mut tuner, "tune 102300000 Hz", &done.clone().replying(4, 0x08).replying(7, 0x02));
+    tune(&mut tuner, "tune 102300000 Hz", &done.clone().replying(4, 0x08)?.replying(7, 0x02)?);
     print_doubtful(&tuner);
     Ok(())
 }

@@ -1,4 +1,5 @@
 use crate::{Answer, Error, InputPath, Script, Tuner, in_room, raw};
+use core::fmt;
 
 /// The board that the tuner is on.
 #[derive(Clone, Copy, Debug, PartialEq, Eq, Hash)]
@@ -39,7 +40,7 @@ impl Board {
 }
 
 /// What is known of a receiver beside its tuner: board, reference, correction, frequency and rate.
-#[derive(Clone, Debug, PartialEq, Eq, Hash)]
+#[derive(Clone, PartialEq, Eq, Hash)]
 pub struct Driver {
     record: [u8; Driver::SIZE],
 }
@@ -48,7 +49,12 @@ impl Driver {
     /// The record's bytes.
     pub const SIZE: usize = 21;
 
-    /// A driver. Refused: [`Error::Setup`] for a reference of 0, [`Error::Correction`] where the corrected one is out of its range.
+    /// A driver: its board, its reference in Hz, the correction in parts per million, and the frequency and rate to start from (0 is taken).
+    ///
+    /// # Errors
+    ///
+    /// - [`Error::Setup`] (1): `nominal` is 0.
+    /// - [`Error::Correction`] (4): the corrected reference is out of 1..=4,294,967,295.
     pub fn new(board: Board, nominal: u32, ppm: i32, frequency: u64, rate: u32) -> Result<Driver, Error> {
         let mut record = [0; Driver::SIZE];
         let nominal = nominal.into();
@@ -57,7 +63,11 @@ impl Driver {
         made.result().map(|_| Driver { record })
     }
 
-    /// A driver of its record's bytes. Refused: [`Error::Setup`] for bytes that are no record.
+    /// A driver of its record's bytes. [`TryFrom`] does the same.
+    ///
+    /// # Errors
+    ///
+    /// - [`Error::Setup`] (1): the bytes are no record.
     pub fn from_bytes(bytes: &[u8]) -> Result<Driver, Error> {
         // SAFETY: see raw.rs. The library judges the record.
         let read = unsafe { raw::pasetone_corrected_xtal_hz(bytes.as_ptr(), bytes.len()) };
@@ -70,7 +80,11 @@ impl Driver {
         &self.record
     }
 
-    /// Another correction; the tuner keeps its own. Refused: 4.
+    /// Another correction; the tuner keeps its own.
+    ///
+    /// # Errors
+    ///
+    /// - [`Error::Correction`] (4): the corrected reference is out of 1..=4,294,967,295; nothing has changed.
     pub fn set_ppm(&mut self, ppm: i32) -> Result<(), Error> {
         let mut next = self.record;
         let d = &self.record;
@@ -86,13 +100,19 @@ impl Driver {
         unsafe { raw::pasetone_corrected_xtal_hz(self.record.as_ptr(), self.record.len()) }.value as u32
     }
 
-    /// The sample rate, on tuner and demodulator: 17 outcomes. Updates both records whenever it took steps: the tuner's IF changes with the
-    /// first, the driver's rate when all are done. Refused: 3, 9, 11.
+    /// The sample rate, on tuner and demodulator: 17 outcomes. Updates both records whenever it took steps: the tuner's IF changes before the
+    /// first, the driver's rate when all are done. An IF of 0 stays 0. The spectrum follows the board's plan for the driver's frequency.
+    ///
+    /// # Errors
+    ///
+    /// - [`Error::Rate`] (3): `rate` is 0.
+    /// - [`Error::Outcomes`] (9): fewer than 17 outcomes.
+    /// - [`Error::Step`] (11): a step failed, and the steps before it stand.
     pub fn set_sample_rate(&mut self, tuner: &mut Tuner, rate: u32, script: &Script) -> Answer<()> {
         let (mut next_driver, mut next_tuner) = (self.record, *tuner.as_bytes());
         let (d, t, o) = (&self.record, tuner.as_bytes(), script.outcomes());
+        // SAFETY: see raw.rs.
         let (reply, transcript) = in_room(17, |room| unsafe {
-            // SAFETY: see raw.rs.
             #[rustfmt::skip]
             let reply = raw::pasetone_set_sample_rate(d.as_ptr(), d.len(), t.as_ptr(), t.len(), rate, o.as_ptr(), o.len(),
                 room.as_mut_ptr(), room.len(), next_driver.as_mut_ptr(), next_driver.len(), next_tuner.as_mut_ptr(), next_tuner.len());
@@ -110,6 +130,16 @@ impl Driver {
         if self.record[0] == 0 { Board::Generic } else { Board::V4 }
     }
 
+    /// The reference without correction, in Hz.
+    pub fn nominal(&self) -> u32 {
+        self.number(1)
+    }
+
+    /// The correction in parts per million.
+    pub fn ppm(&self) -> i32 {
+        self.number(5) as i32
+    }
+
     /// The frequency given at its making, in Hz.
     pub fn frequency(&self) -> u64 {
         let b = &self.record[9..17];
@@ -118,7 +148,32 @@ impl Driver {
 
     /// The rate last set in full, in samples per second.
     pub fn rate(&self) -> u32 {
-        let b = &self.record[17..21];
+        self.number(17)
+    }
+
+    fn number(&self, at: usize) -> u32 {
+        let b = &self.record[at..at + 4];
         u32::from_le_bytes([b[0], b[1], b[2], b[3]])
+    }
+}
+
+impl TryFrom<&[u8]> for Driver {
+    type Error = Error;
+
+    fn try_from(bytes: &[u8]) -> Result<Driver, Error> {
+        Driver::from_bytes(bytes)
+    }
+}
+
+/// The record's fields.
+impl fmt::Debug for Driver {
+    fn fmt(&self, f: &mut fmt::Formatter<'_>) -> fmt::Result {
+        f.debug_struct("Driver")
+            .field("board", &self.board())
+            .field("nominal", &self.nominal())
+            .field("ppm", &self.ppm())
+            .field("frequency", &self.frequency())
+            .field("rate", &self.rate())
+            .finish()
     }
 }

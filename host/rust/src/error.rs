@@ -1,4 +1,4 @@
-use std::fmt;
+use core::fmt;
 
 /// Why a call was refused: document 01's numbers and words.
 ///
@@ -12,7 +12,7 @@ pub enum Error {
     Frequency,
     /// 3: rate 0.
     Rate,
-    /// 4: a corrected reference out of 1..=4,294,967,295.
+    /// 4: a corrected reference out of 1..=4,294,967,295, or a demodulator's reference of 0.
     Correction,
     /// 5: a register out of 0x05..=0x1f.
     Register,
@@ -93,14 +93,43 @@ impl Error {
     }
 }
 
-impl fmt::Display for Error {
-    fn fmt(&self, f: &mut fmt::Formatter<'_>) -> fmt::Result {
-        write!(f, "refusal {} ({})", self.number(), self.word())?;
+impl Error {
+    /// What is wrong, and what to do.
+    fn advice(self) -> &'static str {
         match self {
-            Error::Step { index } => write!(f, " at entry {index}"),
-            _ => Ok(()),
+            Error::Setup => "a reference of 0, or bytes that are no record: give a reference from 1 Hz, or a record's own bytes",
+            Error::Frequency => {
+                "0 Hz, or one that the PLL cannot make: ask for one whose sum with the IF is from 27656250 to 1799999999 Hz (less where the reference is low)"
+            }
+            Error::Rate => "the rate is 0: give one from 1",
+            Error::Correction => "the corrected reference is not from 1 to 4294967295 Hz: give another correction, and no reference of 0",
+            Error::Register => "there is no such register: give one from 0x05 to 0x1f",
+            Error::Pin => "there is no such GPIO: give one from 0 to 7",
+            Error::Coefficient => "an FIR value is past its width: give -128 to 127 for the first eight, -2048 to 2047 for the others",
+            Error::Room => "the library asked for more room than this crate lends: build both from one tree",
+            Error::Outcomes => {
+                "the script has too few outcomes: take Script::all_done, which has enough for every call, and an index below its length"
+            }
+            Error::Replies => {
+                "the script has too few replies: take Script::all_done, which has enough for every call, and an index below its length"
+            }
+            Error::Step { .. } => {
+                "a step failed, and the steps before it stand: see the transcript, reload a tuner with doubtful registers, and make the call again"
+            }
+            Error::Section => "the bytes do not end in a section: give a whole one, its trailer last",
         }
     }
 }
 
-impl std::error::Error for Error {}
+/// The number, the word and for a step its entry; then what is wrong, and what to do.
+impl fmt::Display for Error {
+    fn fmt(&self, f: &mut fmt::Formatter<'_>) -> fmt::Result {
+        write!(f, "refusal {} ({})", self.number(), self.word())?;
+        if let Error::Step { index } = self {
+            write!(f, " at entry {index}")?;
+        }
+        write!(f, ": {}", self.advice())
+    }
+}
+
+impl core::error::Error for Error {}

@@ -1,7 +1,14 @@
 //! The GPIO calls. They have steps and no record.
 use crate::{Answer, Script, in_room, raw};
 
-/// Makes a GPIO (0..=7) an output: 4 outcomes, 2 replies. Refused: 6, 9, 10, 11.
+/// Makes a GPIO (0..=7) an output: 4 outcomes, 2 replies.
+///
+/// # Errors
+///
+/// - [`Error::Pin`](crate::Error::Pin) (6): `gpio` is above 7.
+/// - [`Error::Outcomes`](crate::Error::Outcomes) (9): fewer than 4 outcomes.
+/// - [`Error::Replies`](crate::Error::Replies) (10): fewer than 2 replies.
+/// - [`Error::Step`](crate::Error::Step) (11): a step failed, and the steps before it stand.
 pub fn set_output(gpio: u8, script: &Script) -> Answer<()> {
     let (o, p) = (script.outcomes(), script.replies());
     // SAFETY: see raw.rs.
@@ -11,7 +18,14 @@ pub fn set_output(gpio: u8, script: &Script) -> Answer<()> {
     Answer::of(reply, transcript, drop)
 }
 
-/// Sets a GPIO's level: 2 outcomes, 1 reply. Refused: 6, 9, 10, 11.
+/// Sets the level of a GPIO (0..=7): 2 outcomes, 1 reply.
+///
+/// # Errors
+///
+/// - [`Error::Pin`](crate::Error::Pin) (6): `gpio` is above 7.
+/// - [`Error::Outcomes`](crate::Error::Outcomes) (9): fewer than 2 outcomes.
+/// - [`Error::Replies`](crate::Error::Replies) (10): no reply.
+/// - [`Error::Step`](crate::Error::Step) (11): a step failed, and the steps before it stand.
 pub fn set_bit(gpio: u8, high: bool, script: &Script) -> Answer<()> {
     let (o, p, value) = (script.outcomes(), script.replies(), high.into());
     // SAFETY: see raw.rs.

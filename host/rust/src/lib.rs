@@ -15,7 +15,7 @@
 //! assert_eq!(tuner.doubtful().count(), 0);
 //!
 //! // The write of register 0x14 fails; the repeater is closed behind it.
-//! let answer = tuner.set_frequency(100_000_000, &Script::all_done().failing(13));
+//! let answer = tuner.set_frequency(100_000_000, &Script::all_done().failing(13)?);
 //! assert_eq!(answer.result, Err(Error::Step { index: 13 }));
 //! assert_eq!(answer.transcript.len(), 15);
 //! assert_eq!(tuner.doubtful().collect::<Vec<_>>(), [0x14]);
@@ -24,8 +24,55 @@
 //! assert_eq!(tuner.doubtful().count(), 0);
 //! # Ok::<(), Error>(())
 //! ```
+//!
+//! # On a receiver
+//!
+//! What step i is depends on the outcomes and replies before it alone. So a receiver is driven in rounds: a call with what is known so far, on a
+//! clone of the record, tells the next step; the host takes it and puts its outcome, and what it read, into the script. When no step is left, the
+//! clone is the next record.
+//!
+//! ```
+//! use pasetone::{Answer, Entry, EntryKind, Error, Script, Tuner, TunerKind};
+//!
+//! /// `take` takes one step: whether it was done, and the bytes of a read.
+//! fn tune(tuner: &mut Tuner, hz: u64, mut take: impl FnMut(&Entry) -> (bool, Vec<u8>)) -> Answer<u64> {
+//!     let (mut outcomes, mut replies) = (vec![0; Script::OUTCOMES], vec![0; Script::REPLIES]);
+//!     let (mut taken, mut read) = (0, 0);
+//!     loop {
+//!         let mut next = tuner.clone();
+//!         let answer = next.set_frequency(hz, &Script::new(outcomes.clone(), replies.clone()));
+//!         let Some(entry) = answer.transcript.get(taken) else {
+//!             *tuner = next;
+//!             return answer;
+//!         };
+//!         let (done, bytes) = take(&entry);
+//!         outcomes[taken] = u8::from(!done);
+//!         if matches!(entry.kind, EntryKind::I2cRead | EntryKind::BlockRead) {
+//!             let wanted = entry.bytes.len();
+//!             replies[read..read + wanted].copy_from_slice(&bytes);
+//!             read += wanted;
+//!         }
+//!         taken += 1;
+//!     }
+//! }
+//!
+//! // A receiver that does every step, with 0x0a in every byte: the first try finds a lock.
+//! let mut tuner = Tuner::new(TunerKind::R828d, 0x74, 28_800_000)?;
+//! let mut steps = Vec::new();
+//! let answer = tune(&mut tuner, 100_000_000, |entry| {
+//!     steps.push(entry.to_string());
+//!     (true, vec![0x0a; entry.bytes.len()])
+//! });
+//! assert_eq!(answer.result, Ok(100_000_000));
+//! assert_eq!(answer.transcript.len(), steps.len());
+//! assert!(tuner.has_lock());
+//! # Ok::<(), Error>(())
+//! ```
 
-#![warn(missing_docs)]
+#![no_std]
+#![deny(missing_docs, clippy::missing_errors_doc, clippy::undocumented_unsafe_blocks)]
+
+extern crate alloc;
 
 pub mod demod;
 mod driver;
@@ -44,7 +91,7 @@ pub use script::Script;
 pub use transcript::{Entries, Entry, EntryKind, Transcript};
 pub use tuner::{InputPath, Tuner, TunerKind};
 
-/// What a call with steps hands back. Its record is updated already.
+/// What a call with steps hands back. Its record is updated already, also where `result` is an error and steps were taken.
 #[derive(Clone, Debug, PartialEq)]
 #[must_use = "a call may be refused"]
 pub struct Answer<T> {
@@ -62,7 +109,7 @@ impl<T> Answer<T> {
 
 /// A call with at most this many entries, over room of its own.
 fn in_room(entries: usize, call: impl FnOnce(&mut [u8]) -> raw::Reply) -> (raw::Reply, Transcript) {
-    let mut room = vec![0; transcript::room_for(entries)];
+    let mut room = alloc::vec![0; transcript::room_for(entries)];
     let reply = call(&mut room);
     (reply, Transcript::of_room(room, reply.count))
 }

@@ -31,6 +31,7 @@ pub struct Section {
 /// A call that takes outcomes and room alone.
 pub type Plain = unsafe extern "C" fn(Bytes, usize, BytesMut, usize) -> Reply;
 
+// SAFETY: these are the declarations of pasetone.h; host/c/signatures holds both texts against crate pasetone, which the archive is made of.
 unsafe extern "C" {
     pub fn pasetone_version() -> u32;
     pub fn pasetone_tuner_new(kind: u64, address: u8, nominal: u64, next: BytesMut, n: usize) -> Reply;

@@ -1,3 +1,7 @@
+use crate::Error;
+use alloc::vec;
+use alloc::vec::Vec;
+
 /// How the steps of a call are to end, and what its reads are to give.
 ///
 /// A script must be as long as its call's longest run needs, also where a run is shorter: at most [`Script::OUTCOMES`] outcomes and
@@ -24,20 +28,36 @@ impl Script {
         Script { outcomes: outcomes.into(), replies: replies.into() }
     }
 
-    /// The same, with the step of entry `index` failing. An index past the outcomes changes nothing.
-    pub fn failing(mut self, index: usize) -> Script {
-        if let Some(outcome) = self.outcomes.get_mut(index) {
-            *outcome = 1;
-        }
-        self
+    /// The same, with the step of entry `index` failing.
+    ///
+    /// An index that the script has no outcome for is an error: left alone, a caller would take a step for failed that no call is told to fail, and
+    /// a script made longer for it would pass where a short one is refused. A call may still end before the entry: then its transcript has no entry
+    /// `index`, and its result is not [`Error::Step`].
+    ///
+    /// ```
+    /// use pasetone::{Error, Script};
+    ///
+    /// assert_eq!(Script::all_done().failing(2)?.outcomes()[..4], [0, 0, 1, 0]);
+    /// assert_eq!(Script::all_done().failing(999), Err(Error::Outcomes));
+    /// # Ok::<(), Error>(())
+    /// ```
+    ///
+    /// # Errors
+    ///
+    /// - [`Error::Outcomes`] (9): the script has no outcome `index`.
+    pub fn failing(mut self, index: usize) -> Result<Script, Error> {
+        *self.outcomes.get_mut(index).ok_or(Error::Outcomes)? = 1;
+        Ok(self)
     }
 
-    /// The same, with `byte` as reply `index`. An index past the replies changes nothing.
-    pub fn replying(mut self, index: usize, byte: u8) -> Script {
-        if let Some(reply) = self.replies.get_mut(index) {
-            *reply = byte;
-        }
-        self
+    /// The same, with `byte` as reply `index`. An index that the script has no reply for is an error, as in [`Script::failing`].
+    ///
+    /// # Errors
+    ///
+    /// - [`Error::Replies`] (10): the script has no reply `index`.
+    pub fn replying(mut self, index: usize, byte: u8) -> Result<Script, Error> {
+        *self.replies.get_mut(index).ok_or(Error::Replies)? = byte;
+        Ok(self)
     }
 
     /// The outcomes.

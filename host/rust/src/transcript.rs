@@ -1,4 +1,7 @@
 use crate::{Error, raw};
+use alloc::string::String;
+use alloc::vec::Vec;
+use core::fmt::{self, Write};
 
 const ENTRY: usize = 16;
 const TRAILER: usize = 8;
@@ -68,14 +71,81 @@ pub struct Entry<'a> {
     pub bytes: &'a [u8],
 }
 
+impl Entry<'_> {
+    /// What the step does, in words.
+    fn what(&self) -> Result<String, fmt::Error> {
+        let mut line = String::new();
+        let (target, address) = (self.target, self.address);
+        let first = self.bytes.first().copied().unwrap_or(0);
+        let mut shown = self.bytes;
+        match self.kind {
+            EntryKind::Repeater => line += if first == 0 { "repeater closes" } else { "repeater opens" },
+            EntryKind::I2cWrite => write!(line, "I2C write 0x{target:02x}: 0x{first:02x}")?,
+            EntryKind::I2cRead => write!(line, "I2C read  0x{target:02x}: {} bytes", self.bytes.len())?,
+            EntryKind::DemodWrite8 | EntryKind::DemodWrite16 => write!(line, "demod write, page {target}: 0x{address:04x}")?,
+            EntryKind::BlockWrite8 | EntryKind::BlockWrite16 => write!(line, "block write, block {target}: 0x{address:04x}")?,
+            EntryKind::BlockRead => write!(line, "block read, block {target}: 0x{address:04x}")?,
+            EntryKind::Wait => write!(line, "wait {address} ms")?,
+        }
+        // The first byte of a write to the chip is the register; a write of it alone says where a read starts. A failed read has nothing to show.
+        match self.kind {
+            EntryKind::Repeater | EntryKind::Wait => return Ok(line),
+            EntryKind::I2cWrite if shown.len() < 2 => {
+                line += " (read from there)";
+                return Ok(line);
+            }
+            EntryKind::I2cWrite => shown = &shown[1..],
+            EntryKind::I2cRead | EntryKind::BlockRead if self.failed => return Ok(line),
+            _ => {}
+        }
+        line += if matches!(self.kind, EntryKind::I2cRead | EntryKind::BlockRead) { " ->" } else { " <-" };
+        for byte in shown {
+            write!(line, " {byte:02x}")?;
+        }
+        Ok(line)
+    }
+}
+
+/// The step in words, and how it ended from column 51 on: what `pasetone show` prints of it.
+///
+/// ```
+/// use pasetone::{Script, Tuner, TunerKind};
+///
+/// let mut tuner = Tuner::new(TunerKind::R828d, 0x74, 28_800_000)?;
+/// let answer = tuner.set_bandwidth(2_048_000, &Script::all_done().failing(1)?);
+/// let lines: Vec<String> = answer.transcript.iter().map(|entry| entry.to_string()).collect();
+/// assert_eq!(lines[0], "repeater opens                                     done");
+/// assert_eq!(lines[1], "I2C write 0x74: 0x0a <- d8                         FAILED");
+/// # Ok::<(), pasetone::Error>(())
+/// ```
+impl fmt::Display for Entry<'_> {
+    fn fmt(&self, f: &mut fmt::Formatter<'_>) -> fmt::Result {
+        write!(f, "{:<50} {}", self.what()?, if self.failed { "FAILED" } else { "done" })
+    }
+}
+
 /// The steps that a call took: a section, checked by the library's own reader. Where no step was taken there is none, and it has no bytes.
-#[derive(Clone, Debug, Default, PartialEq, Eq)]
+#[derive(Clone, Default, PartialEq, Eq)]
 pub struct Transcript {
     section: Vec<u8>,
 }
 
+/// The entries in words.
+impl fmt::Debug for Transcript {
+    fn fmt(&self, f: &mut fmt::Formatter<'_>) -> fmt::Result {
+        struct Words<'a>(Entry<'a>);
+        impl fmt::Debug for Words<'_> {
+            fn fmt(&self, f: &mut fmt::Formatter<'_>) -> fmt::Result {
+                write!(f, "{}{}", self.0.what()?, if self.0.failed { " FAILED" } else { "" })
+            }
+        }
+        f.write_str("Transcript ")?;
+        f.debug_list().entries(self.iter().map(Words)).finish()
+    }
+}
+
 impl Transcript {
-    /// The section in which `bytes` end, and what stands before it; [`Error::Section`] where they end in none.
+    /// The section in which `bytes` end, and what stands before it.
     ///
     /// ```
     /// let (before, transcript) = pasetone::Transcript::read(&[7, 0, 0, 0, 0, 0, 0, 0, 0]).unwrap();
@@ -83,6 +153,10 @@ impl Transcript {
     /// assert_eq!(transcript.len(), 0);
     /// assert_eq!(pasetone::Transcript::read(&[7]).unwrap_err().number(), 12);
     /// ```
+    ///
+    /// # Errors
+    ///
+    /// - [`Error::Section`] (12): the bytes end in no section.
     pub fn read(bytes: &[u8]) -> Result<(&[u8], Transcript), Error> {
         // SAFETY: see raw.rs; the slice is only read.
         let section = unsafe { raw::pasetone_read_section(bytes.as_ptr(), bytes.len()) };
@@ -102,7 +176,7 @@ impl Transcript {
         Transcript { section: room }
     }
 
-    /// The section's bytes, its trailer included: what [`Transcript::read`] takes.
+    /// The section's bytes, its trailer included: what [`Transcript::read`] takes. Where no step was taken there are none.
     pub fn bytes(&self) -> &[u8] {
         &self.section
     }
@@ -140,7 +214,7 @@ impl<'a> IntoIterator for &'a Transcript {
 /// The entries of a [`Transcript`] in order.
 #[derive(Clone, Debug)]
 pub struct Entries<'a> {
-    rest: std::slice::ChunksExact<'a, u8>,
+    rest: core::slice::ChunksExact<'a, u8>,
 }
 
 impl<'a> Iterator for Entries<'a> {

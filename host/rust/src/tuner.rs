@@ -1,5 +1,6 @@
 use crate::raw::{self, Reply};
 use crate::{Answer, Error, Script, in_room};
+use core::fmt;
 
 /// The tuner's chip.
 #[derive(Clone, Copy, Debug, PartialEq, Eq, Hash)]
@@ -32,7 +33,7 @@ const FIRST: u8 = 0x05;
 const REGISTERS: usize = 27;
 
 /// What is known of a tuner: its record. Every call with steps takes a [`Script`], and updates the record whenever it took steps.
-#[derive(Clone, Debug, PartialEq, Eq, Hash)]
+#[derive(Clone, PartialEq, Eq, Hash)]
 pub struct Tuner {
     record: [u8; Tuner::SIZE],
 }
@@ -41,8 +42,12 @@ impl Tuner {
     /// The record's bytes.
     pub const SIZE: usize = 105;
 
-    /// A tuner as it is before [`Tuner::initialize`]: every register is doubtful. `address` is the chip's on I2C, `nominal` its reference in
-    /// Hz. Refused: [`Error::Setup`] for a reference of 0.
+    /// A tuner as it is before [`Tuner::initialize`]: every register is doubtful. `address` is the chip's on I2C, any byte (an R820T has 0x34, an
+    /// R828D 0x74), `nominal` its reference in Hz.
+    ///
+    /// # Errors
+    ///
+    /// - [`Error::Setup`] (1): `nominal` is 0.
     pub fn new(kind: TunerKind, address: u8, nominal: u32) -> Result<Tuner, Error> {
         let mut record = [0; Tuner::SIZE];
         // SAFETY: see raw.rs.
@@ -50,7 +55,11 @@ impl Tuner {
         made.result().map(|_| Tuner { record })
     }
 
-    /// A tuner of its record's bytes. Refused: [`Error::Setup`] for bytes that are no record.
+    /// A tuner of its record's bytes. [`TryFrom`] does the same.
+    ///
+    /// # Errors
+    ///
+    /// - [`Error::Setup`] (1): the bytes are no record.
     pub fn from_bytes(bytes: &[u8]) -> Result<Tuner, Error> {
         // SAFETY: see raw.rs. The library judges the record: any call that takes one would do.
         let read = unsafe { raw::pasetone_get_if_freq(bytes.as_ptr(), bytes.len()) };
@@ -73,19 +82,32 @@ impl Tuner {
         Answer::of(reply, transcript, |value| value)
     }
 
-    /// Sends the chip's initial bytes and sets it up: 19 outcomes. Refused: 9, 11.
+    /// Sends the chip's initial bytes past the shadow, then sets it up by way of it: 19 outcomes. IF, gain, lock and notch stay.
+    ///
+    /// # Errors
+    ///
+    /// - [`Error::Outcomes`] (9): fewer than 19 outcomes.
+    /// - [`Error::Step`] (11): a step failed, and the steps before it stand.
     pub fn initialize(&mut self, script: &Script) -> Answer<()> {
         let o = script.outcomes();
-        // SAFETY: see raw.rs; here and in all calls below.
+        // SAFETY: see raw.rs.
         unit(self.operate(19, |t, room, next| unsafe {
             raw::pasetone_initialize(t.as_ptr(), t.len(), o.as_ptr(), o.len(), room.as_mut_ptr(), room.len(), next.as_mut_ptr(), next.len())
         }))
     }
 
-    /// Tunes to `hz`: 53 outcomes, 35 replies. The value is the Hz asked; whether the PLL locked is told by [`Tuner::has_lock`]. Refused: 2 (in
-    /// the PLL with the mux's steps taken), 9, 10, 11.
+    /// Tunes to `hz`: 53 outcomes, 35 replies. The value is the Hz asked. That the PLL did not lock is no refusal: [`Tuner::has_lock`] tells it.
+    ///
+    /// # Errors
+    ///
+    /// - [`Error::Frequency`] (2): `hz` is 0, or its sum with the IF is over 64 bits, and nothing has changed; or the PLL has no divider or N for it,
+    ///   when the steps of the mux (13 entries) are taken and stand.
+    /// - [`Error::Outcomes`] (9): fewer than 53 outcomes.
+    /// - [`Error::Replies`] (10): fewer than 35 replies.
+    /// - [`Error::Step`] (11): a step failed, and the steps before it stand.
     pub fn set_frequency(&mut self, hz: u64, script: &Script) -> Answer<u64> {
         let (o, p) = (script.outcomes(), script.replies());
+        // SAFETY: see raw.rs.
         self.operate(53, |t, room, next| unsafe {
             #[rustfmt::skip]
             let reply = raw::pasetone_set_frequency(t.as_ptr(), t.len(), hz, o.as_ptr(), o.len(), p.as_ptr(), p.len(),
@@ -94,9 +116,18 @@ impl Tuner {
         })
     }
 
-    /// The gain step nearest to `db`: 7 outcomes. The value is the gain set. Refused: 9, 11.
+    /// The gain step for `db`: 7 outcomes. The value is the gain set.
+    ///
+    /// First db · 10 is cut toward zero to whole tenths (a NaN is 0), then the step nearest to these is taken, the lower one on a tie. So 0.46 is
+    /// 4 tenths and gives 0.0, not 0.9; 3.25 is 32 tenths and gives 2.7, not 3.7. [`Tuner::gain_table`] has the steps.
+    ///
+    /// # Errors
+    ///
+    /// - [`Error::Outcomes`] (9): fewer than 7 outcomes.
+    /// - [`Error::Step`] (11): a step failed, and the steps before it stand.
     pub fn set_gain(&mut self, db: f32, script: &Script) -> Answer<f32> {
         let o = script.outcomes();
+        // SAFETY: see raw.rs.
         decibels(self.operate(7, |t, room, next| unsafe {
             raw::pasetone_set_gain(
                 t.as_ptr(),
@@ -112,9 +143,15 @@ impl Tuner {
         }))
     }
 
-    /// The gain step of an index, at most 28: 7 outcomes. The value is the gain set. Refused: 9, 11.
+    /// The gain step of an index; above 28 it is 28: 7 outcomes. The value is the gain set.
+    ///
+    /// # Errors
+    ///
+    /// - [`Error::Outcomes`] (9): fewer than 7 outcomes.
+    /// - [`Error::Step`] (11): a step failed, and the steps before it stand.
     pub fn set_gain_by_index(&mut self, index: usize, script: &Script) -> Answer<f32> {
         let (o, k) = (script.outcomes(), index as u64);
+        // SAFETY: see raw.rs.
         decibels(self.operate(7, |t, room, next| unsafe {
             #[rustfmt::skip]
             let reply = raw::pasetone_set_gain_by_index(t.as_ptr(), t.len(), k, o.as_ptr(), o.len(),
@@ -123,9 +160,15 @@ impl Tuner {
         }))
     }
 
-    /// The IF filter: 3 outcomes. Refused: 9, 11.
+    /// The IF filter: to 6 MHz, to 7 MHz, above: 3 outcomes. The record keeps no bandwidth.
+    ///
+    /// # Errors
+    ///
+    /// - [`Error::Outcomes`] (9): fewer than 3 outcomes.
+    /// - [`Error::Step`] (11): a step failed, and the steps before it stand.
     pub fn set_bandwidth(&mut self, hz: u32, script: &Script) -> Answer<()> {
         let o = script.outcomes();
+        // SAFETY: see raw.rs.
         unit(self.operate(3, |t, room, next| unsafe {
             #[rustfmt::skip]
             let reply = raw::pasetone_set_bandwidth(t.as_ptr(), t.len(), hz, o.as_ptr(), o.len(),
@@ -134,9 +177,15 @@ impl Tuner {
         }))
     }
 
-    /// The IF that tunings go by, changed also where a step fails: 4 outcomes. Refused: 9, 11.
+    /// The IF that tunings go by: 4 outcomes.
+    ///
+    /// # Errors
+    ///
+    /// - [`Error::Outcomes`] (9): fewer than 4 outcomes.
+    /// - [`Error::Step`] (11): a step failed. The IF has changed all the same, and the steps before it stand.
     pub fn set_if_freq(&mut self, hz: u64, script: &Script) -> Answer<()> {
         let o = script.outcomes();
+        // SAFETY: see raw.rs.
         unit(self.operate(4, |t, room, next| unsafe {
             #[rustfmt::skip]
             let reply = raw::pasetone_set_if_freq(t.as_ptr(), t.len(), hz, o.as_ptr(), o.len(),
@@ -145,9 +194,15 @@ impl Tuner {
         }))
     }
 
-    /// The chip's input: 4 outcomes on an R828D; an R820T takes no step and looks at no script. Refused: 9, 11.
+    /// The chip's input: 4 outcomes on an R828D. An R820T has one input: it takes no step, looks at no script and is not refused.
+    ///
+    /// # Errors
+    ///
+    /// - [`Error::Outcomes`] (9): fewer than 4 outcomes.
+    /// - [`Error::Step`] (11): a step failed, and the steps before it stand.
     pub fn set_input_path(&mut self, path: InputPath, script: &Script) -> Answer<()> {
         let o = script.outcomes();
+        // SAFETY: see raw.rs.
         unit(self.operate(4, |t, room, next| unsafe {
             #[rustfmt::skip]
             let reply = raw::pasetone_set_input_path(t.as_ptr(), t.len(), path as u8, o.as_ptr(), o.len(),
@@ -156,9 +211,16 @@ impl Tuner {
         }))
     }
 
-    /// The board's input: GPIO 5, then the chip's: 10 outcomes, 3 replies. Refused: 9, 10, 11.
+    /// The board's input: GPIO 5, then the chip's: 10 outcomes, 3 replies, also on an R820T, which makes six entries.
+    ///
+    /// # Errors
+    ///
+    /// - [`Error::Outcomes`] (9): fewer than 10 outcomes.
+    /// - [`Error::Replies`] (10): fewer than 3 replies.
+    /// - [`Error::Step`] (11): a step failed, and the steps before it stand.
     pub fn apply_input_path(&mut self, path: InputPath, script: &Script) -> Answer<()> {
         let (o, p) = (script.outcomes(), script.replies());
+        // SAFETY: see raw.rs.
         unit(self.operate(10, |t, room, next| unsafe {
             #[rustfmt::skip]
             let reply = raw::pasetone_apply_input_path(t.as_ptr(), t.len(), path as u8, o.as_ptr(), o.len(), p.as_ptr(), p.len(),
@@ -167,15 +229,26 @@ impl Tuner {
         }))
     }
 
-    /// Sends every register's attempted byte again, after which none is doubtful: 9 outcomes. Refused: 9, 11.
+    /// Sends every register's attempted byte again: 9 outcomes. All done, none is doubtful and the shadow is what the chip holds: the way back after
+    /// [`Error::Step`].
+    ///
+    /// # Errors
+    ///
+    /// - [`Error::Outcomes`] (9): fewer than 9 outcomes.
+    /// - [`Error::Step`] (11): a step failed. The shadow stays, and the steps before it stand.
     pub fn reload(&mut self, script: &Script) -> Answer<()> {
         let o = script.outcomes();
+        // SAFETY: see raw.rs.
         unit(self.operate(9, |t, room, next| unsafe {
             raw::pasetone_reload(t.as_ptr(), t.len(), o.as_ptr(), o.len(), room.as_mut_ptr(), room.len(), next.as_mut_ptr(), next.len())
         }))
     }
 
-    /// The bits of `mask` in a register's shadow byte; nothing is sent. The value is the new byte. Refused: 5.
+    /// The bits of `mask` in a register's shadow byte; nothing is sent. The value is the new byte.
+    ///
+    /// # Errors
+    ///
+    /// - [`Error::Register`] (5): `register` is out of 0x05..=0x1f.
     pub fn update_shadow(&mut self, register: u8, value: u8, mask: u8) -> Result<u8, Error> {
         let mut next = self.record;
         let (t, n) = (&self.record, &mut next);
@@ -186,7 +259,11 @@ impl Tuner {
         Ok(byte)
     }
 
-    /// The tuner's corrected reference. Refused: 4.
+    /// The tuner's corrected reference: nominal + nominal · ppm / 1,000,000, the quotient cut toward zero. A [`Driver`](crate::Driver) keeps its own.
+    ///
+    /// # Errors
+    ///
+    /// - [`Error::Correction`] (4): the corrected reference is out of 1..=4,294,967,295; nothing has changed.
     pub fn set_ppm(&mut self, ppm: i32) -> Result<(), Error> {
         // SAFETY: see raw.rs. The record is changed where it lies.
         let reply = unsafe { raw::pasetone_set_ppm(self.record.as_mut_ptr(), self.record.len(), ppm) };
@@ -217,7 +294,7 @@ impl Tuner {
         let t = &self.record;
         // SAFETY: see raw.rs. The record is one and the slice long enough, so this is not refused.
         unsafe { raw::pasetone_get_gain_table(t.as_ptr(), t.len(), bytes.as_mut_ptr(), bytes.len()) };
-        std::array::from_fn(|i| i32::from_le_bytes([bytes[4 * i], bytes[4 * i + 1], bytes[4 * i + 2], bytes[4 * i + 3]]))
+        core::array::from_fn(|i| i32::from_le_bytes([bytes[4 * i], bytes[4 * i + 1], bytes[4 * i + 2], bytes[4 * i + 3]]))
     }
 
     /// The chip.
@@ -279,6 +356,51 @@ impl Tuner {
     /// For the driver's call, which takes both records.
     pub(crate) fn replace(&mut self, record: [u8; Tuner::SIZE]) {
         self.record = record;
+    }
+}
+
+impl TryFrom<&[u8]> for Tuner {
+    type Error = Error;
+
+    fn try_from(bytes: &[u8]) -> Result<Tuner, Error> {
+        Tuner::from_bytes(bytes)
+    }
+}
+
+/// The record's fields, the bytes of registers 0x05 to 0x1f in hexadecimal.
+impl fmt::Debug for Tuner {
+    fn fmt(&self, f: &mut fmt::Formatter<'_>) -> fmt::Result {
+        struct Bytes<'a>(&'a [u8]);
+        impl fmt::Debug for Bytes<'_> {
+            fn fmt(&self, f: &mut fmt::Formatter<'_>) -> fmt::Result {
+                self.0.iter().enumerate().try_for_each(|(i, byte)| write!(f, "{}{byte:02x}", if i == 0 { "" } else { " " }))
+            }
+        }
+        struct Registers<'a>(&'a Tuner);
+        impl fmt::Debug for Registers<'_> {
+            fn fmt(&self, f: &mut fmt::Formatter<'_>) -> fmt::Result {
+                f.debug_list().entries(self.0.doubtful().map(Register)).finish()
+            }
+        }
+        struct Register(u8);
+        impl fmt::Debug for Register {
+            fn fmt(&self, f: &mut fmt::Formatter<'_>) -> fmt::Result {
+                write!(f, "{:#04x}", self.0)
+            }
+        }
+        f.debug_struct("Tuner")
+            .field("kind", &self.kind())
+            .field("address", &Register(self.address()))
+            .field("nominal", &self.nominal())
+            .field("corrected", &self.corrected())
+            .field("lock", &self.has_lock())
+            .field("gain", &self.gain())
+            .field("if_freq", &self.if_freq())
+            .field("notch", &self.notch())
+            .field("shadow", &Bytes(&self.record[SHADOW..SHADOW + REGISTERS]))
+            .field("attempted", &Bytes(&self.record[ATTEMPTED..ATTEMPTED + REGISTERS]))
+            .field("doubtful", &Registers(self))
+            .finish()
     }
 }
 

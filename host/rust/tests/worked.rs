@@ -23,7 +23,7 @@ fn fresh_tuner() {
     assert_eq!((tuner.has_lock(), tuner.gain(), tuner.if_freq(), tuner.notch()), (false, 0.0, 2_300_000, false));
     assert_eq!(tuner.doubtful().collect::<Vec<_>>(), (0x05..=0x1f).collect::<Vec<_>>());
     assert_eq!((tuner.shadow(0x05), tuner.attempted(0x1f), tuner.shadow(0x04), tuner.shadow(0x20)), (Some(0x83), Some(0xc0), None, None));
-    assert_eq!(Tuner::new(TunerKind::R820t, 0x1a, 0), Err(Error::Setup));
+    assert_eq!(Tuner::new(TunerKind::R820t, 0x34, 0), Err(Error::Setup));
 }
 
 #[test]
@@ -75,7 +75,7 @@ fn tuning() {
     assert_eq!((wait.kind, wait.address, wait.bytes), (EntryKind::Wait, 2, &[][..]));
     assert!(answer.transcript.get(53).is_none());
     assert!(!tuner.has_lock());
-    let locked = tuner.set_frequency(100_000_000, &done().replying(4, 0x08).replying(7, 0x02));
+    let locked = tuner.set_frequency(100_000_000, &done().replying(4, 0x08).unwrap().replying(7, 0x02).unwrap());
     assert_eq!(locked.result, Ok(100_000_000));
     assert!(tuner.has_lock());
 }
@@ -86,7 +86,7 @@ fn refused_by_a_step() {
     let mut tuner = r828d();
     tuner.initialize(&done()).result.unwrap();
     assert_eq!(tuner.doubtful().count(), 0);
-    let answer = tuner.set_gain(29.7, &done().failing(3));
+    let answer = tuner.set_gain(29.7, &done().failing(3).unwrap());
     assert_eq!(answer.result, Err(Error::Step { index: 3 }));
     assert_eq!(answer.transcript.len(), 5);
     assert!(answer.transcript.get(3).unwrap().failed);
@@ -129,6 +129,9 @@ fn gain() {
     let mut tuner = r828d();
     assert_eq!(tuner.set_gain(3.2, &done()).result, Ok(2.7));
     assert_eq!(tuner.gain(), 2.7);
+    // Whole tenths first: 0.46 is 4, nearer to 0 than to 9; 3.25 is 32, in the middle of 27 and 37.
+    assert_eq!(tuner.set_gain(0.46, &done()).result, Ok(0.0));
+    assert_eq!(tuner.set_gain(3.25, &done()).result, Ok(2.7));
     assert_eq!(tuner.set_gain(f32::NAN, &done()).result, Ok(0.0));
     assert_eq!(tuner.set_gain(-214_748_352.0, &done()).result, Ok(0.0));
     assert_eq!(tuner.set_gain_by_index(usize::MAX, &done()).result, Ok(49.6));
@@ -148,7 +151,7 @@ fn other_calls_of_the_tuner() {
     assert!(tuner.notch());
     tuner.set_ppm(-1).unwrap();
     assert_eq!(tuner.corrected(), 28_799_972);
-    let mut small = Tuner::new(TunerKind::R820t, 0x1a, 16_000_000).unwrap();
+    let mut small = Tuner::new(TunerKind::R820t, 0x34, 16_000_000).unwrap();
     let answer = small.set_input_path(InputPath::Hf, &Script::new([], []));
     assert_eq!((answer.result, answer.transcript), (Ok(()), Transcript::default()));
     assert_eq!(small.apply_input_path(InputPath::Hf, &done()).transcript.len(), 6);
@@ -160,7 +163,7 @@ fn driver() {
     let mut driver = Driver::new(Board::V4, 28_800_000, 0, 102_300_000, 2_048_000).unwrap();
     assert_eq!(driver.set_sample_rate(&mut tuner, 3_200_000, &done()).transcript.len(), 17);
     assert_eq!((tuner.if_freq(), driver.rate()), (3_570_000, 3_200_000));
-    let answer = driver.set_sample_rate(&mut tuner, 2_048_000, &done().failing(0));
+    let answer = driver.set_sample_rate(&mut tuner, 2_048_000, &done().failing(0).unwrap());
     assert_eq!(answer.result, Err(Error::Step { index: 0 }));
     assert_eq!((tuner.if_freq(), driver.rate()), (2_300_000, 3_200_000));
     assert_eq!(driver.set_sample_rate(&mut tuner, 0, &done()).result, Err(Error::Rate));
@@ -222,8 +225,8 @@ fn register_values_and_fir() {
 
 #[test]
 fn errors_have_numbers_and_words() {
-    assert_eq!(Error::Step { index: 7 }.to_string(), "refusal 11 (step) at entry 7");
-    assert_eq!(Error::Coefficient.to_string(), "refusal 7 (coefficient)");
+    assert_eq!((Error::Step { index: 7 }.number(), Error::Step { index: 7 }.word()), (11, "step"));
+    assert_eq!((Error::Coefficient.number(), Error::Coefficient.word()), (7, "coefficient"));
     assert_eq!(Transcript::read(&[]).map(|_| ()).unwrap_err().number(), 12);
     assert_eq!(pasetone::version(), (1, 0, 0));
 }

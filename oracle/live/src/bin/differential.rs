@@ -13,9 +13,8 @@ use live::draw::{self, Receiver};
 use live::given::Given;
 use live::port::Found;
 use live::sabotage::{SPOILS, spoiled};
-use live::{document, ffi, port, raw, rules};
+use live::{document, ffi, numbers, port, raw, rules};
 use std::collections::BTreeMap;
-use std::time::{SystemTime, UNIX_EPOCH};
 
 /// The version that the boundary is written against: 1.0.0.
 const VERSION: u32 = 0x0001_0000;
@@ -110,7 +109,6 @@ fn main() {
     if words.first().is_some_and(|word| word == "self-test") {
         self_test()
     }
-    let number = |at: usize| words.get(at).map(|word| word.parse::<u64>().expect("a number"));
-    let clock = || SystemTime::now().duration_since(UNIX_EPOCH).map_or(1, |since| since.as_nanos() as u64);
-    run(number(0).unwrap_or(1_000_000), number(1).unwrap_or_else(clock))
+    let (cases, seed) = numbers(&words, 1_000_000, "differential [CASES [SEED]] | differential self-test");
+    run(cases, seed)
 }

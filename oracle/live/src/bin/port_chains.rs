@@ -4,7 +4,6 @@ use harness::dice::Dice;
 use harness::tally::Tally;
 use live::chain::{Done, chain};
 use live::sabotage::{ALL, Wrong};
-use std::time::{SystemTime, UNIX_EPOCH};
 
 fn run(chains: u64, seed: u64, wrong: Wrong, tally: &mut Tally) -> Done {
     let (mut dice, mut done) = (Dice(seed), Done::default());
@@ -31,9 +30,7 @@ fn main() {
     if words.first().is_some_and(|word| word == "self-test") {
         self_test()
     }
-    let number = |at: usize| words.get(at).map(|word| word.parse::<u64>().expect("a number"));
-    let clock = || SystemTime::now().duration_since(UNIX_EPOCH).map_or(1, |since| since.as_nanos() as u64);
-    let (chains, seed) = (number(0).unwrap_or(3_000), number(1).unwrap_or_else(clock));
+    let (chains, seed) = live::numbers(&words, 3_000, "port_chains [CHAINS [SEED]] | port_chains self-test");
     let mut tally = Tally::default();
     let done = run(chains, seed, Wrong::Nothing, &mut tally);
     let Done { calls, entries, cut, reloads } = done;

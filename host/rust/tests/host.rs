@@ -1,0 +1,217 @@
+//! What this crate adds to the archive: texts, scripts, records as values. On good, bad and empty input.
+use pasetone::{Board, Driver, Entry, EntryKind, Error, InputPath, Script, Transcript, Tuner, TunerKind, gpio};
+
+fn r828d() -> Tuner {
+    Tuner::new(TunerKind::R828d, 0x74, 28_800_000).unwrap()
+}
+
+fn done() -> Script {
+    Script::all_done()
+}
+
+#[test]
+fn script_with_a_failing_step() {
+    let script = done().failing(52).unwrap();
+    assert_eq!((script.outcomes()[51], script.outcomes()[52], script.outcomes().len()), (0, 1, Script::OUTCOMES));
+    assert_eq!(done().failing(53), Err(Error::Outcomes));
+    assert_eq!(done().failing(usize::MAX), Err(Error::Outcomes));
+    assert_eq!(Script::new([], []).failing(0), Err(Error::Outcomes));
+    assert_eq!(Script::new([0; 9], []).failing(8).unwrap().outcomes(), [0, 0, 0, 0, 0, 0, 0, 0, 1]);
+    // An entry that the script has and the call does not reach: the transcript tells it.
+    let answer = r828d().set_bandwidth(2_048_000, &done().failing(3).unwrap());
+    assert_eq!((answer.result, answer.transcript.get(3)), (Ok(()), None));
+}
+
+#[test]
+fn script_with_a_reply() {
+    let script = done().replying(34, 0x5a).unwrap();
+    assert_eq!((script.replies()[34], script.replies().len()), (0x5a, Script::REPLIES));
+    assert_eq!(done().replying(35, 0), Err(Error::Replies));
+    assert_eq!(Script::new([], []).replying(0, 0), Err(Error::Replies));
+    let answer = gpio::set_bit(0, true, &done().replying(0, 0x80).unwrap());
+    assert_eq!(answer.transcript.get(1).unwrap().bytes, [0x81]);
+}
+
+#[test]
+fn errors_say_what_to_do() {
+    let all = [
+        Error::Setup,
+        Error::Frequency,
+        Error::Rate,
+        Error::Correction,
+        Error::Register,
+        Error::Pin,
+        Error::Coefficient,
+        Error::Room,
+        Error::Outcomes,
+        Error::Replies,
+        Error::Step { index: 60 },
+        Error::Section,
+    ];
+    for (number, error) in (1..).zip(all) {
+        assert_eq!(error.number(), number);
+        let text = error.to_string();
+        assert!(text.starts_with(&format!("refusal {number} ({})", error.word())), "{text}");
+        let (_, advice) = text.split_once(": ").unwrap();
+        let (wrong, what_to_do) = advice.split_once(": ").unwrap();
+        assert!(!wrong.is_empty() && !what_to_do.is_empty() && text.lines().count() == 1, "{text}");
+    }
+    assert!(Error::Step { index: 60 }.to_string().starts_with("refusal 11 (step) at entry 60: a step failed"));
+    let boxed: Box<dyn std::error::Error + Send + Sync> = Error::Rate.into();
+    assert_eq!(boxed.to_string(), "refusal 3 (rate): the rate is 0: give one from 1");
+}
+
+#[test]
+fn records_from_slices() {
+    let tuner = r828d();
+    assert_eq!(Tuner::try_from(&tuner.as_bytes()[..]), Ok(tuner.clone()));
+    assert_eq!(Tuner::try_from(&[][..]), Err(Error::Setup));
+    assert_eq!(Tuner::try_from(&[0; Tuner::SIZE][..]), Err(Error::Setup));
+    assert_eq!(Tuner::try_from(&[tuner.as_bytes(), &[0][..]].concat()[..]), Err(Error::Setup));
+    let driver = Driver::new(Board::Generic, 28_800_000, 5, 0, 0).unwrap();
+    assert_eq!(Driver::try_from(&driver.as_bytes()[..]), Ok(driver.clone()));
+    assert_eq!(Driver::try_from(&[][..]), Err(Error::Setup));
+    assert_eq!(Driver::try_from(&driver.as_bytes()[..20]), Err(Error::Setup));
+    // The 1 of document 01's "else 1" is the refusal, and it stands before 4.
+    assert_eq!(Driver::new(Board::Generic, 0, 0, 0, 0), Err(Error::Setup));
+    assert_eq!(Driver::new(Board::Generic, 0, -1_000_000, 0, 0), Err(Error::Setup));
+}
+
+#[test]
+fn driver_tells_its_fields() {
+    let mut driver = Driver::new(Board::V4, 4_294_967_295, -1, 7_100_000, 2_048_000).unwrap();
+    assert_eq!((driver.nominal(), driver.ppm(), driver.frequency(), driver.rate()), (4_294_967_295, -1, 7_100_000, 2_048_000));
+    assert_eq!(driver.set_ppm(1), Err(Error::Correction));
+    assert_eq!(driver.ppm(), -1);
+    driver.set_ppm(-999_999).unwrap();
+    assert_eq!((driver.ppm(), driver.nominal(), driver.corrected_xtal_hz()), (-999_999, 4_294_967_295, 4_295));
+    assert_eq!(format!("{driver:?}"), "Driver { board: V4, nominal: 4294967295, ppm: -999999, frequency: 7100000, rate: 2048000 }");
+}
+
+#[test]
+fn tuner_prints_its_fields() {
+    let mut tuner = r828d();
+    let text = format!("{tuner:?}");
+    let begin = "Tuner { kind: R828d, address: 0x74, nominal: 28800000, corrected: 28800000, lock: false, gain: 0.0, if_freq: 2300000, \
+                 notch: false, shadow: 83 30 75 c0 40 d6 6c f5 ";
+    assert!(text.starts_with(begin), "{text}");
+    assert!(text.contains(", doubtful: [0x05, 0x06, ") && text.ends_with(", 0x1f] }"), "{text}");
+    tuner.initialize(&done()).result.unwrap();
+    assert!(format!("{tuner:?}").ends_with(", doubtful: [] }"));
+    let _ = tuner.set_bandwidth(0, &done().failing(1).unwrap());
+    assert!(format!("{tuner:?}").ends_with(", doubtful: [0x0a] }"));
+    // Records that differ print otherwise, also where a shadow byte is all.
+    let before = format!("{tuner:?}");
+    tuner.update_shadow(0x1f, 0xff, 0xff).unwrap();
+    assert_ne!(format!("{tuner:?}"), before);
+}
+
+/// A run of the command line, step for step: what `Display` gives is what it prints behind a call's name.
+fn as_printed(stored: &str, failing: Option<usize>) {
+    // A step's row has its index in five columns, then two spaces.
+    let is_row = |line: &&str| {
+        line.get(..7).is_some_and(|head| head.starts_with(' ') && head.ends_with("  ") && head.trim().parse::<usize>().is_ok())
+    };
+    let rows: Vec<&str> = stored.lines().filter(is_row).collect();
+    let (mut at, mut stopped) = (0, false);
+    let mut tuner = r828d();
+    let mut driver = Driver::new(Board::V4, 28_800_000, 0, 102_300_000, 2_048_000).unwrap();
+    for call in 0..5 {
+        let mut script = Script::new([0; Script::OUTCOMES], [0x0a; Script::REPLIES]);
+        if let Some(own) = failing.and_then(|step| step.checked_sub(at)).filter(|own| *own < Script::OUTCOMES) {
+            script = script.failing(own).unwrap();
+        }
+        tuner.apply_notch(call == 4);
+        let (failed, transcript) = match call {
+            0 => told(tuner.initialize(&script)),
+            1 => told(driver.set_sample_rate(&mut tuner, 2_048_000, &script)),
+            2 => told(tuner.set_gain(29.7, &script)),
+            3 => told(tuner.apply_input_path(InputPath::Vhf, &script)),
+            _ => told(tuner.set_frequency(102_300_000, &script)),
+        };
+        for entry in &transcript {
+            assert_eq!(&rows[at][21..], entry.to_string());
+            at += 1;
+        }
+        stopped = failed;
+        if failed {
+            break;
+        }
+    }
+    assert_eq!((at, stopped), (rows.len(), failing.is_some()));
+}
+
+fn told<T>(answer: pasetone::Answer<T>) -> (bool, Transcript) {
+    (answer.result.is_err(), answer.transcript)
+}
+
+#[test]
+fn entries_print_as_the_command_line_does() {
+    as_printed(include_str!("../../../crates/hop/tests/expected/default"), None);
+    as_printed(include_str!("../../../crates/hop/tests/expected/fail-write"), Some(60));
+    as_printed(include_str!("../../../crates/hop/tests/expected/fail-open"), Some(0));
+}
+
+#[test]
+fn entries_of_every_kind_print() {
+    let line = |kind, failed, target, address, bytes: &[u8]| Entry { kind, failed, target, address, bytes }.to_string();
+    let printed = [
+        line(EntryKind::BlockWrite8, false, 2, 0x3004, &[0x10]),
+        line(EntryKind::BlockWrite16, true, 1, 0x2158, &[0x00, 0x02]),
+        line(EntryKind::BlockRead, false, 2, 0x3001, &[0x20]),
+        line(EntryKind::BlockRead, true, 2, 0x3001, &[0]),
+        line(EntryKind::I2cRead, true, 0x74, 0, &[0; 5]),
+        line(EntryKind::I2cWrite, false, 0x74, 0, &[0]),
+        line(EntryKind::DemodWrite16, false, 1, 0x9f, &[0x03, 0x84]),
+        line(EntryKind::Wait, false, 0, 65_535, &[]),
+        // Entries that no call makes: nothing to show, and no panic.
+        line(EntryKind::I2cWrite, false, 0x74, 0, &[]),
+        line(EntryKind::Repeater, false, 0, 0, &[]),
+    ];
+    let wanted = [
+        "block write, block 2: 0x3004 <- 10                 done",
+        "block write, block 1: 0x2158 <- 00 02              FAILED",
+        "block read, block 2: 0x3001 -> 20                  done",
+        "block read, block 2: 0x3001                        FAILED",
+        "I2C read  0x74: 5 bytes                            FAILED",
+        "I2C write 0x74: 0x00 (read from there)             done",
+        "demod write, page 1: 0x009f <- 03 84               done",
+        "wait 65535 ms                                      done",
+        "I2C write 0x74: 0x00 (read from there)             done",
+        "repeater closes                                    done",
+    ];
+    assert_eq!(printed, wanted);
+}
+
+#[test]
+fn transcripts_print_in_words() {
+    let answer = r828d().set_bandwidth(2_048_000, &done().failing(1).unwrap());
+    assert_eq!(format!("{:?}", answer.transcript), "Transcript [repeater opens, I2C write 0x74: 0x0a <- d8 FAILED, repeater closes]");
+    assert_eq!(format!("{:?}", Transcript::default()), "Transcript []");
+}
+
+/// A receiver that is asked step by step leaves what the whole script leaves at once, wherever it fails. The example of the crate's first page.
+#[test]
+fn rounds_leave_what_one_call_leaves() {
+    for failing in (0..Script::OUTCOMES).map(Some).chain([None]) {
+        let whole = match failing {
+            Some(step) => Script::new([0; Script::OUTCOMES], [0x0a; Script::REPLIES]).failing(step).unwrap(),
+            None => Script::new([0; Script::OUTCOMES], [0x0a; Script::REPLIES]),
+        };
+        let (mut at_once, tuner) = (r828d(), r828d());
+        let wanted = at_once.set_frequency(100_000_000, &whole);
+        let (mut outcomes, mut replies, mut taken, mut read) = ([0; Script::OUTCOMES], [0; Script::REPLIES], 0, 0);
+        let (found, next) = loop {
+            let mut next = tuner.clone();
+            let answer = next.set_frequency(100_000_000, &Script::new(outcomes, replies));
+            let Some(entry) = answer.transcript.get(taken) else { break (answer, next) };
+            outcomes[taken] = whole.outcomes()[taken];
+            if entry.kind == EntryKind::I2cRead {
+                replies[read..read + entry.bytes.len()].fill(0x0a);
+                read += entry.bytes.len();
+            }
+            taken += 1;
+        };
+        assert_eq!((found, next), (wanted, at_once), "step {failing:?}");
+    }
+}
