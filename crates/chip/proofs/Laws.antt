@@ -10,7 +10,7 @@ use lib.Dec.{eqb}
 use Rattle.transcript.specs.declared.Entry.{Entry}
 use Rattle.chip.specs.declared.Chip.{Chip}
 use Rattle.chip.specs.declared.Went.{Went}
-use Rattle.chip.specs.declared.Went.the-variants.{Going, Failed}
+use Rattle.chip.specs.declared.Went.the-variants.{Going, Refused11}
 use Rattle.chip.specs.Chips.{attemptedBy, maskedByte, pair, withLists}
 use Rattle.chip.specs.Entries.{written}
 use Rattle.chip.specs.Steps.{Step, Line, acts, after, closing, due, emit, every, goes, heldFor, inner, line, okFor, pickLine, run, step, taken, toldOf, wentFor}

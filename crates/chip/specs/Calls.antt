@@ -14,7 +14,7 @@ use Rattle.chip.specs.declared.Answer.the-variants.{Done, Refused, Stopp
 use Rattle.chip.specs.declared.Chip.{Chip}
 use Rattle.chip.specs.declared.Seen.{Seen}
 use Rattle.chip.specs.declared.Went.{Went}
-use Rattle.chip.specs.declared.Went.the-variants.{Going, Failed}
+use Rattle.chip.specs.declared.Went.the-variants.{Going, Refused11}
 use Rattle.chip.specs.Entries.{isTry, lockBit, look, unseen}
 use Rattle.chip.specs.Steps.{Step, Line, Logged, Trace, line, logged, trace}
 
@@ -47,7 +47,7 @@ indexOf (Stopped index) = index
 -- the answer of a call whose steps went so, and which answers `whole` where none failed
 abbrev pub answerOf : Answer → Went → Answer
 answerOf whole Going = whole
-answerOf whole (Failed k) = Stopped k
+answerOf whole (Refused11 k) = Stopped k
 
 -- what a call leaves: the next record, the lent room, how many entries it made, its answer
 pub record Called (R : Type 0) : Type 0 where

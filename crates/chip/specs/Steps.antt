@@ -17,7 +17,7 @@ use Rattle.chip.specs.declared.Log.{Log}
 use Rattle.chip.specs.declared.Seen.{Seen}
 use Rattle.chip.specs.declared.Update.{Update}
 use Rattle.chip.specs.declared.Went.{Went}
-use Rattle.chip.specs.declared.Went.the-variants.{Going, Failed}
+use Rattle.chip.specs.declared.Went.the-variants.{Going, Refused11}
 use Rattle.chip.specs.Chips.{attemptedBy, chipOf, maskedByte, pair, shadowed}
 use Rattle.chip.specs.Entries.{look, repeater, settled, written}
 
@@ -49,7 +49,7 @@ after (Plain e) c ok = c
 
 abbrev pub goes : Went → Bool
 goes Going = true
-goes (Failed k) = false
+goes (Refused11 k) = false
 
 -- which step is taken: a closing where the repeater is open, any other as long as none has failed
 abbrev pub acts : Step → Went → Bool → Bool
@@ -69,7 +69,7 @@ okFor os k (Plain e) = eqb (getD os k 0) 0 || eqb (e .kind) 9
 
 abbrev pub toldOf : Bool → ℕ → Went
 toldOf true k = Going
-toldOf false k = Failed k
+toldOf false k = Refused11 k
 
 -- how it has gone after a step that was taken: a failed closing changes nothing
 abbrev pub wentFor : Step → Bool → ℕ → Went → Went

@@ -55,10 +55,10 @@ pub struct Update {
     pub past: bool,
 }
 
-// How the steps have gone: the first failing step's entry by its index.
+// How the steps have gone: on, or to refusal 11, with the failing step's entry by its index.
 pub enum Went {
     Going,
-    Failed(usize),
+    Refused11(usize),
 }
 
 // What the done three-byte reads of the status have said.
@@ -106,7 +106,7 @@ fn flag(ok: bool) -> u8
 fn told(ok: bool, k: usize) -> Went
     ensures { λ r. ⌜ r ≡ toldOf ok k ⌝ }
 {
-    if ok { Went::Going } else { Went::Failed(k) }
+    if ok { Went::Going } else { Went::Refused11(k) }
 }
 
 // The byte that a masked write stores and sends.
@@ -747,6 +747,6 @@ pub fn finish(f: Flow, whole: Answer, room: &mut [u8]) -> Answer
     transcript::seal(room, count);
     match went {
         Went::Going => whole,
-        Went::Failed(k) => Answer::Stopped(k),
+        Went::Refused11(k) => Answer::Stopped(k),
     }
 }

@@ -18,7 +18,7 @@ use Rattle.chip.specs.declared.Answer.{Answer}
 use Rattle.chip.specs.declared.Answer.the-variants.{Done, Refused, Stopped}
 use Rattle.chip.specs.declared.Chip.{Chip}
 use Rattle.chip.specs.declared.Went.{Went}
-use Rattle.chip.specs.declared.Went.the-variants.{Going, Failed}
+use Rattle.chip.specs.declared.Went.the-variants.{Going, Refused11}
 use Rattle.chip.specs.Calls.{Called, answerOf, callOf, called, lentOf, performed}
 use Rattle.chip.specs.Steps.{Step, Trace, every, trace}
 use Rattle.history.specs.Programs.{fine}
@@ -74,7 +74,7 @@ module _ {R : Type 0} (number : ℕ) (whole : Answer) (os : List ℕ) (ss : List
           ∙ take-at (sectionBytes es) (drop (0 + length (sectionBytes es)) room) (16 * length es + 8) long
 
   -- an answer that names a failing entry comes of the trace
-  call-failed : (i : ℕ) → stops whole ≡ false → call .answer ≡ Stopped i → (eqb number 0 ≡ true) × (trace os ss c .went ≡ Failed i)
+  call-failed : (i : ℕ) → stops whole ≡ false → call .answer ≡ Stopped i → (eqb number 0 ≡ true) × (trace os ss c .went ≡ Refused11 i)
   call-failed i s h = go (eqb number 0) refl
     where
       index : Answer → ℕ
@@ -82,11 +82,11 @@ module _ {R : Type 0} (number : ℕ) (whole : Answer) (os : List ℕ) (ss : List
       index (Refused k) = 0
       index (Stopped k) = k
 
-      by-went : (w : Went) → trace os ss c .went ≡ w → answerOf whole w ≡ Stopped i → trace os ss c .went ≡ Failed i
+      by-went : (w : Went) → trace os ss c .went ≡ w → answerOf whole w ≡ Stopped i → trace os ss c .went ≡ Refused11 i
       by-went Going e q = absurd (false≢true (sym s ∙ ap stops q))
-      by-went (Failed k) e q = e ∙ ap Failed (ap index q)
+      by-went (Refused11 k) e q = e ∙ ap Refused11 (ap index q)
 
-      go : (b : Bool) → eqb number 0 ≡ b → (eqb number 0 ≡ true) × (trace os ss c .went ≡ Failed i)
+      go : (b : Bool) → eqb number 0 ≡ b → (eqb number 0 ≡ true) × (trace os ss c .went ≡ Refused11 i)
       go false e = absurd (false≢true (ap stops (sym (ap (λ (d : Called R). d .answer) (call-refused e)) ∙ h)))
       go true e = (e, by-went (trace os ss c .went) refl (sym (ap (λ (d : Called R). d .answer) (call-performed e)) ∙ h))
 
@@ -105,7 +105,7 @@ module _ {R : Type 0} (number : ℕ) (whole : Answer) (os : List ℕ) (ss : List
       go true e = ap (λ (d : Called R). d .count) (call-performed e) ∙ rw e
       go false e = ap (λ (d : Called R). d .count) (call-refused e) ∙ rw e
 
-  pub call-index : (i : ℕ) → stops whole ≡ false → every fine ss ≡ true → call .answer ≡ Stopped i → wentIn (callEntries number os ss c) ≡ Failed i
+  pub call-index : (i : ℕ) → stops whole ≡ false → every fine ss ≡ true → call .answer ≡ Stopped i → wentIn (callEntries number os ss c) ≡ Refused11 i
   call-index i s f h =
       let p = call-failed i s h in
       rw (p .0) (sym (told-trace os ss c f) ∙ p .1)

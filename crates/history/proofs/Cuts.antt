@@ -14,7 +14,7 @@ use Rattle.transcript.specs.Table.{isRead}
 use Rattle.attempts.specs.Attempts.{done}
 use Rattle.chip.specs.declared.Chip.{Chip}
 use Rattle.chip.specs.declared.Went.{Went}
-use Rattle.chip.specs.declared.Went.the-variants.{Going, Failed}
+use Rattle.chip.specs.declared.Went.the-variants.{Going, Refused11}
 use Rattle.chip.specs.Entries.{pickBytes, zeros8}
 use Rattle.chip.specs.Steps.{Step, Trace, acts, emit, every, goes, inList, inner, line, okFor, run, step, taken, toldOf, trace, wentFor}
 use Rattle.chip.specs.Steps.Step.{Open, Close, Send, Mask, Plain}
@@ -53,13 +53,13 @@ ok-done os k (Plain e) h = rw h
 
 indexIn : Went → ℕ
 indexIn Going = 0
-indexIn (Failed k) = k
+indexIn (Refused11 k) = k
 
-failed-index : (i k : ℕ) → Failed i ≡ Failed k → i ≡ k
+failed-index : (i k : ℕ) → Refused11 i ≡ Refused11 k → i ≡ k
 unfolding indexIn
 failed-index i k h = ap indexIn h
 
-not-going : (t : Trace) (i : ℕ) → t .went ≡ Going → t .went ≡ Failed i → ⊥
+not-going : (t : Trace) (i : ℕ) → t .went ≡ Going → t .went ≡ Refused11 i → ⊥
 not-going t i g f = true≢false (ap goes (sym g ∙ f))
 
 -- ---- one step, done and failed
@@ -115,11 +115,11 @@ module _ (os : List ℕ) (i : ℕ) where
   Ahead ss t = (t .count ≤ i) × Cut i (run inList os ss t .log) (run inList uncut ss t .log)
 
   abbrev From : List Step → Type 0
-  From ss = (t : Trace) → t .went ≡ Going → t .count ≡ length (t .log) → run inList os ss t .went ≡ Failed i → Ahead ss t
+  From ss = (t : Trace) → t .went ≡ Going → t .count ≡ length (t .log) → run inList os ss t .went ≡ Refused11 i → Ahead ss t
 
   -- a step that is not taken
   skipped : (s : Step) (ss : List Step) (t : Trace) → acts s (t .went) (t .held) ≡ false → From ss
-      → t .went ≡ Going → t .count ≡ length (t .log) → run inList os ss (step inList os s t) .went ≡ Failed i
+      → t .went ≡ Going → t .count ≡ length (t .log) → run inList os ss (step inList os s t) .went ≡ Refused11 i
       → (t .count ≤ i) × Cut i (run inList os ss (step inList os s t) .log) (run inList uncut ss (step inList uncut s t) .log)
   skipped s ss t a rest g k f =
       let here : t ≡ step inList os s t = idle inList os s t a in
@@ -130,7 +130,7 @@ module _ (os : List ℕ) (i : ℕ) where
   -- one that is taken and goes on
   passed : (s : Step) (ss : List Step) (t : Trace) → acts s (t .went) (t .held) ≡ true
       → wentFor s (okFor os (t .count) s) (t .count) (t .went) ≡ Going → From ss
-      → t .count ≡ length (t .log) → run inList os ss (step inList os s t) .went ≡ Failed i
+      → t .count ≡ length (t .log) → run inList os ss (step inList os s t) .went ≡ Refused11 i
       → (t .count ≤ i) × Cut i (run inList os ss (step inList os s t) .log) (run inList uncut ss (step inList uncut s t) .log)
   passed s ss t a g rest k f =
       let ok : Bool = okFor os (t .count) s in
@@ -146,12 +146,12 @@ module _ (os : List ℕ) (i : ℕ) where
   -- the failing step
   stopped : (s : Step) (ss : List Step) (t : Trace) → fine s ≡ true → inner s ≡ true → acts s (t .went) (t .held) ≡ true
       → okFor os (t .count) s ≡ false
-      → t .count ≡ length (t .log) → run inList os ss (step inList os s t) .went ≡ Failed i
+      → t .count ≡ length (t .log) → run inList os ss (step inList os s t) .went ≡ Refused11 i
       → (t .count ≤ i) × Cut i (run inList os ss (step inList os s t) .log) (run inList uncut ss (step inList uncut s t) .log)
   stopped s ss t f n a o k w =
       let u : Trace = taken inList os false s t in
       let here : u ≡ step inList os s t = ap (λ (b : Bool). taken inList os b s t) (sym o) ∙ active inList os s t a in
-      let fell : u .went ≡ Failed (t .count) = inner-went s false (t .count) (t .went) n in
+      let fell : u .went ≡ Refused11 (t .count) = inner-went s false (t .count) (t .went) n in
       let r : Rest os u (run inList os ss u) = stopped-run os ss u (ap goes fell) in
       let index : i ≡ t .count = failed-index i (t .count) (sym w ∙ sym (ap (λ (v : Trace). run inList os ss v .went) here) ∙ r .went ∙ fell) in
       let met : okFor uncut (t .count) s ≡ true = ok-done uncut (t .count) s (ap (λ (j : ℕ). getD uncut j 0) (sym index) ∙ set-done os i) in
@@ -184,7 +184,7 @@ module _ (os : List ℕ) (i : ℕ) where
   inner-acts (Plain e) went held n g = ap goes g
 
   any-inner : (s : Step) (ss : List Step) (t : Trace) → fine s ≡ true → inner s ≡ true → From ss
-      → t .went ≡ Going → t .count ≡ length (t .log) → run inList os ss (step inList os s t) .went ≡ Failed i
+      → t .went ≡ Going → t .count ≡ length (t .log) → run inList os ss (step inList os s t) .went ≡ Refused11 i
       → (t .count ≤ i) × Cut i (run inList os ss (step inList os s t) .log) (run inList uncut ss (step inList uncut s t) .log)
   any-inner s ss t f n rest g k w = go (okFor os (t .count) s) refl
     where
@@ -196,7 +196,7 @@ module _ (os : List ℕ) (i : ℕ) where
       go false o = stopped s ss t f n (inner-acts s (t .went) (t .held) n g) o k w
 
   any-close : (ss : List Step) (t : Trace) → From ss
-      → t .went ≡ Going → t .count ≡ length (t .log) → run inList os ss (step inList os Close t) .went ≡ Failed i
+      → t .went ≡ Going → t .count ≡ length (t .log) → run inList os ss (step inList os Close t) .went ≡ Refused11 i
       → (t .count ≤ i) × Cut i (run inList os ss (step inList os Close t) .log) (run inList uncut ss (step inList uncut Close t) .log)
   any-close ss t rest g k w = go (t .held) refl
     where
@@ -218,7 +218,7 @@ module _ (os : List ℕ) (i : ℕ) where
       any-inner (Plain e) ss t (and-left (fine (Plain e)) (every fine ss) f) refl (cut-run ss (and-right (fine (Plain e)) (every fine ss) f)) g k w
 
 -- the cut trace against the uncut one
-pub cut-trace : (os : List ℕ) (ss : List Step) (c : Chip) (i : ℕ) → every fine ss ≡ true → trace os ss c .went ≡ Failed i
+pub cut-trace : (os : List ℕ) (ss : List Step) (c : Chip) (i : ℕ) → every fine ss ≡ true → trace os ss c .went ≡ Refused11 i
     → Cut i (trace os ss c .log) (trace (set os i 0) ss c .log)
 unfolding trace
 cut-trace os ss c i f w = cut-run os i ss f (line c [] 0 Going false) refl refl w .1

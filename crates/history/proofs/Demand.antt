@@ -21,7 +21,7 @@ use Rattle.attempts.proofs.Named.{known, last-append, last-known, other-kind}
 use Rattle.attempts.proofs.Played.{last-done, last-never, some-played}
 use Rattle.chip.specs.declared.Chip.{Chip}
 use Rattle.chip.specs.declared.Went.{Went}
-use Rattle.chip.specs.declared.Went.the-variants.{Going, Failed}
+use Rattle.chip.specs.declared.Went.the-variants.{Going, Refused11}
 use Rattle.chip.specs.Steps.{Step, Trace, emit, every, line, okFor, trace}
 use Rattle.chip.specs.Steps.Step.{Open, Close, Send, Mask, Plain}
 use Rattle.history.specs.Programs.{beside, fine, reloadSteps, reloaded, shadowBy}
@@ -131,7 +131,7 @@ history-fits init c es (aside old xs h k os ss b) = fit-append xs (trace os ss k
 
 -- "A cut call made the steps of the uncut one up to the failing step, then at most the repeater's closing." "the uncut call is the one with the
 -- failing step done and all other outcomes and replies equal": the same program, with outcome i done
-pub cut-call : (os : List ℕ) (ss : List Step) (c : Chip) (i : ℕ) → every fine ss ≡ true → trace os ss c .went ≡ Failed i
+pub cut-call : (os : List ℕ) (ss : List Step) (c : Chip) (i : ℕ) → every fine ss ≡ true → trace os ss c .went ≡ Refused11 i
     → Cut i (trace os ss c .log) (trace (set os i 0) ss c .log)
 cut-call os ss c i f w = cut-trace os ss c i f w
 
@@ -143,7 +143,7 @@ reloaded-alike t = go (t .went)
   where
     go : (w : Went) → Alike (t .chip) (shadowBy w (t .chip))
     go Going = record { chip = refl; attempted = refl; doubtful = refl }
-    go (Failed k) = record { chip = refl; attempted = refl; doubtful = refl }
+    go (Refused11 k) = record { chip = refl; attempted = refl; doubtful = refl }
 
 module _ (init : List ℕ) (c : Chip) (es : List Entry) (history : History init c es) (os : List ℕ) where
   abbrev t : Trace

@@ -16,7 +16,7 @@ use Rattle.attempts.proofs.Named.{named, other-kind, below-first, past-last, la
 use Rattle.chip.specs.declared.Chip.{Chip}
 use Rattle.chip.specs.declared.Chunk.{Chunk}
 use Rattle.chip.specs.declared.Went.{Went}
-use Rattle.chip.specs.declared.Went.the-variants.{Going, Failed}
+use Rattle.chip.specs.declared.Went.the-variants.{Going, Refused11}
 use Rattle.chip.specs.Chips.{attemptedBy}
 use Rattle.chip.specs.Entries.{written}
 use Rattle.chip.specs.Steps.{Step, Trace, acts, behind, chunkBytes, chunkStep, chunkTable, emit, every, goes, inList, line, okFor, run, step, taken, toldOf, trace, tunerWrite, within}
@@ -105,7 +105,7 @@ module _ (os : List ℕ) where
     where
       go : (u : Went) → t .went ≡ u → t .went ≡ Going
       go Going e = e
-      go (Failed k) e =
+      go (Refused11 k) e =
           let r : Rest os t (run inList os ss t) = stopped-run os ss t (ap goes e) in
           absurd (true≢false (ap goes (sym h ∙ r .went ∙ e)))
 

@@ -9,7 +9,7 @@ use Rattle.transcript.specs.declared.Entry.{Entry}
 use Rattle.attempts.specs.Attempts.{done}
 use Rattle.chip.specs.declared.Chip.{Chip}
 use Rattle.chip.specs.declared.Went.{Went}
-use Rattle.chip.specs.declared.Went.the-variants.{Going, Failed}
+use Rattle.chip.specs.declared.Went.the-variants.{Going, Refused11}
 use Rattle.chip.specs.Steps.{Step, Trace, acts, emit, every, goes, inList, inner, line, okFor, taken, toldOf, trace}
 use Rattle.chip.specs.Steps.Step.{Open, Close, Send, Mask, Plain}
 use Rattle.history.specs.Programs.{fine}
@@ -20,19 +20,19 @@ use Rattle.history.proofs.Cuts.{emit-done, inner-went}
 
 -- one entry more: it counts only where none has failed before
 abbrev next : Went → Bool → ℕ → Went
-next Going b k = pickWent b Going (Failed k)
-next (Failed j) b k = Failed j
+next Going b k = pickWent b Going (Refused11 k)
+next (Refused11 j) b k = Refused11 j
 
 went-snoc : (k : ℕ) (es : List Entry) (e : Entry) → wentFrom k (es ++ (e ∷ [])) ≡ next (wentFrom k es) (passable e) (k + length es)
 unfolding wentFrom
 went-snoc k [] e =
     let here : k ≡ k + 0 = omega arith in
-    ap (λ (j : ℕ). pickWent (passable e) Going (Failed j)) here
+    ap (λ (j : ℕ). pickWent (passable e) Going (Refused11 j)) here
 went-snoc k (x ∷ es) e = go (passable x) refl (went-snoc (k + 1) es e)
   where
     go : (b : Bool) → passable x ≡ b → wentFrom (k + 1) (es ++ (e ∷ [])) ≡ next (wentFrom (k + 1) es) (passable e) (k + 1 + length es)
-        → pickWent (passable x) (wentFrom (k + 1) (es ++ (e ∷ []))) (Failed k)
-        ≡ next (pickWent (passable x) (wentFrom (k + 1) es) (Failed k)) (passable e) (k + suc (length es))
+        → pickWent (passable x) (wentFrom (k + 1) (es ++ (e ∷ []))) (Refused11 k)
+        ≡ next (pickWent (passable x) (wentFrom (k + 1) es) (Refused11 k)) (passable e) (k + suc (length es))
     go true h r =
         let place : k + 1 + length es ≡ k + suc (length es) = omega arith in
         rw h (r ∙ ap (next (wentFrom (k + 1) es) (passable e)) place)
@@ -41,7 +41,7 @@ went-snoc k (x ∷ es) e = go (passable x) refl (went-snoc (k + 1) es e)
 -- a closing says nothing; any other entry that failed does
 next-closing : (went : Went) (k : ℕ) → next went true k ≡ went
 next-closing Going k = refl
-next-closing (Failed j) k = refl
+next-closing (Refused11 j) k = refl
 
 next-told : (ok : Bool) (k : ℕ) → next Going ok k ≡ toldOf ok k
 next-told true k = refl
@@ -56,7 +56,7 @@ no-closing (Plain e) c ok f n = rw (aside-of e f .kind)
 
 goes-going : (went : Went) → goes went ≡ true → went ≡ Going
 goes-going Going h = refl
-goes-going (Failed k) h = absurd (false≢true h)
+goes-going (Refused11 k) h = absurd (false≢true h)
 
 -- how it went, and that the entries are counted
 record Read (t : Trace) : Type 0 where

@@ -17,7 +17,7 @@ use Rattle.chip.specs.declared.Answer.{Answer}
 use Rattle.chip.specs.declared.Answer.the-variants.{Done, Refused, Stopped}
 use Rattle.chip.specs.declared.Chip.{Chip}
 use Rattle.chip.specs.declared.Went.{Went}
-use Rattle.chip.specs.declared.Went.the-variants.{Going, Failed}
+use Rattle.chip.specs.declared.Went.the-variants.{Going, Refused11}
 use Rattle.chip.specs.Entries.{pickBytes, repeater, zeros8}
 use Rattle.chip.specs.Steps.{Step, every, trace}
 use Rattle.history.specs.Programs.{beside, fine}
@@ -111,7 +111,7 @@ passable e = done e || isClosing e
 -- how a call went, told by its entries: "a step other than a closing failed", the first one, by its index
 unfoldable pub wentFrom : ℕ → List Entry → Went
 wentFrom k [] = Going
-wentFrom k (e ∷ es) = pickWent (passable e) (wentFrom (k + 1) es) (Failed k)
+wentFrom k (e ∷ es) = pickWent (passable e) (wentFrom (k + 1) es) (Refused11 k)
 
 abbrev pub wentIn : List Entry → Went
 wentIn es = wentFrom 0 es

@@ -9,7 +9,7 @@ use Rattle.transcript.specs.declared.Entry.{Entry}
 use Rattle.transcript.specs.Entries.{entryFits, zeros}
 use Rattle.chip.specs.declared.Chip.{Chip}
 use Rattle.chip.specs.declared.Went.{Went}
-use Rattle.chip.specs.declared.Went.the-variants.{Going, Failed}
+use Rattle.chip.specs.declared.Went.the-variants.{Going, Refused11}
 use Rattle.chip.specs.Chips.{withLists}
 use Rattle.chip.specs.Entries.{settled}
 use Rattle.chip.specs.Steps.{Step, Trace, tunerWrite}
@@ -52,7 +52,7 @@ reloadSteps bs = tunerWrite bs 0 3 ++ tunerWrite bs 3 5
 -- "and sets the shadow to them when all are done"
 abbrev pub shadowBy : Went → Chip → Chip
 shadowBy Going c = withLists c (c .attempted) (c .attempted) (c .doubtful)
-shadowBy (Failed k) c = c
+shadowBy (Refused11 k) c = c
 
 abbrev pub reloaded : Trace → Chip
 reloaded t = shadowBy (t .went) (t .chip)

@@ -10,7 +10,7 @@ use Rattle.chip.specs.declared.Answer.{Answer}
 use Rattle.chip.specs.declared.Answer.the-variants.{Done, Refused, Stopped}
 use Rattle.chip.specs.declared.Chip.{Chip}
 use Rattle.chip.specs.declared.Went.{Went}
-use Rattle.chip.specs.declared.Went.the-variants.{Going, Failed}
+use Rattle.chip.specs.declared.Went.the-variants.{Going, Refused11}
 use Rattle.chip.specs.Chips.{withLists}
 use Rattle.chip.specs.Calls.{lockedIn, pickN, triesIn}
 use Rattle.chip.specs.Steps.{Trace, goes}
@@ -105,4 +105,4 @@ lockBy locked tries old = pick locked true (pick (eqb tries 10) false old)
 -- "sets the shadow to them when all are done"
 abbrev pub reloaded : Went → Chip → Chip
 reloaded Going c = withLists c (c .attempted) (c .attempted) (c .doubtful)
-reloaded (Failed k) c = c
+reloaded (Refused11 k) c = c

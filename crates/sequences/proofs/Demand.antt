@@ -23,7 +23,7 @@ use Rattle.chip.specs.declared.Answer.{Answer}
 use Rattle.chip.specs.declared.Answer.the-variants.{Done, Refused, Stopped}
 use Rattle.chip.specs.declared.Chip.{Chip}
 use Rattle.chip.specs.declared.Went.{Went}
-use Rattle.chip.specs.declared.Went.the-variants.{Going, Failed}
+use Rattle.chip.specs.declared.Went.the-variants.{Going, Refused11}
 use Rattle.chip.specs.Calls.{Called, answerOf}
 use Rattle.chip.specs.Steps.{Trace, trace}
 use Rattle.device.specs.Calls.{noChip}
@@ -137,14 +137,14 @@ module _ (t : Tuner) (es : List Entry) (s : Sequence t es) where
     count-told = view-count t (result k t) (asked k t) (k .outcomes) (k .room) seen
 
     -- (e) "11 also gives the failing entry's index": the first that failed and is no closing
-    pub index-told : (i : ℕ) → result k t .answer ≡ Stopped i → wentIn (entries k t) ≡ Failed i
+    pub index-told : (i : ℕ) → result k t .answer ≡ Stopped i → wentIn (entries k t) ≡ Refused11 i
     index-told = view-index t (result k t) (asked k t) (k .outcomes) (k .room) seen
 
 -- ---- (d) reload
 
 reloaded-same : (w : Went) (c : Chip) → reloaded w c ≡ shadowBy w c
 reloaded-same Going c = refl
-reloaded-same (Failed k) c = refl
+reloaded-same (Refused11 k) c = refl
 
 abbrev isDone : Answer → Bool
 isDone (Done value) = true
@@ -171,7 +171,7 @@ module _ (t : Tuner) (es : List Entry) (s : Sequence t es) (os room : List ℕ) 
     where
       by-went : (w : Went) → tr .went ≡ w → answerOf (Done 0) w ≡ Done 0 → tr .went ≡ Going
       by-went Going e q = e
-      by-went (Failed j) e q = absurd (false≢true (ap isDone q))
+      by-went (Refused11 j) e q = absurd (false≢true (ap isDone q))
 
       go : (b : Bool) → eqb number 0 ≡ b → (eqb number 0 ≡ true) × (tr .went ≡ Going)
       go false e =
@@ -216,7 +216,7 @@ module _ (a : Aside) (g : asideGiven (a .other) ≡ true) where
   pub aside-read : 0 < x .count → Parted (take (16 * x .count + 8) (x .room)) [] (asideEntries a)
   aside-read = step-read (Unit {0}) noChip tt x what (a .outcomes) (a .room) stepped (omega arith)
 
-  pub aside-index : (i : ℕ) → x .answer ≡ Stopped i → wentIn (asideEntries a) ≡ Failed i
+  pub aside-index : (i : ℕ) → x .answer ≡ Stopped i → wentIn (asideEntries a) ≡ Refused11 i
   aside-index = step-index (Unit {0}) noChip tt x what (a .outcomes) (a .room) stepped
 
   pub aside-cut : (i : ℕ) → x .answer ≡ Stopped i → Cut i (asideEntries a) (asideEntries (asideUncut i a))

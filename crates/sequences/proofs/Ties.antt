@@ -16,7 +16,7 @@ use Rattle.board.specs.declared.PathRead.the-variants as path-read
 use Rattle.board.specs.Numbers.{pathOf}
 use Rattle.chip.specs.declared.Answer.the-variants.{Refused, Stopped}
 use Rattle.chip.specs.declared.Chip.{Chip}
-use Rattle.chip.specs.declared.Went.the-variants.{Failed}
+use Rattle.chip.specs.declared.Went.the-variants.{Refused11}
 use Rattle.chip.specs.Calls.{Called}
 use Rattle.chip.specs.Steps.{run, trace}
 use Rattle.pll.specs.declared.Kind.{Kind}
@@ -57,7 +57,7 @@ module _ (R : Type 0) (c : Chip) (old : R) (x : Called R) (a : Asked) (os room :
           ap (λ (d : Called R). d .count) (s .same ∙ call-refused (a .number) (s .whole) os (a .steps) c (s .keep) old room e) in
           absurd (omega (arith, zero))
 
-  pub step-index : (i : ℕ) → x .answer ≡ Stopped i → wentIn made ≡ Failed i
+  pub step-index : (i : ℕ) → x .answer ≡ Stopped i → wentIn made ≡ Refused11 i
   step-index i h =
       call-index (a .number) (s .whole) os (a .steps) c (s .keep) old room i (s .named) (s .good)
       (sym (ap (λ (d : Called R). d .answer) (s .same)) ∙ h)
@@ -87,7 +87,7 @@ module _ (t : Tuner) (x : Called Tuner) (a : Asked) (os room : List ℕ) where
   view-read (silent s) small some = absurd (omega (arith, s .count))
 
   -- (e) "an invented .. step index" is shut out
-  pub view-index : View t x a os room → (i : ℕ) → x .answer ≡ Stopped i → wentIn es ≡ Failed i
+  pub view-index : View t x a os room → (i : ℕ) → x .answer ≡ Stopped i → wentIn es ≡ Refused11 i
   view-index (moving m) i h = step-index Tuner (t .chip) t x a os room (m .steps) i h
   view-index (silent s) i h = absurd (false≢true (sym (s .named) ∙ ap stops h))
 

@@ -19,7 +19,7 @@ use Rattle.chip.specs.declared.Answer.the-variants.{Done, Refused}
 use Rattle.chip.specs.declared.Chip.{Chip}
 use Rattle.chip.specs.declared.Update.{Update}
 use Rattle.chip.specs.declared.Went.{Went}
-use Rattle.chip.specs.declared.Went.the-variants.{Going, Failed}
+use Rattle.chip.specs.declared.Went.the-variants.{Going, Refused11}
 use Rattle.chip.specs.Calls.{Called, callOf, called, lentOf, lockedIn, performed, pickCalled, pickN, triesIn}
 use Rattle.chip.specs.Chips.{maskedByte, shadowed}
 use Rattle.chip.specs.Steps.{Step, Trace, allIn, behind, every, trace, updateStep, updates}
@@ -136,7 +136,7 @@ module _ (t : Tuner) (os room : List ℕ) where
 
   reload-alike : (went : Went) (c : Chip) → Alike c (reloaded went c)
   reload-alike Going c = record { chip = refl; attempted = refl; doubtful = refl }
-  reload-alike (Failed k) c = as-it-was c
+  reload-alike (Refused11 k) c = as-it-was c
 
   reload-view : Moving t (reloadCall os t room) (askedOf Reload os room t) os room
   unfolding reloadCall
