@@ -598,32 +598,28 @@ impl Tuner {
         }
     }
 
-    // `set_ppm` over a record by value, for callers that hold one so.
+    // `set_ppm` for callers that hold the record by value: it is lent from here, and whoever calls this needs no walk by hand.
     pub fn with_ppm(mut self, ppm: i32) -> Told
         ensures { λ r. ⌜ called (r .tuner) [] (r .count) (r .answer)
             ≡ called (withCorrected self (keptPpm (self .nominal) (self .corrected) ppm)) [] 0 (ppmAnswer (self .nominal) (self .corrected) ppm) ⌝ }
     {
-        let n = self.nominal;
-        let c = self.corrected;
-        self.corrected = kept_ppm(n, c, ppm);
+        let answer = set_ppm(&mut self, ppm);
         Told {
             tuner: self,
-            answer: ppm_answer(n, c, ppm),
+            answer: answer,
             count: 0,
         }
     }
 
-    // `apply_notch` over a record by value.
+    // `apply_notch`, likewise.
     pub fn with_notch(mut self, on: bool) -> Told
         ensures { λ r. ⌜ called (r .tuner) [] (r .count) (r .answer)
             ≡ called (withNotch self (keptNotch (self .nominal) (self .corrected) (self .notch) on)) [] 0 (soundAnswer (self .nominal) (self .corrected) 0) ⌝ }
     {
-        let n = self.nominal;
-        let c = self.corrected;
-        self.notch = kept_notch(n, c, self.notch, on);
+        let answer = apply_notch(&mut self, on);
         Told {
             tuner: self,
-            answer: sound_answer(n, c, 0),
+            answer: answer,
             count: 0,
         }
     }
