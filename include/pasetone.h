@@ -261,7 +261,7 @@ pasetone_reply pasetone_set_if_freq(const uint8_t *tuner, size_t tuner_len, uint
  * The chip's input: path 0 HF, 1 VHF, 2 UHF. Outcomes 4, room 72. Value 0. Refuses 1 (also a path above 2), 8, 9, 11. An R820T has one input:
  * done with no entry and no section, outcomes and room are not looked at and may be empty, and `next` is the given record.
  */
-pasetone_reply pasetone_set_input_path(const uint8_t *tuner, size_t tuner_len, uint8_t path, const uint8_t *outcomes, size_t outcomes_len,
+pasetone_reply pasetone_set_input_path(const uint8_t *tuner, size_t tuner_len, uint64_t path, const uint8_t *outcomes, size_t outcomes_len,
                                        uint8_t *room, size_t room_len, uint8_t *next, size_t next_len);
 
 /*
@@ -319,7 +319,7 @@ pasetone_reply pasetone_set_sample_rate(const uint8_t *driver, size_t driver_len
  * The board's input: GPIO 5, then the tuner's own path. Outcomes 10, replies 3, room 168, on an R820T too, which makes six entries.
  * `next`: 105 bytes. Value 0. Refuses 1 (also a path above 2), 8, 9, 10, 11.
  */
-pasetone_reply pasetone_apply_input_path(const uint8_t *tuner, size_t tuner_len, uint8_t path, const uint8_t *outcomes,
+pasetone_reply pasetone_apply_input_path(const uint8_t *tuner, size_t tuner_len, uint64_t path, const uint8_t *outcomes,
                                          size_t outcomes_len, const uint8_t *replies, size_t replies_len, uint8_t *room, size_t room_len,
                                          uint8_t *next, size_t next_len);
 
@@ -372,7 +372,7 @@ pasetone_reply pasetone_set_gpio_bit(uint8_t gpio, uint8_t value, const uint8_t 
  * How a board (0 generic, 1 V4) is to be tuned to `hz`. `out`, 3 bytes: 1 if the spectrum is inverted; the path, or 3 for none; 1 if hz lies in
  * a notch. Value: the Hz for the tuner. Refuses 1, 8.
  */
-pasetone_reply pasetone_plan_tuning(uint8_t board, uint64_t hz, uint8_t *out, size_t out_len);
+pasetone_reply pasetone_plan_tuning(uint64_t board, uint64_t hz, uint8_t *out, size_t out_len);
 
 /* hz * 2^22 / xtal, kept to 22 bits, high byte first (`set_if_freq_xtal` sends it negated). `out`: 3 bytes. Value 0. Refuses 4 (xtal 0), 8. */
 pasetone_reply pasetone_if_freq_regs(uint32_t hz, uint32_t xtal, uint8_t *out, size_t out_len);

@@ -232,6 +232,7 @@ static void check_tuner(void)
     done("IF set", pasetone_get_if_freq(NEXT), 3570000, 0);
     done("input path", pasetone_set_input_path(TUNER, PASETONE_UHF, OUTCOMES, ROOM, NEXT), 0, 4);
     refused("path 3", pasetone_set_input_path(TUNER, 3, OUTCOMES, ROOM, NEXT), PASETONE_SETUP);
+    refused("path 256", pasetone_set_input_path(TUNER, 256, OUTCOMES, ROOM, NEXT), PASETONE_SETUP);
     done("reload", pasetone_reload(TUNER, OUTCOMES, ROOM, NEXT), 0, 9);
     same("reload's doubt", next[PASETONE_TUNER_DOUBTFUL], 0);
     done("shadow", pasetone_update_shadow(TUNER, 0x05, 0xff, 0x0f, NEXT), 0x8f, 0);
@@ -256,6 +257,7 @@ static void check_driver(void)
     same("its rate", next_driver[PASETONE_DRIVER_RATE] | next_driver[PASETONE_DRIVER_RATE + 1] << 8, 3200000 & 0xffff);
     refused("rate 0", pasetone_set_sample_rate(DRIVER, TUNER, 0, OUTCOMES, ROOM, next_driver, sizeof next_driver, NEXT), PASETONE_RATE);
     done("board path", pasetone_apply_input_path(TUNER, PASETONE_VHF, OUTCOMES, REPLIES, ROOM, NEXT), 0, 10);
+    refused("board path 257", pasetone_apply_input_path(TUNER, 257, OUTCOMES, REPLIES, ROOM, NEXT), PASETONE_SETUP);
     refused("board path, room", pasetone_apply_input_path(TUNER, 0, OUTCOMES, REPLIES, room, 167, NEXT), PASETONE_ROOM);
     refused("board path, outcomes", pasetone_apply_input_path(TUNER, 0, outcomes, 9, REPLIES, ROOM, NEXT), PASETONE_OUTCOMES);
     refused("board path, replies", pasetone_apply_input_path(TUNER, 0, OUTCOMES, replies, 2, ROOM, NEXT), PASETONE_REPLIES);
@@ -301,6 +303,7 @@ static void check_numbers(void)
     done("generic", pasetone_plan_tuning(PASETONE_GENERIC, 1, out, 3), 1, 0);
     same("no path", out[1], PASETONE_NO_PATH);
     refused("board 2", pasetone_plan_tuning(2, 1, out, 3), PASETONE_SETUP);
+    refused("board 257", pasetone_plan_tuning(257, 1, out, 3), PASETONE_SETUP);
     done("IF's bytes", pasetone_if_freq_regs(3570000, 28800000, out, 3), 0, 0);
     same_bytes("07 ee ee", out, if_regs, 3);
     done("rate's bytes", pasetone_resample_regs(2048000, 28800000, out, 4), 0, 0);

@@ -74,10 +74,14 @@ fn bit(b: bool) -> u8
     if b { 1 } else { 0 }
 }
 
-pub fn plan_tuning(board: u8, hz: u64, out: &mut [u8]) -> Answer
+// A number that names no board is refused 1, one past a byte too.
+pub fn plan_tuning(board: u64, hz: u64, out: &mut [u8]) -> Answer
     ensures { λ r. ⌜ given r (now (out .exit)) ≡ planInto (boardOf board) hz (now (out .entry)) ⌝ }
 {
-    let BoardRead::Is(b) = board::board_of(board) else {
+    if 255 < board {
+        return Answer::Refused(chip::SETUP);
+    }
+    let BoardRead::Is(b) = board::board_of(board as u8) else {
         return Answer::Refused(chip::SETUP);
     };
     let plan = board::plan_tuning(b, hz);

@@ -131,7 +131,7 @@ pub fn set_sample_rate(
 // The board's input path, which takes the tuner's record alone.
 pub fn apply_input_path(
     tuner: &[u8],
-    path: u8,
+    path: u64,
     outcomes: &[u8],
     replies: &[u8],
     room: &mut [u8],
@@ -146,6 +146,6 @@ pub fn apply_input_path(
     if number != 0 {
         return tuners::refuse(number);
     }
-    let told = driver::apply_input_path(given, path, outcomes, replies, room);
+    let told = driver::apply_input_path(given, path as u8, outcomes, replies, room);
     tuners::hand(told, next)
 }

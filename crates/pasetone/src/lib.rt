@@ -126,7 +126,7 @@ pub extern "C" fn pasetone_set_if_freq(
 #[no_mangle]
 pub extern "C" fn pasetone_set_input_path(
     tuner: &[u8],
-    path: u8,
+    path: u64,
     outcomes: &[u8],
     room: &mut [u8],
     next: &mut [u8],
@@ -257,7 +257,7 @@ pub extern "C" fn pasetone_set_sample_rate(
 #[no_mangle]
 pub extern "C" fn pasetone_apply_input_path(
     tuner: &[u8],
-    path: u8,
+    path: u64,
     outcomes: &[u8],
     replies: &[u8],
     room: &mut [u8],
@@ -408,7 +408,7 @@ pub extern "C" fn pasetone_set_gpio_bit(
 
 // Leaves: src/tuner.rs, src/registers.rs, the FIR of src/demod.rs, the reader of sections.
 #[no_mangle]
-pub extern "C" fn pasetone_plan_tuning(board: u8, hz: u64, out: &mut [u8]) -> Reply
+pub extern "C" fn pasetone_plan_tuning(board: u64, hz: u64, out: &mut [u8]) -> Reply
     ensures { λ r. ⌜ lent r (now (out .exit)) ≡ lentBy (planInto (boardOf board) hz (now (out .entry))) ⌝ }
 {
     let answer = answers::plan_tuning(board, hz, out);

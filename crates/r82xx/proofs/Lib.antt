@@ -2,3 +2,4 @@ pub mod Refusals
 pub mod Whole
 pub mod Tuned
 pub mod Lent
+pub mod Lending

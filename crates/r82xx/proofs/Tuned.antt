@@ -6,6 +6,7 @@ use mathlib.Core.List.{List, [], _∷_}
 use native.Mathlib.Omega.{arith}
 use borrow.Author.Tests.{le-leb, lt-leb}
 use lib.Dec.{leb}
+use lib.Ieee.{Float}
 use lib.IntN.{ℤ}
 use lib.ListN.{getD, length}
 use Rattle.board.specs.declared.Path.{Path}
@@ -22,6 +23,8 @@ use Rattle.chip.specs.Chips.{maskedByte, shadowed}
 use Rattle.chip.specs.Entries.{unseen}
 use Rattle.chip.specs.Steps.{Line, Logged, Step, Trace, behind, eight, every, inRoom, line, logged, onRoom, run, trace}
 use Rattle.chip.proofs.Taken.{stands}
+use Rattle.gain.specs.Steps.{chosenOf, clamped}
+use Rattle.gain.proofs.Steps.{chosen-lt}
 use Rattle.pll.specs.declared.Kind.{Kind}
 use Rattle.pll.specs.declared.Kind.the-variants.{R820T, R828D}
 use Rattle.pll.specs.declared.Pll.{Pll}
@@ -89,6 +92,13 @@ path-by p path kind us os t room x e k u h = bracket-by t t (Done 0) us (pathUpd
 -- a gain's step that was worked out apart
 pub at-step : (os : List ℕ) (k l : ℕ) (t : Tuner) (room : List ℕ) (x : Called Tuner) → k ≡ l → x ≡ stepCall os k t room → x ≡ stepCall os l t room
 at-step os k l t room x e h = h ∙ ap (λ (n : ℕ). stepCall os n t room) e
+
+-- the step chosen for a gain in dB is an index that no clamping changes
+pub chosen-step : (db : Float) (k : ℕ) → k ≡ chosenOf db → clamped k ≡ chosenOf db
+chosen-step db k e = ap clamped e ∙ within (chosenOf db) (chosen-lt db)
+  where
+    within : (n : ℕ) → n < 29 → clamped n ≡ n
+    within n h = omega arith
 
 -- the mask leaf alone
 pub shadow-unsound : (r v m : ℕ) (t : Tuner) → sound t ≡ false → called t [] 0 (Refused 1) ≡ shadowCall r v m t

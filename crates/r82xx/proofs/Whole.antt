@@ -29,7 +29,7 @@ use Rattle.writes.specs.Lists.{gainUpdates, ifUpdates, initArray, initUpdates}
 use Rattle.writes.specs.Programs.{initSteps, sendAll}
 use Rattle.r82xx.specs.declared.Tuner.{Tuner}
 use Rattle.r82xx.specs.Record.{endedBy, lockBy, pick, withChip, withGain}
-use Rattle.r82xx.specs.Calls.{bracketCall, stepCall}
+use Rattle.r82xx.specs.Calls.{bracketCall, refusalOf, stepCall}
 
 -- refused by a number that was worked out apart
 pub refuse-by : {R : Type 0} (number given : ℕ) (whole : Answer) (os : List ℕ) (ss : List Step) (c : Chip) (keep : Trace → R) (old : R) (room : List ℕ)
@@ -86,6 +86,12 @@ pub step-by : (k bits : ℕ) (actual : Float) (us : List Update) (os : List ℕ)
 unfolding stepCall
 step-by k bits actual us os t room x e g b h =
     h ∙ (λ i. bracketCall t (withGain t (g i)) (Done ((b ∙ ap (toBits binary32) g) i)) (e i) 5 os t room)
+
+-- and one that is refused, whatever its step
+pub step-refused : (k given : ℕ) (os : List ℕ) (t : Tuner) (room : List ℕ)
+    → given ≡ refusalOf t 0 7 0 (length room) (length os) 0 → (given ≡ 0 → ⊥) → called t room 0 (Refused given) ≡ stepCall os k t room
+unfolding stepCall bracketCall
+step-refused k given os t room e h = refuse-by _ given _ os _ _ _ t room e h
 
 -- the record of a call that is the same cut or whole
 pub same-ended : (t : Tuner) (went : Went) (chip : Chip) → withChip t chip ≡ endedBy t t went chip

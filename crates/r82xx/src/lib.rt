@@ -11,7 +11,7 @@ ghost use Rattle.chip.specs.Calls.{called};
 ghost use Rattle.chip.specs.declared.Answer.the-variants.{Done};
 ghost use Rattle.chip.specs.Steps.{allIn, goes};
 ghost use Rattle.r82xx.specs.Record.{freshTuner, lockBy, madeOf, pick, reloaded, soundBy, withCorrected, withNotch};
-ghost use Rattle.r82xx.specs.Calls.{bandwidthCall, bracketCall, gainCall, hzRefusal, ifCall, indexCall, initCall, keptNotch, keptPpm, pathCall, ppmAnswer, refusalOf, reloadCall, shadowCall, soundAnswer, stepCall, tableOf, tuneCall, wholeOf};
+ghost use Rattle.r82xx.specs.Calls.{bandwidthCall, bracketCall, gainCall, hzRefusal, ifCall, indexCall, initCall, keptNotch, keptPpm, pathCall, ppmAnswer, refusalOf, reloadCall, shadowCall, soundAnswer, tableOf, tuneCall, wholeOf};
 use board::PathRead;
 use chip::Answer;
 use chip::Chip;
@@ -302,12 +302,19 @@ impl Tuner {
         }
     }
 
-    pub fn set_bandwidth(self, hz: u32, outcomes: &[u8], room: &mut [u8]) -> Told
+    pub fn set_bandwidth(mut self, hz: u32, outcomes: &[u8], room: &mut [u8]) -> Told
         ensures { λ r. ⌜ called (r .tuner) (now (room .exit)) (r .count) (r .answer)
             ≡ bandwidthCall (now (outcomes .entry)) hz self (now (room .entry)) ⌝ }
     {
         let us = writes::bandwidth_updates(hz);
-        self.operate(self, us, 1, outcomes, room)
+        let told = self.operate(self, us, 1, outcomes, room);
+        let answer = told.answer;
+        self = told.tuner;
+        Told {
+            tuner: self,
+            answer: answer,
+            count: told.count,
+        }
     }
 
     // The IF changes before its writes are tried.
@@ -322,11 +329,11 @@ impl Tuner {
     }
 
     // The gain changes only when all writes are done.
-    fn set_step(mut self, k: usize, outcomes: &[u8], room: &mut [u8]) -> Told
-        requires { ⌜ k < 29 ⌝ }
+    pub fn set_gain_by_index(mut self, index: usize, outcomes: &[u8], room: &mut [u8]) -> Told
         ensures { λ r. ⌜ called (r .tuner) (now (room .exit)) (r .count) (r .answer)
-            ≡ stepCall (now (outcomes .entry)) k self (now (room .entry)) ⌝ }
+            ≡ indexCall (now (outcomes .entry)) index self (now (room .entry)) ⌝ }
     {
+        let k = gain::choose_index(index);
         let number = self.refusal(0, 7, 0, room.len(), outcomes.len(), 0);
         if number != 0 {
             return Told {
@@ -361,22 +368,23 @@ impl Tuner {
         }
     }
 
-    pub fn set_gain(self, db: f32, outcomes: &[u8], room: &mut [u8]) -> Told
+    // The nearest step, then as by its index.
+    pub fn set_gain(mut self, db: f32, outcomes: &[u8], room: &mut [u8]) -> Told
         ensures { λ r. ⌜ called (r .tuner) (now (room .exit)) (r .count) (r .answer)
             ≡ gainCall (now (outcomes .entry)) db self (now (room .entry)) ⌝ }
     {
-        self.set_step(gain::choose(db), outcomes, room)
-    }
-
-    pub fn set_gain_by_index(self, index: usize, outcomes: &[u8], room: &mut [u8]) -> Told
-        ensures { λ r. ⌜ called (r .tuner) (now (room .exit)) (r .count) (r .answer)
-            ≡ indexCall (now (outcomes .entry)) index self (now (room .entry)) ⌝ }
-    {
-        self.set_step(gain::choose_index(index), outcomes, room)
+        let told = self.set_gain_by_index(gain::choose(db), outcomes, room);
+        let answer = told.answer;
+        self = told.tuner;
+        Told {
+            tuner: self,
+            answer: answer,
+            count: told.count,
+        }
     }
 
     // path: 0 HF, 1 VHF, 2 UHF. R820T has one input: nothing is written, and no lent memory is looked at.
-    pub fn set_input_path(self, path: u8, outcomes: &[u8], room: &mut [u8]) -> Told
+    pub fn set_input_path(mut self, path: u8, outcomes: &[u8], room: &mut [u8]) -> Told
         ensures { λ r. ⌜ called (r .tuner) (now (room .exit)) (r .count) (r .answer)
             ≡ pathCall (now (outcomes .entry)) path self (now (room .entry)) ⌝ }
     {
@@ -394,7 +402,16 @@ impl Tuner {
                 answer: sound_answer(self.nominal, self.corrected, 0),
                 count: 0,
             },
-            Kind::R828D => self.operate(self, writes::path_updates(by), 2, outcomes, room),
+            Kind::R828D => {
+                let told = self.operate(self, writes::path_updates(by), 2, outcomes, room);
+                let answer = told.answer;
+                self = told.tuner;
+                Told {
+                    tuner: self,
+                    answer: answer,
+                    count: told.count,
+                }
+            }
         }
     }
 
@@ -598,32 +615,28 @@ impl Tuner {
         }
     }
 
-    // `set_ppm` over a record by value, for callers that hold one so.
+    // `set_ppm` for callers that hold the record by value: it is lent from here, and whoever calls this needs no walk by hand.
     pub fn with_ppm(mut self, ppm: i32) -> Told
         ensures { λ r. ⌜ called (r .tuner) [] (r .count) (r .answer)
             ≡ called (withCorrected self (keptPpm (self .nominal) (self .corrected) ppm)) [] 0 (ppmAnswer (self .nominal) (self .corrected) ppm) ⌝ }
     {
-        let n = self.nominal;
-        let c = self.corrected;
-        self.corrected = kept_ppm(n, c, ppm);
+        let answer = set_ppm(&mut self, ppm);
         Told {
             tuner: self,
-            answer: ppm_answer(n, c, ppm),
+            answer: answer,
             count: 0,
         }
     }
 
-    // `apply_notch` over a record by value.
+    // `apply_notch`, likewise.
     pub fn with_notch(mut self, on: bool) -> Told
         ensures { λ r. ⌜ called (r .tuner) [] (r .count) (r .answer)
             ≡ called (withNotch self (keptNotch (self .nominal) (self .corrected) (self .notch) on)) [] 0 (soundAnswer (self .nominal) (self .corrected) 0) ⌝ }
     {
-        let n = self.nominal;
-        let c = self.corrected;
-        self.notch = kept_notch(n, c, self.notch, on);
+        let answer = apply_notch(&mut self, on);
         Told {
             tuner: self,
-            answer: sound_answer(n, c, 0),
+            answer: answer,
             count: 0,
         }
     }

@@ -9,11 +9,11 @@ use compare::Verdict;
 pub fn plan_tuning(c: &[u8]) -> Verdict {
     let number = layout::eight(c, layout::C);
     let n = layout::two(c, layout::ROOM);
-    if 255 < number || 1024 < n {
+    if 1024 < n {
         return Verdict::Differ;
     }
     let mut out = [0xa5u8; 1024];
-    let a = answers::plan_tuning(number as u8, layout::eight(c, layout::A), &mut out[0..n]);
+    let a = answers::plan_tuning(number, layout::eight(c, layout::A), &mut out[0..n]);
     handed::answered(c, a, &out, n)
 }
 

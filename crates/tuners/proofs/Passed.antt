@@ -1,11 +1,11 @@
 -- What each call over bytes comes to: refused before its steps, or made and handed back. One law serves all calls with steps.
 -- Assumes nothing.
-use Prim.Native.Nat.{ℕ, _<_, _≤_}
+use Prim.Native.Nat.{ℕ, _<_, _≤_, _^_}
 use mathlib.Core.Path.{_≡_, refl, sym, ap, _∙_}
 use mathlib.Core.Bool.{Bool, true, false}
 use mathlib.Core.List.{List}
 use native.Mathlib.Omega.{arith}
-use borrow.Author.Tests.{eq-eqb, ne-eqb, lt-ltb, le-ltb, ltb-false}
+use borrow.Author.Tests.{eq-eqb, eqb-true, ne-eqb, lt-ltb, le-ltb, ltb-false}
 use lib.Dec.{eqb, ltb}
 use lib.ListN.{length}
 use lib.Seq.{sets}
@@ -17,7 +17,7 @@ use Rattle.records.specs.declared.TunerRead.{TunerRead}
 use Rattle.records.specs.Tuners.{tunerBytes, tunerOf}
 use Rattle.replies.specs.declared.Reply.{Reply}
 use Rattle.replies.specs.Replies.{replyOf}
-use Rattle.tuners.specs.Over.{After, after, handed, keptOf, nextOf, overTuner, readyOf, refusal, unlessRefused}
+use Rattle.tuners.specs.Over.{After, after, handed, keptOf, nextOf, overTuner, pathRefusal, readyOf, refusal, unlessRefused}
 
 -- where nothing is refused, the slice has the bytes that are written
 room-fits : (b : Bool) (next need : ℕ) → ltb next need ≡ b → pickN b 8 0 ≡ 0 → need ≤ next
@@ -35,6 +35,23 @@ pub fits : (ok : Bool) (argument next need : ℕ) → readyOf ok argument next n
 unfolding readyOf
 fits false argument next need e = absurd (omega (arith, e))
 fits true argument next need e = then-fits (eqb argument 0) argument next need refl e
+
+-- where nothing is refused, a path's number is a byte
+then-none : (b : Bool) (argument next need : ℕ) → eqb argument 0 ≡ b → pickN b (pickN (ltb next need) 8 0) argument ≡ 0 → argument ≡ 0
+then-none true argument next need t e = eqb-true argument 0 t
+then-none false argument next need t e = e
+
+path-named : (b : Bool) (path : ℕ) → ltb 2 path ≡ b → pickN b 1 0 ≡ 0 → path < 2 ^ 8
+path-named true path t e = absurd (omega (arith, e))
+path-named false path t e = omega (arith, ltb-false 2 path t)
+
+none-asked : (ok : Bool) (argument next need : ℕ) → readyOf ok argument next need ≡ 0 → argument ≡ 0
+unfolding readyOf
+none-asked false argument next need e = absurd (omega (arith, e))
+none-asked true argument next need e = then-none (eqb argument 0) argument next need refl e
+
+pub path-byte : (ok : Bool) (path k n next need : ℕ) → k ≡ pathRefusal path → n ≡ readyOf ok k next need → n ≡ 0 → path < 2 ^ 8
+path-byte ok path k n next need asked said z = path-named (ltb 2 path) path refl (sym asked ∙ none-asked ok k next need (sym said ∙ z))
 
 -- the four ways of `ready`
 module _ (ok : Bool) (argument next need : ℕ) where

@@ -72,8 +72,8 @@ pub fn hand(told: Told, next: &mut [u8]) -> Reply
     replies::numbers(answer, told.count)
 }
 
-// A number that names no path is refused 1.
-pub fn path_refusal(path: u8) -> u8
+// A number that names no path is refused 1; what is left is a byte.
+pub fn path_refusal(path: u64) -> u8
     ensures { λ r. ⌜ r ≡ pathRefusal path ⌝ }
 {
     if 2 < path {
@@ -186,7 +186,7 @@ pub fn set_gain_by_index(
 
 pub fn set_input_path(
     tuner: &[u8],
-    path: u8,
+    path: u64,
     outcomes: &[u8],
     room: &mut [u8],
     next: &mut [u8],
@@ -200,7 +200,7 @@ pub fn set_input_path(
     if number != 0 {
         return refuse(number);
     }
-    let told = given.set_input_path(path, outcomes, room);
+    let told = given.set_input_path(path as u8, outcomes, room);
     hand(told, next)
 }
 

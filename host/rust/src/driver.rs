@@ -28,7 +28,7 @@ impl Board {
     pub fn plan_tuning(self, hz: u64) -> Plan {
         let mut out = [0; 3];
         // SAFETY: see raw.rs. Board and slice are as they must be, so this is not refused.
-        let reply = unsafe { raw::pasetone_plan_tuning(self as u8, hz, out.as_mut_ptr(), out.len()) };
+        let reply = unsafe { raw::pasetone_plan_tuning(self as u64, hz, out.as_mut_ptr(), out.len()) };
         let path = match out[1] {
             0 => Some(InputPath::Hf),
             1 => Some(InputPath::Vhf),

@@ -106,7 +106,7 @@ unsafe extern "C" {
     pub fn pasetone_set_input_path(
         tuner: Bytes,
         t: usize,
-        path: u8,
+        path: u64,
         outcomes: Bytes,
         o: usize,
         room: BytesMut,
@@ -141,7 +141,7 @@ unsafe extern "C" {
     pub fn pasetone_apply_input_path(
         tuner: Bytes,
         t: usize,
-        path: u8,
+        path: u64,
         outcomes: Bytes,
         o: usize,
         replies: Bytes,
@@ -172,7 +172,7 @@ unsafe extern "C" {
         room: BytesMut,
         r: usize,
     ) -> Reply;
-    pub fn pasetone_plan_tuning(board: u8, hz: u64, out: BytesMut, n: usize) -> Reply;
+    pub fn pasetone_plan_tuning(board: u64, hz: u64, out: BytesMut, n: usize) -> Reply;
     pub fn pasetone_if_freq_regs(hz: u32, xtal: u32, out: BytesMut, n: usize) -> Reply;
     pub fn pasetone_resample_regs(rate: u32, xtal: u32, out: BytesMut, n: usize) -> Reply;
     pub fn pasetone_pack_fir(values: Bytes, v: usize, out: BytesMut, n: usize) -> Reply;

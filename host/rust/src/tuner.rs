@@ -205,7 +205,7 @@ impl Tuner {
         // SAFETY: see raw.rs.
         unit(self.operate(4, |t, room, next| unsafe {
             #[rustfmt::skip]
-            let reply = raw::pasetone_set_input_path(t.as_ptr(), t.len(), path as u8, o.as_ptr(), o.len(),
+            let reply = raw::pasetone_set_input_path(t.as_ptr(), t.len(), path as u64, o.as_ptr(), o.len(),
                 room.as_mut_ptr(), room.len(), next.as_mut_ptr(), next.len());
             reply
         }))
@@ -223,7 +223,7 @@ impl Tuner {
         // SAFETY: see raw.rs.
         unit(self.operate(10, |t, room, next| unsafe {
             #[rustfmt::skip]
-            let reply = raw::pasetone_apply_input_path(t.as_ptr(), t.len(), path as u8, o.as_ptr(), o.len(), p.as_ptr(), p.len(),
+            let reply = raw::pasetone_apply_input_path(t.as_ptr(), t.len(), path as u64, o.as_ptr(), o.len(), p.as_ptr(), p.len(),
                 room.as_mut_ptr(), room.len(), next.as_mut_ptr(), next.len());
             reply
         }))

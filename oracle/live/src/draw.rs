@@ -166,10 +166,9 @@ fn fit(case: &mut Case) {
     match case.call {
         1 => case.c &= byte,
         4 | 6 | 19 | 27 | 28 | 34 | 35 => (case.a, case.b) = (case.a & word, case.b & word),
-        8 | 11 | 20 | 31 | 32 => (case.a, case.b) = (case.a & byte, case.b & byte),
+        11 | 31 | 32 => (case.a, case.b) = (case.a & byte, case.b & byte),
         12 => (case.a, case.b, case.c) = (case.a & byte, case.b & byte, case.c & byte),
         26 => (case.a, case.b, case.c) = (case.a & byte, case.b & u16::MAX as u64, case.c & byte),
-        33 => case.c &= byte,
         _ => {}
     }
 }

@@ -101,7 +101,7 @@ pub fn arguments(case: &mut Case, dice: &mut Dice) {
         5 => case.a = near(dice, &[0, 28, 256, 1 << 32, u64::MAX]),
         6 => case.a = near(dice, &[0, 6 * MHZ, 7 * MHZ, (1 << 32) - 3]),
         7 => case.a = near(dice, &[0, 3_500_000, 1 << 58, u64::MAX]),
-        8 | 20 => case.a = dice.pick(&[0, 1, 2, 3, 4, 255]),
+        8 | 20 => case.a = dice.pick(&[0, 1, 2, 3, 4, 255, 256, u64::MAX]),
         10 => case.d = ppm(dice, Tuner::read(&case.tuner).map_or(1, |tuner| tuner.nominal as u64)),
         11 => case.a = dice.pick(&[0, 1, 2, 255]),
         12 => case.a = dice.pick(&[0, 4, 5, 6, 0x1e, 0x1f, 0x20, 0x21, 0x80, 255]),
@@ -115,7 +115,7 @@ pub fn arguments(case: &mut Case, dice: &mut Dice) {
         27 | 34 => (case.a, case.b) = (near(dice, &[0, 3_570_000, 28_800_000, 1 << 32]), xtal(dice)),
         28 | 35 => (case.a, case.b) = (rate(dice), xtal(dice)),
         31 | 32 => (case.a, case.b) = (dice.pick(&[7, 8, 9, 16, 128, 255]), dice.pick(&[0, 1, 2, 255])),
-        33 => (case.a, case.c) = (near(dice, &BANDS), dice.pick(&[0, 1, 1, 1, 2, 255])),
+        33 => (case.a, case.c) = (near(dice, &BANDS), dice.pick(&[0, 1, 1, 1, 2, 255, 256, u64::MAX])),
         _ => {}
     }
 }

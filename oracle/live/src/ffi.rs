@@ -38,7 +38,7 @@ unsafe extern "C" {
     pub fn pasetone_set_gain_by_index(tuner: In, tn: N, index: u64, outcomes: In, on: N, room: Out, mn: N, next: Out, nn: N) -> Reply;
     pub fn pasetone_set_bandwidth(tuner: In, tn: N, hz: u32, outcomes: In, on: N, room: Out, mn: N, next: Out, nn: N) -> Reply;
     pub fn pasetone_set_if_freq(tuner: In, tn: N, hz: u64, outcomes: In, on: N, room: Out, mn: N, next: Out, nn: N) -> Reply;
-    pub fn pasetone_set_input_path(tuner: In, tn: N, path: u8, outcomes: In, on: N, room: Out, mn: N, next: Out, nn: N) -> Reply;
+    pub fn pasetone_set_input_path(tuner: In, tn: N, path: u64, outcomes: In, on: N, room: Out, mn: N, next: Out, nn: N) -> Reply;
     pub fn pasetone_reload(tuner: In, tn: N, outcomes: In, on: N, room: Out, mn: N, next: Out, nn: N) -> Reply;
     pub fn pasetone_update_shadow(tuner: In, tn: N, register: u8, value: u8, mask: u8, next: Out, nn: N) -> Reply;
     pub fn pasetone_get_gain(tuner: In, tn: N) -> Reply;
@@ -49,7 +49,7 @@ unsafe extern "C" {
     pub fn pasetone_driver_set_ppm(driver: In, dn: N, ppm: i32, next: Out, nn: N) -> Reply;
     pub fn pasetone_corrected_xtal_hz(driver: In, dn: N) -> Reply;
     pub fn pasetone_set_sample_rate(driver: In, dn: N, tuner: In, tn: N, rate: u32, outcomes: In, on: N, room: Out, mn: N, next_driver: Out, qn: N, next_tuner: Out, nn: N) -> Reply;
-    pub fn pasetone_apply_input_path(tuner: In, tn: N, path: u8, outcomes: In, on: N, replies: In, rn: N, room: Out, mn: N, next: Out, nn: N) -> Reply;
+    pub fn pasetone_apply_input_path(tuner: In, tn: N, path: u64, outcomes: In, on: N, replies: In, rn: N, room: Out, mn: N, next: Out, nn: N) -> Reply;
     pub fn pasetone_init_baseband(outcomes: In, on: N, room: Out, mn: N) -> Reply;
     pub fn pasetone_power_on(outcomes: In, on: N, room: Out, mn: N) -> Reply;
     pub fn pasetone_reset_demod(outcomes: In, on: N, room: Out, mn: N) -> Reply;
@@ -62,7 +62,7 @@ unsafe extern "C" {
     pub fn pasetone_set_sample_rate_xtal(rate: u32, xtal: u32, outcomes: In, on: N, room: Out, mn: N) -> Reply;
     pub fn pasetone_set_gpio_output(gpio: u8, outcomes: In, on: N, replies: In, rn: N, room: Out, mn: N) -> Reply;
     pub fn pasetone_set_gpio_bit(gpio: u8, value: u8, outcomes: In, on: N, replies: In, rn: N, room: Out, mn: N) -> Reply;
-    pub fn pasetone_plan_tuning(board: u8, hz: u64, out: Out, mn: N) -> Reply;
+    pub fn pasetone_plan_tuning(board: u64, hz: u64, out: Out, mn: N) -> Reply;
     pub fn pasetone_if_freq_regs(hz: u32, xtal: u32, out: Out, mn: N) -> Reply;
     pub fn pasetone_resample_regs(rate: u32, xtal: u32, out: Out, mn: N) -> Reply;
     pub fn pasetone_pack_fir(values: In, vn: N, out: Out, mn: N) -> Reply;

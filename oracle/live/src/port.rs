@@ -75,10 +75,10 @@ fn on_record(c: &Case, f: &mut Found) -> Reply {
             5 => pasetone_set_gain_by_index(t, tn, c.a, o, on, m, mn, n, nn),
             6 => pasetone_set_bandwidth(t, tn, c.a as u32, o, on, m, mn, n, nn),
             7 => pasetone_set_if_freq(t, tn, c.a, o, on, m, mn, n, nn),
-            8 => pasetone_set_input_path(t, tn, c.a as u8, o, on, m, mn, n, nn),
+            8 => pasetone_set_input_path(t, tn, c.a, o, on, m, mn, n, nn),
             9 => pasetone_reload(t, tn, o, on, m, mn, n, nn),
             19 => pasetone_set_sample_rate(d, dn, t, tn, c.a as u32, o, on, m, mn, q, qn, n, nn),
-            _ => pasetone_apply_input_path(t, tn, c.a as u8, o, on, r, rn, m, mn, n, nn),
+            _ => pasetone_apply_input_path(t, tn, c.a, o, on, r, rn, m, mn, n, nn),
         }
     }
 }
@@ -107,7 +107,7 @@ fn leaf(c: &Case, f: &mut Found) -> Reply {
     let ((i, n), (m, mn)) = (f.input.slice(), f.room.slice());
     unsafe {
         match c.call {
-            33 => pasetone_plan_tuning(c.c as u8, c.a, m, mn),
+            33 => pasetone_plan_tuning(c.c, c.a, m, mn),
             34 => pasetone_if_freq_regs(c.a as u32, c.b as u32, m, mn),
             35 => pasetone_resample_regs(c.a as u32, c.b as u32, m, mn),
             36 => pasetone_pack_fir(i, n, m, mn),

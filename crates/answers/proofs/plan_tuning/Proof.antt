@@ -2,13 +2,24 @@
 -- Assumes nothing.
 use mathlib.Core.List.{[], _∷_}
 use mathlib.Core.Path.{sym, ap, _∙_}
+use native.Mathlib.Omega.{arith}
 use borrow.Author.Needs.{needs}
 use denote.Ref.{now}
 use Rattle.board.specs.declared.Plan.{Plan}
 use Rattle.board.specs.declared.BoardRead.{BoardRead}
+use Rattle.board.proofs.Numbers.{no-board}
 use Rattle.answers.specs.Lent.{lentTo, planBytes, planInto}
 use Rattle.answers.proofs.plan_tuning.Statement.{statement}
 use Rattle.answers.proofs.plan_tuning.Tie as tie
+
+returns : tie.Need-returns
+unfolding planInto
+returns c =
+    let a = c .before .before .args in
+    ap (λ (b : BoardRead). planInto b (a .hz) (now (a .out))) (no-board (a .board) (omega arith))
+
+cast-board-of : tie.Need-cast-board-of
+cast-board-of c = search needs
 
 board-of-requires : tie.Need-board-of-requires
 board-of-requires c κs = search needs
@@ -19,10 +30,10 @@ enum-known-b c = search needs
 enum-told : tie.Need-enum-told
 enum-told c = search needs
 
-returns : tie.Need-returns
+returns-2 : tie.Need-returns-2
 unfolding planInto
-returns c =
-    let a = c .before .before .before .before .args in
+returns-2 c =
+    let a = c .before .before .before .before .before .args in
     ap (λ (b : BoardRead). planInto b (a .hz) (now (a .out))) (sym (c .enum-told .given .1) ∙ c .before .before .board-of .ensures)
 
 plan-tuning-requires : tie.Need-plan-tuning-requires
@@ -46,10 +57,10 @@ lend-requires c κs = search needs
 same-length : tie.Need-same-length
 same-length c = search needs
 
-returns-2 : tie.Need-returns-2
+returns-3 : tie.Need-returns-3
 unfolding planInto
-returns-2 c =
-    let a = c .before .before .before .before .before .before .before .before .before .before .before .before .before .before .args in
+returns-3 c =
+    let a = c .before .before .before .before .before .before .before .before .before .before .before .before .before .before .before .args in
     let p = c .before .before .before .before .before .before .before .before .plan-tuning .result in
     c .before .before .lend .ensures
     ∙ (λ i. lentTo 0 (p .hz) (c .before .before .before .before .before .before .before .bit .ensures i ∷ c .before .before .before .before .before .before .route-number .ensures i ∷ c .before .before .before .before .before .bit2 .ensures i ∷ []) (now (a .out)))
@@ -60,10 +71,12 @@ pub plan-tuning-spec : {M : Type 1} → statement M
 plan-tuning-spec =
     tie.close
     (tie.spec
+    returns
+    cast-board-of
     board-of-requires
     enum-known-b
     enum-told
-    returns
+    returns-2
     plan-tuning-requires
     bit-requires
     route-number-requires
@@ -71,4 +84,4 @@ plan-tuning-spec =
     slice-aggregate-lend
     lend-requires
     same-length
-    returns-2)
+    returns-3)

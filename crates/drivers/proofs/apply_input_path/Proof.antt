@@ -5,7 +5,7 @@ use native.Mathlib.Omega.{arith}
 use denote.Ref.{now}
 use Rattle.driver.specs.Calls.{boardPathCall}
 use Rattle.tuners.specs.Over.{pathRefusal}
-use Rattle.tuners.proofs.Passed.{fits, handed-back, refused-by}
+use Rattle.tuners.proofs.Passed.{fits, handed-back, path-byte, refused-by}
 use borrow.Author.Needs.{needs}
 use Rattle.drivers.proofs.apply_input_path.Statement.{statement}
 use Rattle.drivers.proofs.apply_input_path.Tie as tie
@@ -24,6 +24,9 @@ refuse-requires c κs = search needs
 
 returns : tie.Need-returns
 returns c = refused-by (λ t. pathRefusal (c .before .before .before .before .before .before .before .before .before .before .before .args .path)) (boardPathCall (now (c .before .before .before .before .before .before .before .before .before .before .before .args .outcomes)) (now (c .before .before .before .before .before .before .before .before .before .before .before .args .replies)) (c .before .before .before .before .before .before .before .before .before .before .before .args .path)) (now (c .before .before .before .before .before .before .before .before .before .before .before .args .tuner)) (now (c .before .before .before .before .before .before .before .before .before .before .before .args .room)) (now (c .before .before .before .before .before .before .before .before .before .before .before .args .next)) _ (c .before .before .before .path-refusal .result) _ (c .before .before .before .before .before .decode-tuner .ensures) (c .before .before .before .path-refusal .ensures) (c .before .before .ready .ensures) _ (λ z. omega arith) (c .refuse .ensures)
+
+cast-apply-input-path : tie.Need-cast-apply-input-path
+cast-apply-input-path c = record { fits = path-byte _ _ _ _ _ _ (c .before .before .path-refusal .ensures) (c .before .ready .ensures) (omega arith) }
 
 apply-input-path-requires : tie.Need-apply-input-path-requires
 apply-input-path-requires c κs = search needs
@@ -49,6 +52,7 @@ apply-input-path-spec =
     ready-requires
     refuse-requires
     returns
+    cast-apply-input-path
     apply-input-path-requires
     hand-requires
     same-length

@@ -6,7 +6,7 @@ use borrow.Author.Needs.{needs}
 use denote.Ref.{now}
 use Rattle.r82xx.specs.Calls.{pathCall}
 use Rattle.tuners.specs.Over.{pathRefusal}
-use Rattle.tuners.proofs.Passed.{fits, handed-back, refused-by}
+use Rattle.tuners.proofs.Passed.{fits, handed-back, path-byte, refused-by}
 use Rattle.tuners.proofs.set_input_path.Statement.{statement}
 use Rattle.tuners.proofs.set_input_path.Tie as tie
 
@@ -24,6 +24,9 @@ refuse-requires c κs = search needs
 
 returns : tie.Need-returns
 returns c = refused-by (λ t. pathRefusal (c .before .before .before .before .before .before .before .before .before .before .args .path)) (pathCall (now (c .before .before .before .before .before .before .before .before .before .before .args .outcomes)) (c .before .before .before .before .before .before .before .before .before .before .args .path)) (now (c .before .before .before .before .before .before .before .before .before .before .args .tuner)) (now (c .before .before .before .before .before .before .before .before .before .before .args .room)) (now (c .before .before .before .before .before .before .before .before .before .before .args .next)) _ (c .before .before .before .path-refusal .result) _ (c .before .before .before .before .before .decode-tuner .ensures) (c .before .before .before .path-refusal .ensures) (c .before .before .ready .ensures) _ (λ z. omega arith) (c .refuse .ensures)
+
+cast-set-input-path : tie.Need-cast-set-input-path
+cast-set-input-path c = record { fits = path-byte _ _ _ _ _ _ (c .before .before .path-refusal .ensures) (c .before .ready .ensures) (omega arith) }
 
 set-input-path-requires : tie.Need-set-input-path-requires
 set-input-path-requires c κs = search needs
@@ -49,6 +52,7 @@ set-input-path-spec =
     ready-requires
     refuse-requires
     returns
+    cast-set-input-path
     set-input-path-requires
     hand-requires
     same-length

@@ -16,7 +16,7 @@ same-length c = search needs
 
 returns : tie.Need-returns
 unfolding bandwidthCall
-returns c = bracket-by _ _ _ _ _ _ _ _ _ _ (c .before .before .before .before .bandwidth-updates .ensures .0) (c .before .before .operate .ensures)
+returns c = bracket-by _ _ _ _ _ _ _ _ _ _ (c .before .before .before .before .before .bandwidth-updates .ensures .0) (c .before .before .before .operate .ensures)
 
 pub set-bandwidth-spec : {M : Type 1} → statement M
 set-bandwidth-spec =

@@ -39,7 +39,7 @@ same-length : tie.Need-same-length
 same-length c = search needs
 
 returns-3 : tie.Need-returns-3
-returns-3 c = path-by _ _ _ _ _ _ _ _ (sym (c .before .before .before .before .before .before .before .before .before .before .path-of .ensures) ∙ c .before .before .before .before .before .before .before .before .by .given .1) (c .before .before .before .before .before .enum-told3 .given .1) (c .before .before .before .before .path-updates .ensures .0) (c .before .before .operate .ensures)
+returns-3 c = path-by _ _ _ _ _ _ _ _ (sym (c .before .before .before .before .before .before .before .before .before .before .before .path-of .ensures) ∙ c .before .before .before .before .before .before .before .before .before .by .given .1) (c .before .before .before .before .before .before .enum-told3 .given .1) (c .before .before .before .before .before .path-updates .ensures .0) (c .before .before .before .operate .ensures)
 
 pub set-input-path-spec : {M : Type 1} → statement M
 set-input-path-spec =

@@ -1,19 +1,33 @@
--- `r82xx::Tuner::with_notch` meets its contract. Each return is one law of the definition, with what the calls before it ensure. Assumes nothing.
-use mathlib.Core.List.{[]}
-use Rattle.chip.specs.Calls.{called}
+-- `r82xx::Tuner::with_notch` meets its contract: the walk of Lending.antt, at what `apply_notch` leaves and answers.
+-- Assumes nothing.
+use mathlib.Core.Bool.{Bool}
+use mir.Syntax.{tyBool}
+use mir.Val.{vbool}
+use contract.Running.{givenOf, tables, tablesOf}
+use denote.Builtin.{bool}
+use denote.Plain.{bool-lawful, bool-makes, bool-tells}
+use denote.Triple.Spec.{tripleOf}
+use denote.Triple.Table.{entered, cited}
+use Rattle.r82xx.specs.declared.Tuner.{Tuner}
 use Rattle.r82xx.specs.Record.{withNotch}
-use borrow.Author.Needs.{needs}
+use Rattle.r82xx.specs.Calls.{keptNotch, soundAnswer}
+use Rattle.r82xx.proofs.Lending.{meets}
+use Rattle.r82xx.proofs.apply_notch as set
+use Rattle.r82xx.proofs.apply_notch.Symbol as set-def
+use Rattle.r82xx.proofs.apply_notch.Symbol.{name as #r82xx·apply-notch}
+use Rattle.r82xx.proofs.apply_notch.Met as set-thm
+use Rattle.r82xx.proofs.Tuner.with_notch.Key.{name as #r82xx·Tuner·with-notch}
+use Rattle.r82xx.proofs.Tuner.with_notch as f
 use Rattle.r82xx.proofs.Tuner.with_notch.Statement.{statement}
-use Rattle.r82xx.proofs.Tuner.with_notch.Tie as tie
-
-kept-notch-requires : tie.Need-kept-notch-requires
-kept-notch-requires c κs = search needs
-
-sound-answer-requires : tie.Need-sound-answer-requires
-sound-answer-requires c κs = search needs
-
-returns : tie.Need-returns
-returns c = λ i. called (withNotch (c .before .before .args .self) (c .before .kept-notch .ensures i)) [] 0 (c .sound-answer .ensures i)
+use Rattle.r82xx.proofs.Tuner.with_notch.Code as code
 
 pub with-notch-spec : {M : Type 1} → statement M
-with-notch-spec = tie.close (tie.spec kept-notch-requires sound-answer-requires returns)
+unfolding code.routine tablesOf
+with-notch-spec 𝓤 H 𝓜 𝓖 𝓡 =
+    entered 𝓤 H (tripleOf 𝓤 H (𝓖 .A) f.signature (f.spec 𝓤 H (𝓖 .A) (𝓜 .mem) (𝓡 .run)))
+    (tables 𝓤 H 𝓜 𝓡 code.env .C) (tables 𝓤 H 𝓜 𝓡 code.env .Λ) #r82xx·Tuner·with-notch code.function (code.unfolded 𝓤 H 𝓜 𝓡)
+    (meets bool tyBool vbool bool-tells
+    (λ (t : Tuner) (on : Bool). withNotch t (keptNotch (t .nominal) (t .corrected) (t .notch) on)) (λ (t : Tuner) (on : Bool). soundAnswer (t .nominal) (t .corrected) 0)
+    #r82xx·apply-notch 𝓤 H (𝓖 .A) (givenOf 𝓤 H 𝓜 𝓖) (bool-makes 𝓤 H (𝓖 .A) (givenOf 𝓤 H 𝓜 𝓖)) (λ on is. bool-lawful 𝓤 H (𝓖 .A) (givenOf 𝓤 H 𝓜 𝓖) .typed on _ is .0)
+    (tablesOf 𝓤 H 𝓜 (tables 𝓤 H 𝓜 𝓡 code.env))
+    (cited 𝓤 H (tripleOf 𝓤 H (𝓖 .A) set.signature (set.spec 𝓤 H (𝓖 .A) (𝓜 .mem) (𝓡 .run))) 𝓜 𝓡 code.env #r82xx·apply-notch set-def.routine code.calls-r82xx·apply-notch (set-thm.met 𝓤 H 𝓜 𝓖 𝓡)))

@@ -1,22 +1,33 @@
--- `r82xx::Tuner::with_ppm` meets its contract. Each return is one law of the definition, with what the calls before it ensure. Assumes nothing.
-use mathlib.Core.List.{[]}
-use mir.Facts.{toZ-ofZ}
-use Rattle.chip.specs.Calls.{called}
+-- `r82xx::Tuner::with_ppm` meets its contract: the walk of Lending.antt, at what `set_ppm` leaves and answers.
+-- Assumes nothing.
+use lib.IntN.{ℤ}
+use mir.Syntax.{tyInt, w32}
+use mir.Val.{ofZ, vint}
+use contract.Running.{givenOf, tables, tablesOf}
+use denote.Builtin.{i32}
+use denote.Signed.{sint-lawful, sint-makes, sint-tells}
+use denote.Triple.Spec.{tripleOf}
+use denote.Triple.Table.{entered, cited}
+use Rattle.r82xx.specs.declared.Tuner.{Tuner}
 use Rattle.r82xx.specs.Record.{withCorrected}
-use mathlib.Core.Path.{ap, _∙_}
 use Rattle.r82xx.specs.Calls.{keptPpm, ppmAnswer}
-use borrow.Author.Needs.{needs}
+use Rattle.r82xx.proofs.Lending.{meets}
+use Rattle.r82xx.proofs.set_ppm as set
+use Rattle.r82xx.proofs.set_ppm.Symbol as set-def
+use Rattle.r82xx.proofs.set_ppm.Symbol.{name as #r82xx·set-ppm}
+use Rattle.r82xx.proofs.set_ppm.Met as set-thm
+use Rattle.r82xx.proofs.Tuner.with_ppm.Key.{name as #r82xx·Tuner·with-ppm}
+use Rattle.r82xx.proofs.Tuner.with_ppm as f
 use Rattle.r82xx.proofs.Tuner.with_ppm.Statement.{statement}
-use Rattle.r82xx.proofs.Tuner.with_ppm.Tie as tie
-
-kept-ppm-requires : tie.Need-kept-ppm-requires
-kept-ppm-requires c κs = search needs
-
-ppm-answer-requires : tie.Need-ppm-answer-requires
-ppm-answer-requires c κs = search needs
-
-returns : tie.Need-returns
-returns c = λ i. called (withCorrected (c .before .before .args .self) ((c .before .kept-ppm .ensures ∙ ap (keptPpm (c .before .before .args .self .nominal) (c .before .before .args .self .corrected)) (toZ-ofZ (c .before .before .fits .ppm))) i)) [] 0 ((c .ppm-answer .ensures ∙ ap (ppmAnswer (c .before .before .args .self .nominal) (c .before .before .args .self .corrected)) (toZ-ofZ (c .before .before .fits .ppm))) i)
+use Rattle.r82xx.proofs.Tuner.with_ppm.Code as code
 
 pub with-ppm-spec : {M : Type 1} → statement M
-with-ppm-spec = tie.close (tie.spec kept-ppm-requires ppm-answer-requires returns)
+unfolding code.routine tablesOf
+with-ppm-spec 𝓤 H 𝓜 𝓖 𝓡 =
+    entered 𝓤 H (tripleOf 𝓤 H (𝓖 .A) f.signature (f.spec 𝓤 H (𝓖 .A) (𝓜 .mem) (𝓡 .run)))
+    (tables 𝓤 H 𝓜 𝓡 code.env .C) (tables 𝓤 H 𝓜 𝓡 code.env .Λ) #r82xx·Tuner·with-ppm code.function (code.unfolded 𝓤 H 𝓜 𝓡)
+    (meets i32 (tyInt w32) (λ z. vint w32 (ofZ w32 z)) (sint-tells w32)
+    (λ (t : Tuner) (ppm : ℤ). withCorrected t (keptPpm (t .nominal) (t .corrected) ppm)) (λ (t : Tuner) (ppm : ℤ). ppmAnswer (t .nominal) (t .corrected) ppm)
+    #r82xx·set-ppm 𝓤 H (𝓖 .A) (givenOf 𝓤 H 𝓜 𝓖) (sint-makes 𝓤 H (𝓖 .A) (givenOf 𝓤 H 𝓜 𝓖) w32) (λ z is. sint-lawful 𝓤 H (𝓖 .A) (givenOf 𝓤 H 𝓜 𝓖) w32 .typed z _ is .0)
+    (tablesOf 𝓤 H 𝓜 (tables 𝓤 H 𝓜 𝓡 code.env))
+    (cited 𝓤 H (tripleOf 𝓤 H (𝓖 .A) set.signature (set.spec 𝓤 H (𝓖 .A) (𝓜 .mem) (𝓡 .run))) 𝓜 𝓡 code.env #r82xx·set-ppm set-def.routine code.calls-r82xx·set-ppm (set-thm.met 𝓤 H 𝓜 𝓖 𝓡)))
