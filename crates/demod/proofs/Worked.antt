@@ -3,23 +3,23 @@
 use mathlib.Core.Path.{_≡_, refl}
 use mathlib.Core.List.{List, [], _∷_}
 use Rattle.chip.specs.Steps.Step.{Plain}
-use Rattle.device.specs.Accesses.{demodWrite, demodWrite16}
+use Rattle.device.specs.Accesses.{accessStep, demodWrite, demodWrite16}
 use Rattle.fir.specs.Packing.{packOf}
 use Rattle.registers.specs.Rates.{sentOf}
 use Rattle.demod.specs.Programs.{firSteps, ifSteps, rateSteps, upward}
 
 pub if-worked : ifSteps 3_570_000 28_800_000 ≡ Plain (demodWrite 1 0x19 0x38) ∷ Plain (demodWrite 1 0x1a 0x11) ∷ Plain (demodWrite 1 0x1b 0x12) ∷ []
-unfolding ifSteps
+unfolding accessStep ifSteps
 if-worked = refl
 
 pub rate-worked : rateSteps 2_048_000 28_800_000
     ≡ Plain (demodWrite16 1 0x9f 0x0384) ∷ Plain (demodWrite16 1 0xa1 0x0000) ∷ Plain (demodWrite 1 0x3f 0) ∷ Plain (demodWrite 1 0x3e 0) ∷ []
-unfolding rateSteps sentOf
+unfolding accessStep rateSteps sentOf
 rate-worked = refl
 
 pub rate-cut : rateSteps 225_000 28_800_000
     ≡ Plain (demodWrite16 1 0x9f 0) ∷ Plain (demodWrite16 1 0xa1 0) ∷ Plain (demodWrite 1 0x3f 0) ∷ Plain (demodWrite 1 0x3e 0) ∷ []
-unfolding rateSteps sentOf
+unfolding accessStep rateSteps sentOf
 rate-cut = refl
 
 pub fir-worked : firSteps
