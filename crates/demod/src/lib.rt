@@ -40,6 +40,8 @@ use registers::demod::P1_SOFT_RESET_ON;
 use registers::sys;
 use registers::usb;
 
+pub const DEFAULT_SAMPLE_RATE: u32 = 2_048_000;
+
 // `reset_demod`'s accesses.
 const RESET: [Access; 10] = [
     Access(DEMOD, P1_PAGE, P1_SOFT_RESET, P1_SOFT_RESET_ON as u16),
