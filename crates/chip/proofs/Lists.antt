@@ -1,6 +1,6 @@
 -- Programs that are lists of one kind of step, worked off one by one: what is left, turn by turn. One law serves updates and accesses.
 -- Assumes nothing.
-use Prim.Native.Nat.{ℕ, zero, suc, _+_, _≤_, _<_}
+use Prim.Native.Nat.{ℕ, zero, suc, _+_, _-_, _≤_, _<_}
 use mathlib.Core.Path.{_≡_, refl, sym, ap, _∙_}
 use mathlib.Core.Bool.{Bool, true, false, _&&_}
 use mathlib.Core.List.{List, [], _∷_, map}
@@ -9,12 +9,12 @@ use native.Mathlib.Numerals.{add-one}
 use native.Mathlib.Nat.{le-of-suc-le-suc}
 use borrow.Author.Tests.{leb-true}
 use lib.Dec.{leb}
-use lib.ListN.{length, getD, take, drop, drop-of-length-le, length-take}
-use lib.Seq.{drop-cons, getD-take, length-take-le}
+use lib.ListN.{length, getD, take, drop, drop-of-length-le, length-take, replicate}
+use lib.Seq.{drop-cons, getD-take, length-take-le, take-at}
 use Rattle.transcript.specs.declared.Entry.{Entry}
 use Rattle.chip.specs.declared.Update.{Update}
 use Rattle.chip.specs.Chips.{pair}
-use Rattle.chip.specs.Steps.{Step, Line, every, inRange, inner, run, step, updateStep}
+use Rattle.chip.specs.Steps.{Step, Line, allIn, every, filler, inRange, inner, padded, run, sixteen, step, updateStep}
 use Rattle.chip.specs.Steps.Step.{Send, Mask, Plain}
 use Rattle.chip.proofs.Laws.{and-left, and-right}
 
@@ -32,6 +32,13 @@ pub every-take : {A : Type 0} (p : A → Bool) (l : List A) (n i : ℕ) (d : A) 
 every-take p l n i d h k e =
     let there : i < length (take n l) = rw (length-take-le n l k) h in
     ap p (sym (getD-take n l i d h)) ∙ every-at p (take n l) i d there e
+
+-- of an array the list that is meant, without the fillers
+pub meant : {A : Type 0} (xs : List A) (m n : ℕ) (a : A) (r : List A) → length xs ≡ n → r ≡ padded m a xs → take n r ≡ xs
+meant xs m n a r l e = ap (take n) e ∙ take-at xs (replicate (m - length xs) a) n l
+
+pub meant-in : (us : List Update) (n : ℕ) (r : List Update) → length us ≡ n → allIn us ≡ true → r ≡ sixteen us → allIn (take n r) ≡ true
+meant-in us n r l h e = ap allIn (meant us 16 n filler r l e) ∙ h
 
 -- steps of one kind, none of them a closing
 pub every-inner : {A : Type 0} (f : A → Step) → ((a : A) → inner (f a) ≡ true) → (l : List A) → every inner (map f l) ≡ true

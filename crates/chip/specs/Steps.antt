@@ -6,7 +6,7 @@ use Prim.Native.Nat.{ℕ, zero, suc, _+_, _-_, _*_, _≤_, _<_}
 use mathlib.Core.Bool.{Bool, true, false, not, _&&_, _||_}
 use mathlib.Core.List.{List, [], _∷_, _++_, map}
 use lib.Dec.{eqb, leb}
-use lib.ListN.{length, getD, take, drop}
+use lib.ListN.{length, getD, take, drop, replicate}
 use lib.Seq.{sets}
 use Rattle.transcript.specs.declared.Entry.{Entry}
 use Rattle.transcript.specs.Entries.{entryBytes}
@@ -180,6 +180,17 @@ updateStep u = pickStep (u .past) (Send 2 (pair (u .register) (u .value))) (Mask
 
 abbrev pub updates : List Update → List Step
 updates us = map updateStep us
+
+-- a list as an array of n: fillers stand behind it
+abbrev pub padded : {A : Type 0} → ℕ → A → List A → List A
+padded n a xs = xs ++ replicate (n - length xs) a
+
+-- what fills an array behind the updates that are meant: of no register, with no bit
+abbrev pub filler : Update
+filler = record { register = 0; value = 0; mask = 0; past = false }
+
+abbrev pub sixteen : List Update → List Update
+sixteen us = padded 16 filler us
 
 -- all of a list pass a test
 unfoldable pub every : {A : Type 0} → (A → Bool) → List A → Bool

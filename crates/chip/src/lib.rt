@@ -55,6 +55,14 @@ pub struct Update {
     pub past: bool,
 }
 
+// What fills an array behind the updates that are meant; it is never taken.
+pub const FILLER: Update = Update {
+    register: 0,
+    value: 0,
+    mask: 0,
+    past: false,
+};
+
 // How the steps have gone: on, or to refusal 11, with the failing step's entry by its index.
 pub enum Went {
     Going,

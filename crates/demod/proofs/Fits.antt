@@ -8,7 +8,7 @@ use Rattle.transcript.specs.Entries.{entryFits, zeros}
 use Rattle.chip.specs.Steps.{every}
 use Rattle.registers.specs.Rates.{ifValueOf, ratioOf, sentOf}
 use Rattle.registers.proofs.Values.{sent-fits}
-use Rattle.device.specs.Accesses.{fitting}
+use Rattle.device.specs.Accesses.{accessStep, fitting}
 use Rattle.device.proofs.Fits.{demod-fits, demod16-fits}
 use Rattle.fir.specs.Packing.{packOf}
 use Rattle.demod.specs.Programs.{ddcByte, ddcSteps, directSteps, firSteps, ifSteps, initSteps, lowIfSteps, modeSteps, powerSteps, rateSteps, resetSteps, startSteps, stopSteps, upward, zeroIfSteps}
@@ -48,7 +48,7 @@ unfolding every ddcSteps
 ddc-fits inverted = rw (demod-fits 1 0x15 (ddcByte inverted) (omega arith) (omega arith))
 
 pub if-fits : (hz xtal : ℕ) → every fitting (ifSteps hz xtal) ≡ true
-unfolding every ifSteps
+unfolding every accessStep ifSteps
 if-fits hz xtal =
     rw (
       demod-fits 1 0x19 (ifValueOf hz xtal / 2 ^ 16) (omega arith) (omega arith),
@@ -57,7 +57,7 @@ if-fits hz xtal =
     )
 
 pub rate-fits : (rate xtal : ℕ) → every fitting (rateSteps rate xtal) ≡ true
-unfolding every rateSteps
+unfolding every accessStep rateSteps
 rate-fits rate xtal =
     let small : sentOf (ratioOf rate xtal) / 2 ^ 16 < 2 ^ 16 = omega (arith, sent-fits (ratioOf rate xtal)) in
     let rest : sentOf (ratioOf rate xtal) % 2 ^ 16 < 2 ^ 16 = omega arith in

@@ -1,25 +1,35 @@
--- Document 01's worked numbers, as the entries that carry them: "IF 3,570,000 at 28,800,000: 38 11 12", "Rate 2,048,000: 0x03840000. Rate
+-- Which bytes registers 0x19..0x1b get; and document 01's worked numbers, as the entries that carry them: "IF 3,570,000 at 28,800,000: 38 11 12", "Rate 2,048,000: 0x03840000. Rate
 -- 225,000: 0", and `FIR_DEFAULT`'s twenty bytes. Assumes nothing.
-use mathlib.Core.Path.{_≡_, refl}
-use mathlib.Core.List.{List, [], _∷_}
+use Prim.Native.Nat.{ℕ, _/_, _%_, _^_}
+use mathlib.Core.Path.{_≡_, refl, sym, ap}
+use mathlib.Core.List.{List, [], _∷_, map}
+use lib.Pow.{shr-mod}
 use Rattle.chip.specs.Steps.Step.{Plain}
-use Rattle.device.specs.Accesses.{demodWrite, demodWrite16}
+use Rattle.device.specs.Accesses.{accessStep, demodWrite, demodWrite16}
 use Rattle.fir.specs.Packing.{packOf}
-use Rattle.registers.specs.Rates.{sentOf}
-use Rattle.demod.specs.Programs.{firSteps, ifSteps, rateSteps, upward}
+use Rattle.registers.specs.Rates.{ifRatioOf, ifValueOf, sentOf, threeOf}
+use Rattle.registers.proofs.Values.{negated-small}
+use Rattle.device.specs.declared.Access.{Access}
+use Rattle.demod.specs.Programs.{firSteps, ifRows, ifSteps, rateSteps, upward}
+
+-- the three of which the laws of crate `registers` speak, one in each: the highest has no bit above its sixth
+pub if-bytes : (hz xtal : ℕ) → map (λ (a : Access). a .3) (ifRows hz xtal) ≡ threeOf (ifValueOf hz xtal)
+if-bytes hz xtal =
+    ap (λ (top : ℕ). top ∷ ifValueOf hz xtal / 2 ^ 8 % 2 ^ 8 ∷ ifValueOf hz xtal % 2 ^ 8 ∷ [])
+    (sym (shr-mod 6 16 (negated-small (ifRatioOf hz xtal))))
 
 pub if-worked : ifSteps 3_570_000 28_800_000 ≡ Plain (demodWrite 1 0x19 0x38) ∷ Plain (demodWrite 1 0x1a 0x11) ∷ Plain (demodWrite 1 0x1b 0x12) ∷ []
-unfolding ifSteps
+unfolding accessStep ifSteps
 if-worked = refl
 
 pub rate-worked : rateSteps 2_048_000 28_800_000
     ≡ Plain (demodWrite16 1 0x9f 0x0384) ∷ Plain (demodWrite16 1 0xa1 0x0000) ∷ Plain (demodWrite 1 0x3f 0) ∷ Plain (demodWrite 1 0x3e 0) ∷ []
-unfolding rateSteps sentOf
+unfolding accessStep rateSteps sentOf
 rate-worked = refl
 
 pub rate-cut : rateSteps 225_000 28_800_000
     ≡ Plain (demodWrite16 1 0x9f 0) ∷ Plain (demodWrite16 1 0xa1 0) ∷ Plain (demodWrite 1 0x3f 0) ∷ Plain (demodWrite 1 0x3e 0) ∷ []
-unfolding rateSteps sentOf
+unfolding accessStep rateSteps sentOf
 rate-cut = refl
 
 pub fir-worked : firSteps

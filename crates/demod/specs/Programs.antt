@@ -2,12 +2,13 @@
 -- Assumes nothing.
 use Prim.Native.Nat.{ℕ, suc, _/_, _%_, _^_}
 use mathlib.Core.Bool.{Bool, true, false}
-use mathlib.Core.List.{List, [], _∷_, _++_}
+use mathlib.Core.List.{List, [], _∷_, _++_, map}
 use lib.ListN.{replicate}
 use Rattle.chip.specs.Entries.{wait}
 use Rattle.chip.specs.Steps.{Step}
 use Rattle.chip.specs.Steps.Step.{Plain}
-use Rattle.device.specs.Accesses.{blockWrite, blockWrite16, demodWrite, demodWrite16}
+use Rattle.device.specs.declared.Access.{Access}
+use Rattle.device.specs.Accesses.{access, accessStep, blockWrite, blockWrite16, demodWrite, demodWrite16}
 use Rattle.fir.specs.Packing.{firDefault, packOf}
 use Rattle.registers.specs.Rates.{ifValueOf, ratioOf, sentOf}
 
@@ -34,22 +35,28 @@ ddcByte false = 0x01
 unfoldable pub ddcSteps : Bool → List Step
 ddcSteps inverted = Plain (demodWrite 1 0x15 (ddcByte inverted)) ∷ []
 
--- "IF: 0x19..0x1b get -(if·2^22 / xtal) modulo 2^22": 22 bits, high first
-unfoldable pub ifSteps : ℕ → ℕ → List Step
-ifSteps hz xtal =
-    Plain (demodWrite 1 0x19 (ifValueOf hz xtal / 2 ^ 16))
-    ∷ Plain (demodWrite 1 0x1a (ifValueOf hz xtal / 2 ^ 8 % 2 ^ 8))
-    ∷ Plain (demodWrite 1 0x1b (ifValueOf hz xtal % 2 ^ 8))
+-- "IF: 0x19..0x1b get -(if·2^22 / xtal) modulo 2^22": 22 bits, high first. Kind 4 is a demod write of 8 bits, kind 5 of 16
+abbrev pub ifRows : ℕ → ℕ → List Access
+ifRows hz xtal =
+    access 4 1 0x19 (ifValueOf hz xtal / 2 ^ 16)
+    ∷ access 4 1 0x1a (ifValueOf hz xtal / 2 ^ 8 % 2 ^ 8)
+    ∷ access 4 1 0x1b (ifValueOf hz xtal % 2 ^ 8)
     ∷ []
 
+unfoldable pub ifSteps : ℕ → ℕ → List Step
+ifSteps hz xtal = map accessStep (ifRows hz xtal)
+
 -- "Rate: r = xtal·2^22 / rate, kept to 32 bits, and 0x0ffffffc, then bit 27 copied into bit 28; written as in `set_sample_rate_xtal`"
-unfoldable pub rateSteps : ℕ → ℕ → List Step
-rateSteps rate xtal =
-    Plain (demodWrite16 1 0x9f (sentOf (ratioOf rate xtal) / 2 ^ 16))
-    ∷ Plain (demodWrite16 1 0xa1 (sentOf (ratioOf rate xtal) % 2 ^ 16))
-    ∷ Plain (demodWrite 1 0x3f 0x00)
-    ∷ Plain (demodWrite 1 0x3e 0x00)
+abbrev pub rateRows : ℕ → ℕ → List Access
+rateRows rate xtal =
+    access 5 1 0x9f (sentOf (ratioOf rate xtal) / 2 ^ 16)
+    ∷ access 5 1 0xa1 (sentOf (ratioOf rate xtal) % 2 ^ 16)
+    ∷ access 4 1 0x3f 0x00
+    ∷ access 4 1 0x3e 0x00
     ∷ []
+
+unfoldable pub rateSteps : ℕ → ℕ → List Step
+rateSteps rate xtal = map accessStep (rateRows rate xtal)
 
 -- `start_streaming`, `stop_streaming`: EPA_CTL of block USB, DEMOD_CTL of block SYS
 unfoldable pub startSteps : List Step

@@ -1,15 +1,15 @@
 // The demodulator's calls, from src/demod.rs, over a script of outcomes and a room for the entries. Document 01, "Demodulator",
 // and "Refusal numbers" for 3 and 4. They touch no record and read nothing; a call is a list of accesses, and the definitions of
 // specs/Programs.antt have the same lists. `X_steps` and `ddc` are what a larger call holds.
-ghost use mathlib.Core.List.{map, _++_};
+ghost use mathlib.Core.List.{_++_};
 ghost use mathlib.Core.Path.{_≡_};
 ghost use Prim.Native.Nat.{_+_, _*_, _≤_, _<_};
 ghost use lib.ListN.{length, replicate, take};
 ghost use Rattle.chip.specs.declared.Chip.{Chip};
 ghost use Rattle.chip.specs.Steps.{due, run, inRoom, onLog, onRoom};
-ghost use Rattle.device.specs.Accesses.{accessStep};
+ghost use Rattle.device.specs.Accesses.{ten};
 ghost use Rattle.device.specs.Calls.{back};
-ghost use Rattle.demod.specs.Programs.{ddcByte, ddcSteps, firSteps, ifSteps, initSteps, powerSteps, rateSteps, resetSteps, upward};
+ghost use Rattle.demod.specs.Programs.{ddcByte, ddcSteps, firSteps, ifRows, ifSteps, initSteps, powerSteps, rateRows, rateSteps, resetSteps, upward};
 ghost use Rattle.demod.specs.Calls.{directCall, ifCall, initCall, lowIfCall, rateCall, resetCall, startCall, stopCall, zeroIfCall};
 use chip::Answer;
 use chip::Chip;
@@ -39,6 +39,8 @@ use registers::demod::P1_SOFT_RESET_OFF;
 use registers::demod::P1_SOFT_RESET_ON;
 use registers::sys;
 use registers::usb;
+
+pub const DEFAULT_SAMPLE_RATE: u32 = 2_048_000;
 
 // `reset_demod`'s accesses.
 const RESET: [Access; 10] = [
@@ -226,7 +228,7 @@ pub fn ddc(f: Flow, inverted: bool, outcomes: &[u8], room: &mut [u8]) -> Flow
 // 22 bits, high first.
 fn if_rows(hz: u32, xtal: u32) -> [Access; 10]
     requires { ⌜ 0 < xtal ⌝ }
-    ensures { λ r. ⌜ map accessStep (take 3 r) ≡ ifSteps hz xtal ⌝ }
+    ensures { λ r. ⌜ r ≡ ten (ifRows hz xtal) ⌝ }
 {
     let value = registers::if_value(hz, xtal);
     let mut rows = [NONE; 10];
@@ -261,7 +263,7 @@ pub fn set_if_freq_xtal(hz: u32, xtal: u32, outcomes: &[u8], room: &mut [u8]) ->
 // The ratio's high and low 16 bits, and two zeros.
 fn rate_rows(rate: u32, xtal: u32) -> [Access; 10]
     requires { ⌜ 0 < rate ⌝ }
-    ensures { λ r. ⌜ map accessStep (take 4 r) ≡ rateSteps rate xtal ⌝ }
+    ensures { λ r. ⌜ r ≡ ten (rateRows rate xtal) ⌝ }
 {
     let ratio = registers::ratio(rate, xtal);
     let sent = registers::sent(ratio);

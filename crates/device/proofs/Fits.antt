@@ -8,7 +8,7 @@ use lib.Dec.{leb}
 use Rattle.transcript.specs.Table.{addressMost, firstMost, nHigh, nLow, outcomeMost, rowFits, targetMost}
 use Rattle.transcript.specs.Entries.{entryFits, zeros}
 use Rattle.chip.specs.Steps.{every}
-use Rattle.device.specs.Accesses.{blockRead, blockWrite, blockWrite16, demodWrite, demodWrite16, fitting}
+use Rattle.device.specs.Accesses.{access, accessEntry, accessStep, blockWrite, blockWrite16, demodWrite, demodWrite16, fitting}
 use Rattle.device.specs.Gpio.{bitSteps, changedOf, outputSteps, withBit, withoutBit}
 
 -- a value kept to eight bits, and the high half of sixteen
@@ -27,7 +27,7 @@ module _ (target register value : ℕ) (t : target ≤ 255) (r : register ≤ 65
   unfolding entryFits rowFits zeros nLow nHigh outcomeMost targetMost addressMost firstMost
   block-fits = rw (le-leb target 255 t, le-leb register 65535 r, low-byte value)
 
-  pub read-fits : entryFits (blockRead target register value) ≡ true
+  pub read-fits : entryFits (accessEntry (access 8 target register value)) ≡ true
   unfolding entryFits rowFits zeros nLow nHigh outcomeMost targetMost addressMost firstMost
   read-fits = rw (le-leb target 255 t, le-leb register 65535 r, low-byte value)
 
@@ -40,7 +40,7 @@ module _ (target register value : ℕ) (t : target ≤ 255) (r : register ≤ 65
   block16-fits h = rw (le-leb target 255 t, le-leb register 65535 r, high-byte value h)
 
 pub output-fits : (pin a b : ℕ) → every fitting (outputSteps pin a b) ≡ true
-unfolding every outputSteps
+unfolding every accessStep outputSteps
 output-fits pin a b =
     rw (
       read-fits 2 0x3003 a (omega arith) (omega arith),
@@ -50,6 +50,6 @@ output-fits pin a b =
     )
 
 pub bit-fits : (pin value a : ℕ) → every fitting (bitSteps pin value a) ≡ true
-unfolding every bitSteps
+unfolding every accessStep bitSteps
 bit-fits pin value a =
     rw (read-fits 2 0x3001 a (omega arith) (omega arith), block-fits 2 0x3001 (changedOf pin value a) (omega arith) (omega arith))

@@ -8,7 +8,7 @@ use Rattle.transcript.specs.declared.Entry.{Entry}
 use Rattle.transcript.specs.Entries.{entryFits}
 use Rattle.chip.specs.Calls.{pickN}
 use Rattle.chip.specs.Entries.{pickBytes, settled}
-use Rattle.chip.specs.Steps.{Step}
+use Rattle.chip.specs.Steps.{Step, padded}
 use Rattle.chip.specs.Steps.Step.{Open, Close, Send, Mask, Plain}
 use Rattle.device.specs.declared.Access.{Access}
 
@@ -38,16 +38,22 @@ abbrev pub blockWrite16 : ℕ → ℕ → ℕ → Entry
 blockWrite16 block register value =
     record { kind = 7; outcome = 0; target = block; n = 2; address = register; bytes = two value }
 
--- "8 block read | block | 1 | register; byte, zero if failed": a failed one's byte is `settled`'s matter
-abbrev pub blockRead : ℕ → ℕ → ℕ → Entry
-blockRead block register reply =
-    record { kind = 8; outcome = 0; target = block; n = 1; address = register; bytes = one reply }
+-- an access by its kind, target, register and value
+abbrev pub access : ℕ → ℕ → ℕ → ℕ → Access
+access kind target register value = record { 0 = kind; 1 = target; 2 = register; 3 = value }
+
+-- what fills an array behind the accesses that are meant: of no kind
+abbrev pub noAccess : Access
+noAccess = access 0 0 0 0
+
+abbrev pub ten : List Access → List Access
+ten rows = padded 10 noAccess rows
 
 -- the kinds of 16 bits
 abbrev pub isTwo : ℕ → Bool
 isTwo kind = eqb kind 5 || eqb kind 7
 
--- an access (kind, target, register, value), by its row of the table
+-- an access by its row of the table; of "8 block read | block | 1 | register; byte, zero if failed" a failed one's byte is `settled`'s matter
 abbrev pub accessEntry : Access → Entry
 accessEntry a =
     record {

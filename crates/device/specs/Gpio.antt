@@ -2,14 +2,14 @@
 -- src/device.rs: `set_gpio_output` and `set_gpio_bit` read a register of block SYS and write it back with the pin's bit changed.
 -- Assumes nothing.
 use Prim.Native.Nat.{ℕ, _-_, _^_}
-use mathlib.Core.List.{List, [], _∷_}
+use mathlib.Core.List.{List, [], _∷_, map}
 use lib.Bits.{bitAnd, bitOr}
 use lib.Dec.{eqb, ltb}
 use lib.ListN.{length, getD}
 use Rattle.chip.specs.Calls.{Called, lentOf, pickN}
 use Rattle.chip.specs.Steps.{Step}
-use Rattle.chip.specs.Steps.Step.{Plain}
-use Rattle.device.specs.Accesses.{blockRead, blockWrite}
+use Rattle.device.specs.declared.Access.{Access}
+use Rattle.device.specs.Accesses.{access, accessStep}
 use Rattle.device.specs.Calls.{freeCall}
 
 -- a byte with the pin's bit set, or cleared
@@ -19,25 +19,28 @@ withBit byte pin = bitOr byte (2 ^ pin)
 abbrev pub withoutBit : ℕ → ℕ → ℕ
 withoutBit byte pin = bitAnd byte (255 - 2 ^ pin)
 
--- GPOE (0x3003) gets the bit, GPD (0x3004) loses it; a and b are the two replies
-unfoldable pub outputSteps : ℕ → ℕ → ℕ → List Step
-outputSteps pin a b =
-    Plain (blockRead 2 0x3003 a)
-    ∷ Plain (blockWrite 2 0x3003 (withBit a pin))
-    ∷ Plain (blockRead 2 0x3004 b)
-    ∷ Plain (blockWrite 2 0x3004 (withoutBit b pin))
+-- GPOE (0x3003) gets the bit, GPD (0x3004) loses it; a and b are the two replies. Kind 8 reads and kind 6 writes a block, here 2, SYS
+abbrev pub outputRows : ℕ → ℕ → ℕ → List Access
+outputRows pin a b =
+    access 8 2 0x3003 a
+    ∷ access 6 2 0x3003 (withBit a pin)
+    ∷ access 8 2 0x3004 b
+    ∷ access 6 2 0x3004 (withoutBit b pin)
     ∷ []
+
+unfoldable pub outputSteps : ℕ → ℕ → ℕ → List Step
+outputSteps pin a b = map accessStep (outputRows pin a b)
 
 -- set, or cleared where the value is 0
 abbrev pub changedOf : ℕ → ℕ → ℕ → ℕ
 changedOf pin value a = pickN (eqb value 0) (withoutBit a pin) (withBit a pin)
 
 -- GPO (0x3001) gets the bit, or loses it
+abbrev pub bitRows : ℕ → ℕ → ℕ → List Access
+bitRows pin value a = access 8 2 0x3001 a ∷ access 6 2 0x3001 (changedOf pin value a) ∷ []
+
 unfoldable pub bitSteps : ℕ → ℕ → ℕ → List Step
-bitSteps pin value a =
-    Plain (blockRead 2 0x3001 a)
-    ∷ Plain (blockWrite 2 0x3001 (changedOf pin value a))
-    ∷ []
+bitSteps pin value a = map accessStep (bitRows pin value a)
 
 -- "Order: arguments (1 to 7, and 2 for hz), then 8, 9, 10, then steps"
 unfoldable pub outputCall : ℕ → List ℕ → List ℕ → List ℕ → Called (Unit {0})

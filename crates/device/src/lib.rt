@@ -8,9 +8,9 @@ ghost use lib.ListN.{length, getD, take};
 ghost use Rattle.chip.specs.declared.Chip.{Chip};
 ghost use Rattle.chip.specs.Steps.{due, step, run, inRoom, onLog, onRoom};
 ghost use Rattle.chip.specs.Calls.{lentOf};
-ghost use Rattle.device.specs.Accesses.{accessEntry, accessStep};
+ghost use Rattle.device.specs.Accesses.{accessEntry, accessStep, ten};
 ghost use Rattle.device.specs.Calls.{back, freeCall};
-ghost use Rattle.device.specs.Gpio.{bitCall, bitSteps, changedOf, outputCall, outputSteps, withBit, withoutBit};
+ghost use Rattle.device.specs.Gpio.{bitCall, bitRows, bitSteps, changedOf, outputCall, outputRows, outputSteps, withBit, withoutBit};
 use chip::Answer;
 use chip::Chip;
 use chip::Flow;
@@ -38,8 +38,8 @@ pub const WAIT: u8 = 9;
 // reply as its value, or a wait of `register` milliseconds.
 pub struct Access(pub u8, pub u8, pub u16, pub u16);
 
-// What fills an array behind the accesses of a call; it is never taken.
-pub const NONE: Access = Access(9, 0, 0, 0);
+// What fills an array behind the accesses of a call: of no kind, and never taken.
+pub const NONE: Access = Access(0, 0, 0, 0);
 
 // What a call that touches no record hands back.
 pub struct Handed {
@@ -245,7 +245,7 @@ fn without_bit(byte: u8, gpio: u8) -> u8
 // `set_gpio_output`'s accesses; a and b are the bytes read.
 fn output_rows(gpio: u8, a: u8, b: u8) -> [Access; 10]
     requires { ⌜ gpio < 8 ⌝ }
-    ensures { λ r. ⌜ map accessStep (take 4 r) ≡ outputSteps gpio a b ⌝ }
+    ensures { λ r. ⌜ r ≡ ten (outputRows gpio a b) ⌝ }
 {
     let out = with_bit(a, gpio);
     let driven = without_bit(b, gpio);
@@ -271,7 +271,7 @@ fn changed(gpio: u8, value: u8, a: u8) -> u8
 // `set_gpio_bit`'s accesses; a is the byte read.
 fn bit_rows(gpio: u8, value: u8, a: u8) -> [Access; 10]
     requires { ⌜ gpio < 8 ⌝ }
-    ensures { λ r. ⌜ map accessStep (take 2 r) ≡ bitSteps gpio value a ⌝ }
+    ensures { λ r. ⌜ r ≡ ten (bitRows gpio value a) ⌝ }
 {
     let new = changed(gpio, value, a);
     let mut rows = [NONE; 10];

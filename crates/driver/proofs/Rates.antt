@@ -17,8 +17,9 @@ use Rattle.chip.specs.declared.Went.the-variants.{Going}
 use Rattle.chip.specs.Calls.{answerOf, called, sealed}
 use Rattle.chip.specs.Entries.{unseen}
 use Rattle.chip.specs.Steps.{Line, Logged, Trace, behind, eight, every, inRoom, line, logged, onRoom, run, updates}
-use Rattle.demod.specs.Programs.{ddcSteps, ifSteps, rateSteps, resetSteps}
-use Rattle.device.specs.Gpio.{bitSteps, outputSteps}
+use Rattle.demod.specs.Programs.{ddcSteps, ifRows, ifSteps, rateRows, rateSteps, resetSteps}
+use Rattle.device.specs.Gpio.{bitRows, bitSteps, outputRows, outputSteps}
+use Rattle.device.proofs.Free.{accesses-eight}
 use Rattle.pll.specs.declared.Kind.{Kind}
 use Rattle.pll.specs.declared.Kind.the-variants.{R820T, R828D}
 use Rattle.tuning.proofs.Programs.{every-app}
@@ -37,24 +38,24 @@ unfolding every resetSteps
 reset-eight = refl
 
 rate-eight : (rate xtal : ℕ) → every eight (rateSteps rate xtal) ≡ true
-unfolding every rateSteps
-rate-eight rate xtal = refl
+unfolding rateSteps
+rate-eight rate xtal = accesses-eight (rateRows rate xtal)
 
 if-eight : (hz xtal : ℕ) → every eight (ifSteps hz xtal) ≡ true
-unfolding every ifSteps
-if-eight hz xtal = refl
+unfolding ifSteps
+if-eight hz xtal = accesses-eight (ifRows hz xtal)
 
 ddc-eight : (inverted : Bool) → every eight (ddcSteps inverted) ≡ true
 unfolding every ddcSteps
 ddc-eight inverted = refl
 
 output-eight : (pin a b : ℕ) → every eight (outputSteps pin a b) ≡ true
-unfolding every outputSteps
-output-eight pin a b = refl
+unfolding outputSteps
+output-eight pin a b = accesses-eight (outputRows pin a b)
 
 bit-eight : (pin value a : ℕ) → every eight (bitSteps pin value a) ≡ true
-unfolding every bitSteps
-bit-eight pin value a = refl
+unfolding bitSteps
+bit-eight pin value a = accesses-eight (bitRows pin value a)
 
 none-eight : every eight [] ≡ true
 unfolding every

@@ -1,3 +1,4 @@
+pub mod Bits
 pub mod Dividers
 pub mod Fractions
 pub mod Plans

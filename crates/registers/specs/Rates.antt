@@ -3,9 +3,9 @@
 -- "Rate: r = xtal·2^22 / rate, kept to 32 bits, and 0x0ffffffc, then bit 27 copied into bit 28".
 -- "Refusal numbers": "`if_freq_regs` and its demod sister refuse 4 for reference zero; so do both resampler calls, after rate";
 -- "A refused call's value is 0".
-use Prim.Native.Nat.{ℕ, _-_, _*_, _/_, _%_, _^_}
+use Prim.Native.Nat.{ℕ, _+_, _-_, _*_, _/_, _%_, _^_}
 use mathlib.Core.Bool.{Bool, true, false}
-use mathlib.Core.List.{[], _∷_}
+use mathlib.Core.List.{List, [], _∷_}
 use lib.Dec.{eqb}
 use lib.Bits.{bitAnd, bitOr}
 use Rattle.registers.specs.declared.IfRegs.{IfRegs}
@@ -42,11 +42,17 @@ abbrev pub pickResample : Bool → ResampleRegs → ResampleRegs → ResampleReg
 pickResample true a b = a
 pickResample false a b = b
 
--- six bits and two bytes, high first
+-- 22 bits in three registers: six bits and two bytes, high first
+abbrev pub threeOf : ℕ → List ℕ
+threeOf x = x / 2 ^ 16 % 2 ^ 6 ∷ x / 2 ^ 8 % 2 ^ 8 ∷ x % 2 ^ 8 ∷ []
+
+-- bytes, high first, as one number, behind a number
+abbrev pub numberFrom : ℕ → List ℕ → ℕ
+numberFrom x [] = x
+numberFrom x (b ∷ bs) = numberFrom (x * 2 ^ 8 + b) bs
+
 unfoldable pub ifRegsOf : ℕ → ℕ → IfRegs
-ifRegsOf hz xtal =
-    pickIf (eqb xtal 0) (record { refusal = 4; bytes = 0 ∷ 0 ∷ 0 ∷ [] })
-    (record { refusal = 0; bytes = ifRatioOf hz xtal / 2 ^ 16 % 2 ^ 6 ∷ ifRatioOf hz xtal / 2 ^ 8 % 2 ^ 8 ∷ ifRatioOf hz xtal % 2 ^ 8 ∷ [] })
+ifRegsOf hz xtal = pickIf (eqb xtal 0) (record { refusal = 4; bytes = 0 ∷ 0 ∷ 0 ∷ [] }) (record { refusal = 0; bytes = threeOf (ifRatioOf hz xtal) })
 
 abbrev pub noResample : ℕ → ResampleRegs
 noResample number = record { refusal = number; bytes = 0 ∷ 0 ∷ 0 ∷ 0 ∷ [] }

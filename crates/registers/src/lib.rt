@@ -1,6 +1,7 @@
 // Register addresses, block numbers, and the demodulator's values for an intermediate frequency and a sample rate,
 // from src/registers.rs and the arithmetic of `set_if_freq_xtal` and `set_sample_rate_xtal` of src/demod.rs.
-// Document 01, "Demodulator", and "Refusal numbers" for 3 and 4. Constants that no ported call uses are left out.
+// Document 01, "Modules, leaves first" ("constants, `if_freq_regs`, `resample_regs`"), "Demodulator", and "Refusal numbers" for 3 and 4.
+// The constants are all of the Rust's, under its names; some no call uses.
 ghost use mathlib.Core.Path.{_≡_};
 ghost use Prim.Native.Nat.{_<_};
 ghost use Rattle.registers.specs.Rates.{
@@ -12,10 +13,17 @@ ghost use Rattle.registers.specs.Rates.{
   resampleRegsOf,
 };
 
+pub const BREQUEST: u8 = 0;
+
+// As an entry's target has them, in one byte; the Rust has them as u16.
 pub mod block {
+    pub const DEMOD: u8 = 0;
+
     pub const USB: u8 = 1;
 
     pub const SYS: u8 = 2;
+
+    pub const I2C: u8 = 6;
 }
 
 pub mod sys {
@@ -47,6 +55,16 @@ pub mod demod {
 
     pub const P1_PAGE: u8 = 1;
 
+    pub const P2_PAGE: u8 = 2;
+
+    pub const P0_AGC_CTL: u16 = 0x0019;
+
+    pub const P1_IIC_REPEAT: u16 = 0x0001;
+
+    pub const P1_IIC_REPEAT_ON: u8 = 0x18;
+
+    pub const P1_IIC_REPEAT_OFF: u8 = 0x10;
+
     pub const P1_SOFT_RESET: u16 = 0x0001;
 
     pub const P1_SOFT_RESET_ON: u8 = 0x14;
@@ -59,6 +77,14 @@ pub mod demod {
 
     pub const P1_IF_FREQ_L: u16 = 0x001b;
 
+    pub const P2_RESAMPLE_H: u16 = 0x0022;
+
+    pub const P2_RESAMPLE_M: u16 = 0x0023;
+
+    pub const P2_RESAMPLE_L: u16 = 0x0024;
+
+    pub const P2_RESAMPLE_LSB: u16 = 0x0025;
+
     pub const P1_DDC_SYNC: u16 = 0x0015;
 
     pub const P1_DDC_SYNC_NORMAL: u8 = 0x01;
@@ -70,7 +96,17 @@ pub mod tuner_ids {
     pub const R82XX_I2C_ADDR: u8 = 0x34;
 
     pub const R828D_I2C_ADDR: u8 = 0x74;
+
+    pub const E4000_I2C_ADDR: u8 = 0xc8;
+
+    pub const FC0012_I2C_ADDR: u8 = 0xc2;
+
+    pub const FC0013_I2C_ADDR: u8 = 0xc6;
 }
+
+pub const IF_FREQ_HZ: u64 = 3_570_000;
+
+pub const XTAL_FREQ_HZ: u32 = 28_800_000;
 
 // The positive value of an intermediate frequency.
 pub fn if_ratio(hz: u32, xtal: u32) -> u64

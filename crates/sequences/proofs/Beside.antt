@@ -7,7 +7,7 @@ use lib.Dec.{eqb}
 use Rattle.chip.specs.Steps.{Step, every}
 use Rattle.chip.specs.Steps.Step.{Open, Close, Send, Mask, Plain}
 use Rattle.chip.proofs.Laws.{and-left, and-right}
-use Rattle.device.specs.Accesses.{fitting}
+use Rattle.device.specs.Accesses.{accessStep, fitting}
 use Rattle.device.specs.Gpio.{bitSteps, outputSteps}
 use Rattle.device.proofs.Fits.{bit-fits, output-fits}
 use Rattle.fir.specs.Packing.{packOf}
@@ -54,11 +54,11 @@ fines (s ∷ ss) h = rw (fine-one s (and-left (beside s) (every beside ss) h)) (
 -- ---- the programs
 
 pub beside-output : (pin a b : ℕ) → every beside (outputSteps pin a b) ≡ true
-unfolding every outputSteps
+unfolding every accessStep outputSteps
 beside-output pin a b = besides (outputSteps pin a b) (output-fits pin a b) refl
 
 pub beside-bit : (pin value a : ℕ) → every beside (bitSteps pin value a) ≡ true
-unfolding every bitSteps
+unfolding every accessStep bitSteps
 beside-bit pin value a = besides (bitSteps pin value a) (bit-fits pin value a) refl
 
 pub beside-init : every beside initSteps ≡ true
@@ -94,9 +94,9 @@ unfolding every ddcSteps
 beside-ddc inverted = besides (ddcSteps inverted) (ddc-fits inverted) refl
 
 pub beside-if : (hz xtal : ℕ) → every beside (ifSteps hz xtal) ≡ true
-unfolding every ifSteps
+unfolding every accessStep ifSteps
 beside-if hz xtal = besides (ifSteps hz xtal) (if-fits hz xtal) refl
 
 pub beside-rate : (rate xtal : ℕ) → every beside (rateSteps rate xtal) ≡ true
-unfolding every rateSteps
+unfolding every accessStep rateSteps
 beside-rate rate xtal = besides (rateSteps rate xtal) (rate-fits rate xtal) refl

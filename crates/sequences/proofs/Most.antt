@@ -44,6 +44,7 @@ use Rattle.sequences.specs.Asides.{Aside, Other, aside, asideAsked, asid
 use Rattle.sequences.specs.Asides.Other.{Output, Bit, Baseband}
 use Rattle.reference.specs.Correct.{correctedOf}
 use Rattle.device.specs.Calls.{noChip}
+use Rattle.device.specs.Accesses.{accessStep}
 use Rattle.device.specs.Gpio.{bitSteps, outputSteps}
 use Rattle.fir.specs.Packing.{packOf}
 use Rattle.demod.specs.Programs.{ddcSteps, firSteps, ifSteps, initSteps, modeSteps, powerSteps, rateSteps, resetSteps, upward}
@@ -135,11 +136,11 @@ unfolding trace run step lentOf inVco firstOf settingOf turnOf turnsOf planWith 
 tune-reached = refl
 
 pub rate-reached : length (entries (lent (SampleRate 2_048_000 (driver Generic 28_800_000 (pos 0) 0 0))) fresh) ≡ most (SampleRate 2_048_000 (driver Generic 28_800_000 (pos 0) 0 0))
-unfolding trace run step lentOf xtalBy correctedOf resetSteps rateSteps ifSteps ddcSteps
+unfolding trace run step lentOf accessStep xtalBy correctedOf resetSteps rateSteps ifSteps ddcSteps
 rate-reached = refl
 
 pub board-reached : length (entries (lent (BoardPath 0 (replicate 3 0))) fresh) ≡ most (BoardPath 0 (replicate 3 0))
-unfolding trace run step lentOf outputSteps bitSteps
+unfolding trace run step lentOf accessStep outputSteps bitSteps
 board-reached = refl
 
 -- and of those that touch no record
@@ -151,11 +152,11 @@ unfolding trace run step lentOf initSteps powerSteps upward firSteps packOf mode
 baseband-reached = refl
 
 pub direction-reached : length (asideEntries (lentAside (Output 5 (replicate 2 0)))) ≡ asideMost (Output 5 (replicate 2 0))
-unfolding trace run step lentOf outputSteps
+unfolding trace run step lentOf accessStep outputSteps
 direction-reached = refl
 
 pub bit-reached : length (asideEntries (lentAside (Bit 5 1 (replicate 1 0)))) ≡ asideMost (Bit 5 1 (replicate 1 0))
-unfolding trace run step lentOf bitSteps
+unfolding trace run step lentOf accessStep bitSteps
 bit-reached = refl
 
 -- ---- "A PLL refusal comes after the mux: all done, it leaves 13 entries (open, 11 writes, close)"

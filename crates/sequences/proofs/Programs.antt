@@ -5,15 +5,15 @@ use mathlib.Core.Bool.{Bool, true, false}
 use mathlib.Core.List.{List, [], _∷_, _++_}
 use native.Mathlib.Omega.{arith}
 use borrow.Author.Tests.{leb-true, ne-eqb}
-use lib.Dec.{eqb, ltb}
-use lib.ListN.{length, getD, take, drop, length-append}
+use lib.Dec.{eqb}
+use lib.ListN.{length, getD, take, drop, length-append, length-map}
 use lib.Seq.{sets, length-sets}
 use Rattle.transcript.specs.Entries.{zeros}
 use Rattle.board.specs.declared.Path.{Path}
 use Rattle.board.specs.declared.Path.the-variants.{Hf, Vhf, Uhf}
 use Rattle.chip.specs.declared.Update.{Update}
 use Rattle.chip.specs.Entries.{wait, zeros8}
-use Rattle.chip.specs.Steps.{Step, allIn, behind, every, updates}
+use Rattle.chip.specs.Steps.{Step, allIn, behind, every, inRange, updateStep, updates}
 use Rattle.chip.specs.Steps.Step.{Close, Plain}
 use Rattle.chip.proofs.Laws.{and-left}
 use Rattle.pll.specs.declared.Kind.{Kind}
@@ -22,10 +22,12 @@ use Rattle.pll.specs.declared.Plan.{Plan}
 use Rattle.pll.specs.declared.Pll.{Pll}
 use Rattle.pll.specs.declared.Pll.the-variants.{Planned, Refused}
 use Rattle.tuning.specs.Mux.{masked, muxUpdates, pick, pllUpdates, rangeOf}
-use Rattle.tuning.specs.Tries.{afterTry, again, fineOf, locked, locksAt, powerOf, repairUpdates, replyBytes, statusSteps, triesFrom, tryRead}
+use Rattle.tuning.specs.Tries.{afterTry, again, locked, locksAt, repairUpdates, replyBytes, statusSteps, triesFrom, tryRead}
 use Rattle.tuning.specs.Program.{innerSteps, pllSteps, tuneSteps}
-use Rattle.writes.specs.Lists.{bandwidthUpdates, gainUpdates, ifUpdates, initArray, initUpdates, pathUpdates}
+use Rattle.tuning.proofs.Turns.{pick-every, repair-in, repair-most}
+use Rattle.writes.specs.Lists.{bandwidthUpdates, ifUpdates, initArray, initUpdates, pathUpdates}
 use Rattle.writes.specs.Programs.{initSteps, sendAll}
+use Rattle.writes.proofs.Lists.{bandwidth-in, if-in, init-in, path-in}
 use Rattle.device.specs.Gpio.{bitSteps, outputSteps}
 use Rattle.demod.specs.Programs.{ddcSteps, ifSteps, rateSteps, resetSteps}
 use Rattle.driver.specs.Programs.{anewSteps, boardPathSteps, filterSteps, levelFor, sampleRateSteps, tunerPath}
@@ -39,28 +41,6 @@ use Rattle.sequences.proofs.Beside.{beside-bit, beside-ddc, beside-if, 
 
 pub fine-bracket : (us : List Update) → allIn us ≡ true → every fine (behind (updates us)) ≡ true
 fine-bracket us h = fine-behind (updates us) (fine-updates us h)
-
-pub bandwidth-in : (hz : ℕ) → allIn (bandwidthUpdates hz) ≡ true
-unfolding every
-bandwidth-in hz = refl
-
-pub if-in : (hz : ℕ) → allIn (ifUpdates hz) ≡ true
-unfolding every
-if-in hz = refl
-
-pub gain-in : (k : ℕ) → allIn (gainUpdates k) ≡ true
-unfolding every
-gain-in k = refl
-
-pub path-in : (path : Path) → allIn (pathUpdates path) ≡ true
-unfolding every
-path-in Hf = refl
-path-in Vhf = refl
-path-in Uhf = refl
-
-init-in : allIn initUpdates ≡ true
-unfolding every
-init-in = refl
 
 -- ---- initialise
 
@@ -80,20 +60,9 @@ mux-in : (notch : Bool) (hz : ℕ) → allIn (muxUpdates notch (rangeOf hz)) ≡
 unfolding every
 mux-in notch hz = refl
 
-pick-in : (b : Bool) (us vs : List Update) → allIn us ≡ true → allIn vs ≡ true → allIn (pick b us vs) ≡ true
-pick-in true us vs h k = h
-pick-in false us vs h k = k
-
-repair-in : (kind : Kind) (number byte : ℕ) → allIn (repairUpdates kind number byte) ≡ true
-unfolding repairUpdates every
-repair-in kind number byte =
-    pick-in (ltb (powerOf kind) (fineOf byte)) (masked 0x10 ((number - 1) * 32) 0xe0 ∷ [])
-    (pick (ltb (fineOf byte) (powerOf kind)) (masked 0x10 ((number + 1) * 32) 0xe0 ∷ []) []) refl
-    (pick-in (ltb (fineOf byte) (powerOf kind)) (masked 0x10 ((number + 1) * 32) 0xe0 ∷ []) [] refl refl)
-
 again-in : (i : ℕ) → allIn (again i) ≡ true
 unfolding every
-again-in i = pick-in (eqb i 0) (masked 0x12 0x06 0xff ∷ []) [] refl refl
+again-in i = pick-every inRange (eqb i 0) (masked 0x12 0x06 0xff ∷ []) [] refl refl
 
 locked-in : allIn locked ≡ true
 unfolding every
@@ -132,10 +101,6 @@ three-padded (a ∷ []) = refl
 three-padded (a ∷ b ∷ []) = refl
 three-padded (a ∷ b ∷ c ∷ l) = refl
 
-pick-every : (b : Bool) (xs ys : List Step) → every fine xs ≡ true → every fine ys ≡ true → every fine (pick b xs ys) ≡ true
-pick-every true xs ys h k = h
-pick-every false xs ys h k = k
-
 module _ (address : ℕ) (rs : List ℕ) (small : address ≤ 255) (bytes : every isByte rs ≡ true) where
   fine-status : every fine (statusSteps address rs) ≡ true
   unfolding every replyBytes
@@ -156,7 +121,7 @@ module _ (address : ℕ) (rs : List ℕ) (small : address ≤ 255) (bytes : ever
   fine-tries zero i = refl
   fine-tries (suc left) i =
       every-append fine (tryRead address rs i) (pick (locksAt rs i) (updates locked) (afterTry i ++ triesFrom address rs left (i + 1))) (fine-try i)
-      (pick-every (locksAt rs i) (updates locked) (afterTry i ++ triesFrom address rs left (i + 1)) (fine-updates locked locked-in)
+      (pick-every fine (locksAt rs i) (updates locked) (afterTry i ++ triesFrom address rs left (i + 1)) (fine-updates locked locked-in)
       (every-append fine (afterTry i) (triesFrom address rs left (i + 1)) (fine-after i) (fine-tries left (i + 1))))
 
   fine-pll : (kind : Kind) (number : ℕ) → every fine (pllSteps address kind number rs) ≡ true
@@ -220,14 +185,7 @@ tries-length address rs (suc left) i =
     try-length address rs left i (triesFrom address rs left (i + 1)) (tries-length address rs left (i + 1)) (locksAt rs i)
 
 repair-length : (kind : Kind) (number byte : ℕ) → length (updates (repairUpdates kind number byte)) ≤ 1
-unfolding repairUpdates
-repair-length kind number byte = go (ltb (powerOf kind) (fineOf byte)) (ltb (fineOf byte) (powerOf kind))
-  where
-    go : (a b : Bool)
-        → length (updates (pick a (masked 0x10 ((number - 1) * 32) 0xe0 ∷ []) (pick b (masked 0x10 ((number + 1) * 32) 0xe0 ∷ []) []))) ≤ 1
-    go true b = omega arith
-    go false true = omega arith
-    go false false = omega arith
+repair-length kind number byte = omega (arith, length-map (repairUpdates kind number byte) updateStep, repair-most kind number byte)
 
 pll-length : (address : ℕ) (kind : Kind) (number : ℕ) (rs : List ℕ) → length (pllSteps address kind number rs) ≤ 35
 pll-length address kind number rs =

@@ -52,7 +52,8 @@ use Rattle.history.proofs.Fine.{fine-reload}
 use Rattle.sequences.specs.Calls.{Asked, Order, Quiet, askedOf, boardAsked, bracket, given, none, pathAsked, quietResult, resultOf, tunerOf}
 use Rattle.sequences.specs.Calls.Order.{Initialize, Reload, Bandwidth, IfFreq, Gain, GainIndex, InputPath, Tune, SampleRate, BoardPath, Quietly}
 use Rattle.sequences.specs.Calls.Quiet.{Shadow, Ppm, Notch, GainTold, IfTold, TableTold}
-use Rattle.sequences.proofs.Programs.{bandwidth-in, board-length, fine-board, fine-bracket, fine-init, fine-rate, fine-tune, gain-in, if-in, path-in, path-length, tune-length}
+use Rattle.writes.proofs.Lists.{bandwidth-in, gain-in, if-in, path-in, path-two}
+use Rattle.sequences.proofs.Programs.{board-length, fine-board, fine-bracket, fine-init, fine-rate, fine-tune, tune-length}
 
 pub record Stepping (R : Type 0) (c : Chip) (old : R) (x : Called R) (a : Asked) (os room : List ℕ) : Type 0 where
   pub whole : Answer
@@ -273,9 +274,6 @@ quiet-silent IfTold t =
 quiet-silent TableTold t = kept-silent t [] (tableOf (t .nominal) (t .corrected) .answer) (table-named (t .nominal) (t .corrected))
 
 -- ---- every call
-
-path-two : (path : Path) → length (pathUpdates path) ≡ 2
-path-two path = omega (arith, path-length path, bracket-steps (pathUpdates path))
 
 path-view : (p : PathRead) (kind : Kind) (os room : List ℕ) (t : Tuner) → View t (pathWith p kind os t room) (pathAsked p kind t os room) os room
 unfolding pathWith

@@ -6,26 +6,27 @@ use mathlib.Core.List.{List, [], _∷_, _++_, map}
 use native.Mathlib.Omega.{arith}
 use borrow.Author.Tests.{lt-ltb, le-ltb}
 use lib.Dec.{eqb, ltb}
-use lib.ListN.{take}
+use lib.ListN.{length, take}
 use Rattle.transcript.specs.declared.Entry.{Entry}
 use Rattle.chip.specs.declared.Update.{Update}
 use Rattle.chip.specs.Entries.{pointer, readEntry, wait}
 use Rattle.chip.specs.declared.Chip.{Chip}
 use Rattle.chip.specs.declared.Flow.{Flow}
 use Rattle.chip.specs.declared.Log.{Log}
-use Rattle.chip.specs.Steps.{Step, Line, closing, every, flowOf, goes, inRoom, inner, logOf, onLog, onRoom, run, step, updates}
+use Rattle.chip.specs.Steps.{Step, Line, allIn, closing, every, filler, flowOf, goes, inRange, inRoom, inner, logOf, onLog, onRoom, run, step, updates}
 use Rattle.chip.specs.Steps.Step.{Close, Plain}
 use Rattle.chip.proofs.Laws.{parts, stop, swap}
-use Rattle.chip.proofs.Lists.{every-inner, inner-update}
+use Rattle.chip.proofs.Lists.{every-inner, inner-update, meant}
 use Rattle.chip.proofs.Rooms.{over}
 use Rattle.pll.specs.declared.Kind.{Kind}
 use Rattle.pll.specs.declared.Plan.{Plan}
 use Rattle.pll.specs.declared.Pll.{Pll}
 use Rattle.pll.specs.declared.Pll.the-variants.{Planned, Refused}
 use Rattle.tuning.specs.declared.FreqRange.{FreqRange}
+use Rattle.tuning.specs.declared.Updates.{Updates}
 use Rattle.tuning.specs.Mux.{masked, muxUpdates, pick, pllUpdates, rangeOf}
 use Rattle.tuning.specs.Program.{innerSteps, pllSteps}
-use Rattle.tuning.specs.Tries.{afterTry, again, fineOf, locked, locksAt, powerOf, repairUpdates, replyBytes, statusSteps, triesFrom, tryRead}
+use Rattle.tuning.specs.Tries.{afterTry, again, fineOf, listed, locked, locksAt, powerOf, repairUpdates, replyBytes, statusSteps, triesFrom, tryRead}
 use Rattle.tuning.proofs.Programs.{every-app, inner-after, inner-tries, inner-updates}
 
 -- the one write behind the first try
@@ -49,6 +50,46 @@ module _ (kind : Kind) (number byte power fine : ℕ) (p : power ≡ powerOf kin
   pub repair-none : fine ≤ power → power ≤ fine → [] ≡ repairUpdates kind number byte
   unfolding repairUpdates
   repair-none h k = rw (← p, ← q, le-ltb power fine h, le-ltb fine power k)
+
+-- what all of two lists pass, all of the one that is picked pass
+pub pick-every : {A : Type 0} (p : A → Bool) (b : Bool) (xs ys : List A) → every p xs ≡ true → every p ys ≡ true → every p (pick b xs ys) ≡ true
+pick-every p true xs ys h k = h
+pick-every p false xs ys h k = k
+
+pick-most : (b : Bool) (xs ys : List Update) (n : ℕ) → length xs ≤ n → length ys ≤ n → length (pick b xs ys) ≤ n
+pick-most true xs ys n h k = h
+pick-most false xs ys n h k = k
+
+-- the repair is of the record's registers, and one write at most
+module _ (kind : Kind) (number byte : ℕ) where
+  abbrev down : List Update
+  down = masked 0x10 ((number - 1) * 32) 0xe0 ∷ []
+
+  abbrev up : List Update
+  up = masked 0x10 ((number + 1) * 32) 0xe0 ∷ []
+
+  pub repair-in : allIn (repairUpdates kind number byte) ≡ true
+  unfolding repairUpdates every
+  repair-in =
+      pick-every inRange (ltb (powerOf kind) (fineOf byte)) down (pick (ltb (fineOf byte) (powerOf kind)) up []) refl
+      (pick-every inRange (ltb (fineOf byte) (powerOf kind)) up [] refl refl)
+
+  pub repair-most : length (repairUpdates kind number byte) ≤ 1
+  unfolding repairUpdates
+  repair-most =
+      pick-most (ltb (powerOf kind) (fineOf byte)) down (pick (ltb (fineOf byte) (powerOf kind)) up []) 1 (omega arith)
+      (pick-most (ltb (fineOf byte) (powerOf kind)) up [] 1 (omega arith) (omega arith))
+
+  -- the same of what the code hands on
+  module _ (r : Updates) (e : r ≡ listed (repairUpdates kind number byte)) where
+    pub repaired : take (r .n) (r .list) ≡ repairUpdates kind number byte
+    repaired = meant (repairUpdates kind number byte) 16 (r .n) filler (r .list) (sym (ap (λ (u : Updates). u .n) e)) (ap (λ (u : Updates). u .list) e)
+
+    pub repaired-in : allIn (take (r .n) (r .list)) ≡ true
+    repaired-in = ap allIn repaired ∙ repair-in
+
+    pub repaired-most : r .n ≤ 1
+    repaired-most = rw (ap (λ (u : Updates). u .n) e) repair-most
 
 -- reads whose bytes were worked out apart
 pub status-made : (address : ℕ) (rs bytes : List ℕ) → bytes ≡ replyBytes rs 0 5
@@ -82,13 +123,9 @@ opened address rs i h =
     let more : 10 - i ≡ suc (10 - (i + 1)) = omega arith in
     rw more
 
-pick-inner : (b : Bool) (xs ys : List Step) → every inner xs ≡ true → every inner ys ≡ true → every inner (pick b xs ys) ≡ true
-pick-inner true xs ys h k = h
-pick-inner false xs ys h k = k
-
 inner-rest : (address : ℕ) (rs : List ℕ) (i : ℕ) → every inner (restOf address rs i) ≡ true
 inner-rest address rs i =
-    pick-inner (locksAt rs i) (updates locked) (afterTry i ++ triesFrom address rs (10 - (i + 1)) (i + 1)) (inner-updates locked)
+    pick-every inner (locksAt rs i) (updates locked) (afterTry i ++ triesFrom address rs (10 - (i + 1)) (i + 1)) (inner-updates locked)
     (every-app inner (afterTry i) (triesFrom address rs (10 - (i + 1)) (i + 1)) (inner-after i) (inner-tries address rs (10 - (i + 1)) (i + 1)))
 
 module _ {L : Type 0} (put : L → ℕ → Entry → L) (os : List ℕ) where

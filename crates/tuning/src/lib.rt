@@ -11,9 +11,10 @@ ghost use Rattle.chip.specs.declared.Chip.{Chip};
 ghost use Rattle.chip.specs.Entries.{pointer, readEntry, wait};
 ghost use Rattle.chip.specs.Steps.{allIn, closing, due, inRoom, onLog, onRoom, run, updates};
 ghost use Rattle.chip.specs.Steps.Step.{Plain};
-ghost use Rattle.tuning.specs.Mux.{laterOf, pick, muxUpdates, pllUpdates, rangeOf};
-ghost use Rattle.tuning.specs.Tries.{afterTry, locked, fineOf, powerOf, repairUpdates, replyBytes, statusSteps, triesFrom, tryRead, lockedBy};
+ghost use Rattle.tuning.specs.Mux.{laterOf, masked, pick, muxUpdates, pllUpdates, rangeOf};
+ghost use Rattle.tuning.specs.Tries.{afterTry, listed, locked, fineOf, powerOf, repairUpdates, replyBytes, statusSteps, triesFrom, tryRead, lockedBy};
 ghost use Rattle.tuning.specs.Program.{innerSteps, numberOf, pllSteps, tuneSteps};
+use chip::FILLER;
 use chip::Flow;
 use chip::Log;
 use chip::Update;
@@ -35,7 +36,7 @@ pub struct FreqRange {
     pub filter: u8,
 }
 
-// Updates of registers, the first n of them meant.
+// Updates of registers, the first n of them meant; fillers stand behind them.
 pub struct Updates {
     pub list: [Update; 16],
     pub n: usize,
@@ -297,46 +298,36 @@ fn vco_fine_tune(byte: u8) -> u8
     (status::bit_reverse(byte) & 0x30) >> 4
 }
 
+// The divider's bits alone.
+fn divider_bits(value: u8) -> Updates
+    ensures { λ r. ⌜ r ≡ listed (masked 0x10 value 0xe0 ∷ []) ⌝ }
+{
+    let mut list = [FILLER; 16];
+    list[0] = Update {
+        register: 0x10,
+        value: value,
+        mask: 0xe0,
+        past: false,
+    };
+    Updates { list: list, n: 1 }
+}
+
 // Pass 2: the divider is repaired by one where the VCO's band is off.
 fn repair(kind: Kind, number: u8, byte: u8) -> Updates
     requires { ⌜ number ≤ 5 ⌝ }
-    ensures { λ r. ⌜ (take (r .n) (r .list) ≡ repairUpdates kind number byte) × (allIn (take (r .n) (r .list)) ≡ true) × (r .n ≤ 1) ⌝ }
+    ensures { λ r. ⌜ r ≡ listed (repairUpdates kind number byte) ⌝ }
 {
     let fine = vco_fine_tune(byte);
     let power = vco_power_ref(kind);
     if power < fine {
         let less = lower(number);
-        let u = Update {
-            register: 0x10,
-            value: less * 32,
-            mask: 0xe0,
-            past: false,
-        };
-        return Updates {
-            list: [u; 16],
-            n: 1,
-        };
+        return divider_bits(less * 32);
     }
     if fine < power {
-        let u = Update {
-            register: 0x10,
-            value: (number + 1) * 32,
-            mask: 0xe0,
-            past: false,
-        };
-        return Updates {
-            list: [u; 16],
-            n: 1,
-        };
+        return divider_bits((number + 1) * 32);
     }
-    let u = Update {
-        register: 0x10,
-        value: 0,
-        mask: 0xe0,
-        past: false,
-    };
     Updates {
-        list: [u; 16],
+        list: [FILLER; 16],
         n: 0,
     }
 }

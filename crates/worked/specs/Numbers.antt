@@ -19,7 +19,7 @@ use Rattle.pll.specs.declared.Pll.the-variants as pll
 use Rattle.pll.specs.Plan.{planOf}
 use Rattle.reference.specs.declared.Corrected.the-variants as reference
 use Rattle.reference.specs.Correct.{correctedOf}
-use Rattle.registers.specs.Rates.{ifValueOf, ifRegsOf, ratioOf, sentOf}
+use Rattle.registers.specs.Rates.{ifValueOf, ifRegsOf, ratioOf, sentOf, threeOf}
 
 -- the divider, N and the byte of 0x14 of a plan; of a refusal 0, which no line below names
 abbrev pub dividerIn : Pll → ℕ
@@ -68,7 +68,7 @@ pub record Worked : Type 0 where
   pub product : tenthsOf (ofBits binary32 0xcd4c_cccc) ≡ negℤ (pos 2_147_483_520)
   pub far-below : chosenOf (ofBits binary32 0xcd4c_cccc) ≡ 0
   -- IF 3,570,000 at 28,800,000: 38 11 12; positive 07 ee ee
-  pub if-sent : ifValueOf 3_570_000 28_800_000 ≡ 0x38_1112
+  pub if-sent : threeOf (ifValueOf 3_570_000 28_800_000) ≡ 0x38 ∷ 0x11 ∷ 0x12 ∷ []
   pub if-positive : ifRegsOf 3_570_000 28_800_000 ≡ record { refusal = 0; bytes = 0x07 ∷ 0xee ∷ 0xee ∷ [] }
   -- Rate 2,048,000: 0x03840000. Rate 225,000: 0
   pub rate-wide : sentOf (ratioOf 2_048_000 28_800_000) ≡ 0x0384_0000

@@ -1,16 +1,16 @@
 // Which registers the calls of src/tuners/r82xx.rs write, other than a tuning, and the calls of several brackets over a flow: `initialize`,
 // `set_if_bandwidth`, `set_bandwidth`, `set_gain`, `set_input_path`, and our reload. Document 01, "The record", "Gain".
 ghost use mathlib.Core.Path.{_≡_};
-ghost use mathlib.Core.Bool.{true};
 ghost use mathlib.Core.List.{_++_};
 ghost use Prim.Native.Nat.{_+_, _*_, _≤_, _<_};
 ghost use lib.Dec.{leb};
-ghost use lib.ListN.{length, take};
-ghost use Rattle.chip.specs.Steps.{allIn, behind, closing, due, inRoom, onLists, onRoom, run, updates};
+ghost use lib.ListN.{length};
+ghost use Rattle.chip.specs.Steps.{behind, closing, due, inRoom, onLists, onRoom, run, sixteen, updates};
 ghost use Rattle.writes.specs.Lists.{bandwidthUpdates, byHand, gainUpdates, ifUpdates, initUpdates, pathUpdates, pick, stepValues};
 ghost use Rattle.writes.specs.Programs.{initSteps, sendAll};
 use board::Path;
 use chip::Chip;
+use chip::FILLER;
 use chip::Flow;
 use chip::Log;
 use chip::Update;
@@ -71,14 +71,15 @@ fn width(hz: u32) -> u8
 }
 
 pub fn init_updates() -> [Update; 16]
-    ensures { λ r. ⌜ (take 4 r ≡ initUpdates) × (allIn (take 4 r) ≡ true) ⌝ }
+    ensures { λ r. ⌜ r ≡ sixteen initUpdates ⌝ }
 {
-    let mut us = [Update {
+    let mut us = [FILLER; 16];
+    us[0] = Update {
         register: 0x1a,
         value: 0x00,
         mask: 0x0c,
         past: false,
-    }; 16];
+    };
     us[1] = Update {
         register: 0x12,
         value: 0x06,
@@ -101,16 +102,17 @@ pub fn init_updates() -> [Update; 16]
 }
 
 pub fn if_updates(hz: u64) -> [Update; 16]
-    ensures { λ r. ⌜ (take 2 r ≡ ifUpdates hz) × (allIn (take 2 r) ≡ true) ⌝ }
+    ensures { λ r. ⌜ r ≡ sixteen (ifUpdates hz) ⌝ }
 {
     let low = narrow_or_wide(hz, 0x00, 0x10);
     let high = narrow_or_wide(hz, 0x80, 0x6b);
-    let mut us = [Update {
+    let mut us = [FILLER; 16];
+    us[0] = Update {
         register: 0x0a,
         value: low,
         mask: 0x70,
         past: false,
-    }; 16];
+    };
     us[1] = Update {
         register: 0x0b,
         value: high,
@@ -121,29 +123,31 @@ pub fn if_updates(hz: u64) -> [Update; 16]
 }
 
 pub fn bandwidth_updates(hz: u32) -> [Update; 16]
-    ensures { λ r. ⌜ (take 1 r ≡ bandwidthUpdates hz) × (allIn (take 1 r) ≡ true) ⌝ }
+    ensures { λ r. ⌜ r ≡ sixteen (bandwidthUpdates hz) ⌝ }
 {
     let value = width(hz);
-    let u = Update {
+    let mut us = [FILLER; 16];
+    us[0] = Update {
         register: 0x0a,
         value: value,
         mask: 0x0f,
         past: false,
     };
-    [u; 16]
+    us
 }
 
 pub fn path_updates(path: Path) -> [Update; 16]
-    ensures { λ r. ⌜ (take 2 r ≡ pathUpdates path) × (allIn (take 2 r) ≡ true) ⌝ }
+    ensures { λ r. ⌜ r ≡ sixteen (pathUpdates path) ⌝ }
 {
     match path {
         Path::Hf => {
-            let mut us = [Update {
+            let mut us = [FILLER; 16];
+            us[0] = Update {
                 register: 0x06,
                 value: 0x08,
                 mask: 0x08,
                 past: false,
-            }; 16];
+            };
             us[1] = Update {
                 register: 0x05,
                 value: 0x00,
@@ -153,12 +157,13 @@ pub fn path_updates(path: Path) -> [Update; 16]
             us
         }
         Path::Vhf => {
-            let mut us = [Update {
+            let mut us = [FILLER; 16];
+            us[0] = Update {
                 register: 0x05,
                 value: 0x40,
                 mask: 0x60,
                 past: false,
-            }; 16];
+            };
             us[1] = Update {
                 register: 0x06,
                 value: 0x00,
@@ -168,12 +173,13 @@ pub fn path_updates(path: Path) -> [Update; 16]
             us
         }
         Path::Uhf => {
-            let mut us = [Update {
+            let mut us = [FILLER; 16];
+            us[0] = Update {
                 register: 0x05,
                 value: 0x20,
                 mask: 0x60,
                 past: false,
-            }; 16];
+            };
             us[1] = Update {
                 register: 0x06,
                 value: 0x00,

@@ -1,10 +1,8 @@
 -- `demod::if_rows` meets its contract. Assumes nothing.
 use Prim.Native.Nat.{ℕ, _/_, _%_, _^_}
-use mathlib.Core.Path.{ap, _∙_}
+use mathlib.Core.Path.{ap}
 use mathlib.Core.List.{[], _∷_}
-use Rattle.chip.specs.Steps.Step.{Plain}
-use Rattle.device.specs.Accesses.{accessStep, demodWrite}
-use Rattle.demod.specs.Programs.{ifSteps}
+use Rattle.device.specs.Accesses.{access, ten}
 use borrow.Author.Needs.{needs}
 use Rattle.demod.proofs.if_rows.Statement.{statement}
 use Rattle.demod.proofs.if_rows.Tie as tie
@@ -34,9 +32,8 @@ array-set-from-rows-3 : tie.Need-array-set-from-rows-3
 array-set-from-rows-3 c = search needs
 
 returns : tie.Need-returns
-unfolding accessStep ifSteps
 returns c =
-    ap (λ (x : ℕ). Plain (demodWrite 1 0x19 (x / 2 ^ 16)) ∷ Plain (demodWrite 1 0x1a (x / 2 ^ 8 % 2 ^ 8)) ∷ Plain (demodWrite 1 0x1b (x % 2 ^ 8)) ∷ [])
+    ap (λ (x : ℕ). ten (access 4 1 0x19 (x / 2 ^ 16) ∷ access 4 1 0x1a (x / 2 ^ 8 % 2 ^ 8) ∷ access 4 1 0x1b (x % 2 ^ 8) ∷ []))
     (c .if-value .ensures)
 
 pub if-rows-spec : {M : Type 1} → statement M

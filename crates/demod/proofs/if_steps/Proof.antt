@@ -1,6 +1,8 @@
 -- `demod::if_steps` meets its contract. Assumes nothing.
 use Rattle.chip.specs.Steps.{inRoom}
 use Rattle.chip.proofs.Laws.{by-program}
+use Rattle.device.proofs.Programs.{rows-meant}
+use Rattle.demod.specs.Programs.{ifSteps}
 use borrow.Author.Needs.{needs}
 use Rattle.demod.proofs.if_steps.Statement.{statement}
 use Rattle.demod.proofs.if_steps.Tie as tie
@@ -19,7 +21,8 @@ same-length : tie.Need-same-length
 same-length c = search needs
 
 returns : tie.Need-returns
-returns c = (by-program inRoom _ _ _ _ _ (c .before .before .before .before .if-rows .ensures) (c .before .before .access-three .ensures .0), search needs)
+unfolding ifSteps
+returns c = (by-program inRoom _ _ _ _ _ (rows-meant 3 _ _ (c .before .before .before .before .if-rows .ensures)) (c .before .before .access-three .ensures .0), search needs)
 
 pub if-steps-spec : {M : Type 1} → statement M
 if-steps-spec = tie.close (tie.spec if-rows-requires access-three-requires same-length returns)

@@ -2,10 +2,8 @@
 use Prim.Native.Nat.{ℕ, _/_, _%_, _^_}
 use mathlib.Core.Path.{ap, _∙_}
 use mathlib.Core.List.{[], _∷_}
-use Rattle.chip.specs.Steps.Step.{Plain}
 use Rattle.registers.specs.Rates.{sentOf}
-use Rattle.device.specs.Accesses.{accessStep, demodWrite, demodWrite16}
-use Rattle.demod.specs.Programs.{rateSteps}
+use Rattle.device.specs.Accesses.{access, ten}
 use borrow.Author.Needs.{needs}
 use Rattle.demod.proofs.rate_rows.Statement.{statement}
 use Rattle.demod.proofs.rate_rows.Tie as tie
@@ -39,9 +37,8 @@ array-set-from-rows-4 : tie.Need-array-set-from-rows-4
 array-set-from-rows-4 c = search needs
 
 returns : tie.Need-returns
-unfolding accessStep rateSteps
 returns c =
-    ap (λ (x : ℕ). Plain (demodWrite16 1 0x9f (x / 2 ^ 16)) ∷ Plain (demodWrite16 1 0xa1 (x % 2 ^ 16)) ∷ Plain (demodWrite 1 0x3f 0) ∷ Plain (demodWrite 1 0x3e 0) ∷ [])
+    ap (λ (x : ℕ). ten (access 5 1 0x9f (x / 2 ^ 16) ∷ access 5 1 0xa1 (x % 2 ^ 16) ∷ access 4 1 0x3f 0 ∷ access 4 1 0x3e 0 ∷ []))
     (c .sent .ensures ∙ ap sentOf (c .before .ratio .ensures))
 
 pub rate-rows-spec : {M : Type 1} → statement M

@@ -1,6 +1,8 @@
 -- `demod::rate_steps` meets its contract. Assumes nothing.
 use Rattle.chip.specs.Steps.{inRoom}
 use Rattle.chip.proofs.Laws.{by-program}
+use Rattle.device.proofs.Programs.{rows-meant}
+use Rattle.demod.specs.Programs.{rateSteps}
 use borrow.Author.Needs.{needs}
 use Rattle.demod.proofs.rate_steps.Statement.{statement}
 use Rattle.demod.proofs.rate_steps.Tie as tie
@@ -19,7 +21,8 @@ same-length : tie.Need-same-length
 same-length c = search needs
 
 returns : tie.Need-returns
-returns c = (by-program inRoom _ _ _ _ _ (c .before .before .before .before .rate-rows .ensures) (c .before .before .access-four .ensures .0), search needs)
+unfolding rateSteps
+returns c = (by-program inRoom _ _ _ _ _ (rows-meant 4 _ _ (c .before .before .before .before .rate-rows .ensures)) (c .before .before .access-four .ensures .0), search needs)
 
 pub rate-steps-spec : {M : Type 1} → statement M
 rate-steps-spec = tie.close (tie.spec rate-rows-requires access-four-requires same-length returns)

@@ -1,6 +1,8 @@
 -- `demod::set_if_freq_xtal` meets its contract: refused for reference 0, or the call. Assumes nothing.
 use native.Mathlib.Omega.{arith}
 use borrow.Author.Tests.{eq-eqb, ne-eqb}
+use Rattle.demod.specs.Programs.{ifSteps}
+use Rattle.device.proofs.Programs.{rows-meant}
 use Rattle.device.proofs.Free.{argument-bad, argument-good}
 use Rattle.demod.specs.Calls.{ifCall}
 use borrow.Author.Needs.{needs}
@@ -25,8 +27,8 @@ same-length : tie.Need-same-length
 same-length c = search needs
 
 returns-2 : tie.Need-returns-2
-unfolding ifCall
-returns-2 c = argument-good _ _ _ _ _ _ _ _ (ne-eqb _ _ (c .before .before .before .before .before .if1 .left)) (c .before .before .before .before .if-rows .ensures) (c .before .before .perform .ensures)
+unfolding ifCall ifSteps
+returns-2 c = argument-good _ _ _ _ _ _ _ _ (ne-eqb _ _ (c .before .before .before .before .before .if1 .left)) (rows-meant 3 _ _ (c .before .before .before .before .if-rows .ensures)) (c .before .before .perform .ensures)
 
 pub set-if-freq-xtal-spec : {M : Type 1} → statement M
 set-if-freq-xtal-spec =

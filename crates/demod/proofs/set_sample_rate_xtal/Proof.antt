@@ -2,6 +2,8 @@
 use mathlib.Core.Path.{refl}
 use native.Mathlib.Omega.{arith}
 use borrow.Author.Tests.{eq-eqb, ne-eqb}
+use Rattle.demod.specs.Programs.{rateSteps}
+use Rattle.device.proofs.Programs.{rows-meant}
 use Rattle.device.proofs.Free.{argument-bad, argument-good}
 use Rattle.demod.specs.Calls.{rateCall}
 use borrow.Author.Needs.{needs}
@@ -32,10 +34,10 @@ same-length : tie.Need-same-length
 same-length c = search needs
 
 returns-3 : tie.Need-returns-3
-unfolding rateCall
+unfolding rateCall rateSteps
 returns-3 c =
     argument-good _ _ _ _ _ _ _ _ (ne-eqb _ _ (c .before .before .before .before .before .before .if1 .left)) refl
-    (argument-good _ _ _ _ _ _ _ _ (ne-eqb _ _ (c .before .before .before .before .before .if2 .left)) (c .before .before .before .before .rate-rows .ensures) (c .before .before .perform .ensures))
+    (argument-good _ _ _ _ _ _ _ _ (ne-eqb _ _ (c .before .before .before .before .before .if2 .left)) (rows-meant 4 _ _ (c .before .before .before .before .rate-rows .ensures)) (c .before .before .perform .ensures))
 
 pub set-sample-rate-xtal-spec : {M : Type 1} → statement M
 set-sample-rate-xtal-spec =

@@ -2,9 +2,7 @@
 use mathlib.Core.Path.{ap}
 use mathlib.Core.List.{[], _∷_}
 use Prim.Native.Nat.{ℕ}
-use Rattle.chip.specs.Steps.Step.{Plain}
-use Rattle.device.specs.Accesses.{accessStep, blockRead, blockWrite}
-use Rattle.device.specs.Gpio.{bitSteps}
+use Rattle.device.specs.Accesses.{access, ten}
 use borrow.Author.Needs.{needs}
 use Rattle.device.proofs.bit_rows.Statement.{statement}
 use Rattle.device.proofs.bit_rows.Tie as tie
@@ -25,8 +23,7 @@ array-set-from-rows-2 : tie.Need-array-set-from-rows-2
 array-set-from-rows-2 c = search needs
 
 returns : tie.Need-returns
-unfolding accessStep bitSteps
-returns c = ap (λ (x : ℕ). Plain (blockRead 2 0x3001 (c .before .args .a)) ∷ Plain (blockWrite 2 0x3001 x) ∷ []) (c .changed .ensures)
+returns c = ap (λ (x : ℕ). ten (access 8 2 0x3001 (c .before .args .a) ∷ access 6 2 0x3001 x ∷ [])) (c .changed .ensures)
 
 pub bit-rows-spec : {M : Type 1} → statement M
 bit-rows-spec =

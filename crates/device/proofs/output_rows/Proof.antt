@@ -1,8 +1,6 @@
 -- `device::output_rows` meets its contract. Assumes nothing.
 use mathlib.Core.List.{[], _∷_}
-use Rattle.chip.specs.Steps.Step.{Plain}
-use Rattle.device.specs.Accesses.{accessStep, blockRead, blockWrite}
-use Rattle.device.specs.Gpio.{outputSteps}
+use Rattle.device.specs.Accesses.{access, ten}
 use borrow.Author.Needs.{needs}
 use Rattle.device.proofs.output_rows.Statement.{statement}
 use Rattle.device.proofs.output_rows.Tie as tie
@@ -36,9 +34,8 @@ array-set-from-rows-4 : tie.Need-array-set-from-rows-4
 array-set-from-rows-4 c = search needs
 
 returns : tie.Need-returns
-unfolding accessStep outputSteps
 returns c =
-    λ i. (Plain (blockRead 2 0x3003 (c .before .before .args .a)) ∷ Plain (blockWrite 2 0x3003 (c .before .with-bit .ensures i)) ∷ Plain (blockRead 2 0x3004 (c .before .before .args .b)) ∷ Plain (blockWrite 2 0x3004 (c .without-bit .ensures i)) ∷ [])
+    λ i. ten (access 8 2 0x3003 (c .before .before .args .a) ∷ access 6 2 0x3003 (c .before .with-bit .ensures i) ∷ access 8 2 0x3004 (c .before .before .args .b) ∷ access 6 2 0x3004 (c .without-bit .ensures i) ∷ [])
 
 pub output-rows-spec : {M : Type 1} → statement M
 output-rows-spec =

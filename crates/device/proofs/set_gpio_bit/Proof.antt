@@ -3,6 +3,7 @@ use mathlib.Core.Path.{ap, _∙_}
 use native.Mathlib.Omega.{arith}
 use borrow.Author.Tests.{lt-ltb, le-ltb}
 use Rattle.device.specs.Gpio.{bitCall, bitSteps}
+use Rattle.device.proofs.Programs.{rows-meant}
 use Rattle.device.proofs.Free.{argument-bad, argument-good}
 use borrow.Author.Needs.{needs}
 use Rattle.device.proofs.set_gpio_bit.Statement.{statement}
@@ -30,10 +31,10 @@ same-length : tie.Need-same-length
 same-length c = search needs
 
 returns-2 : tie.Need-returns-2
-unfolding bitCall
+unfolding bitCall bitSteps
 returns-2 c =
     argument-good _ _ _ _ _ _ _ _ (le-ltb _ _ (c .before .before .before .before .before .before .if1 .left))
-    (c .before .before .before .before .bit-rows .ensures ∙ ap (bitSteps (c .before .before .before .before .before .before .before .before .before .before .args .gpio) (c .before .before .before .before .before .before .before .before .before .before .args .value)) (c .before .before .before .before .before .reply .ensures)) (c .before .before .perform .ensures)
+    (rows-meant 2 _ _ (c .before .before .before .before .bit-rows .ensures) ∙ ap (bitSteps (c .before .before .before .before .before .before .before .before .before .before .args .gpio) (c .before .before .before .before .before .before .before .before .before .before .args .value)) (c .before .before .before .before .before .reply .ensures)) (c .before .before .perform .ensures)
 
 pub set-gpio-bit-spec : {M : Type 1} → statement M
 set-gpio-bit-spec =

@@ -3,6 +3,7 @@ use mathlib.Core.Path.{_∙_}
 use native.Mathlib.Omega.{arith}
 use borrow.Author.Tests.{lt-ltb, le-ltb}
 use Rattle.device.specs.Gpio.{outputCall, outputSteps}
+use Rattle.device.proofs.Programs.{rows-meant}
 use Rattle.device.proofs.Free.{argument-bad, argument-good}
 use borrow.Author.Needs.{needs}
 use Rattle.device.proofs.set_gpio_output.Statement.{statement}
@@ -33,10 +34,10 @@ same-length : tie.Need-same-length
 same-length c = search needs
 
 returns-2 : tie.Need-returns-2
-unfolding outputCall
+unfolding outputCall outputSteps
 returns-2 c =
     argument-good _ _ _ _ _ _ _ _ (le-ltb _ _ (c .before .before .before .before .before .before .before .if1 .left))
-    (c .before .before .before .before .output-rows .ensures ∙ (λ i. outputSteps (c .before .before .before .before .before .before .before .before .before .before .before .args .gpio) (c .before .before .before .before .before .before .reply .ensures i) (c .before .before .before .before .before .reply2 .ensures i))) (c .before .before .perform .ensures)
+    (rows-meant 4 _ _ (c .before .before .before .before .output-rows .ensures) ∙ (λ i. outputSteps (c .before .before .before .before .before .before .before .before .before .before .before .args .gpio) (c .before .before .before .before .before .before .reply .ensures i) (c .before .before .before .before .before .reply2 .ensures i))) (c .before .before .perform .ensures)
 
 pub set-gpio-output-spec : {M : Type 1} → statement M
 set-gpio-output-spec =

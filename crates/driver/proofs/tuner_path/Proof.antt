@@ -3,6 +3,7 @@ use native.Mathlib.Omega.{arith}
 use Rattle.chip.specs.Steps.{inRoom}
 use Rattle.driver.proofs.Paths.{own-path, still}
 use Rattle.chip.proofs.Laws.{by-program}
+use Rattle.writes.proofs.Lists.{path-meant, path-meant-in}
 use borrow.Author.Needs.{needs}
 use Rattle.driver.proofs.tuner_path.Statement.{statement}
 use Rattle.driver.proofs.tuner_path.Tie as tie
@@ -21,7 +22,7 @@ path-updates-requires : tie.Need-path-updates-requires
 path-updates-requires c κs = search needs
 
 with-repeater-requires : tie.Need-with-repeater-requires
-with-repeater-requires c κs = search needs
+with-repeater-requires c κs = (search needs, path-meant-in (c .before .before .before .before .before .before .args .path) _ (c .before .path-updates .ensures), search needs, search needs)
 
 returns : tie.Need-returns
 returns c = (still inRoom _ _ (c .before .before .before .before .args .path) _ (c .enum-told .given .1), omega arith)
@@ -30,7 +31,7 @@ same-length : tie.Need-same-length
 same-length c = search needs
 
 returns-2 : tie.Need-returns-2
-returns-2 c = (by-program inRoom _ _ _ _ _ (own-path _ (c .before .before .before .before .before .before .before .before .before .args .path) _ (c .before .before .before .before .before .enum-told2 .given .1) (c .before .before .before .before .path-updates .ensures .0)) (c .before .before .with-repeater .ensures .0), omega (arith, c .before .before .with-repeater .ensures .1))
+returns-2 c = (by-program inRoom _ _ _ _ _ (own-path _ (c .before .before .before .before .before .before .before .before .before .args .path) _ (c .before .before .before .before .before .enum-told2 .given .1) (path-meant (c .before .before .before .before .before .before .before .before .before .args .path) _ (c .before .before .before .before .path-updates .ensures))) (c .before .before .with-repeater .ensures .0), omega (arith, c .before .before .with-repeater .ensures .1))
 
 pub tuner-path-spec : {M : Type 1} → statement M
 tuner-path-spec =

@@ -1,6 +1,7 @@
 -- `writes::path_updates` meets its contract. Each return is one law of the definition, with what the calls before it ensure. Assumes nothing.
-use mathlib.Core.Path.{refl, sym, ap}
-use Rattle.chip.specs.Steps.{every}
+use mathlib.Core.Path.{sym, ap}
+use Rattle.board.specs.declared.Path.{Path}
+use Rattle.chip.specs.Steps.{sixteen}
 use Rattle.writes.specs.Lists.{pathUpdates}
 use borrow.Author.Needs.{needs}
 use Rattle.writes.proofs.path_updates.Statement.{statement}
@@ -12,29 +13,35 @@ enum-told c = search needs
 array-set-from-us : tie.Need-array-set-from-us
 array-set-from-us c = search needs
 
-enum-told-2 : tie.Need-enum-told-2
-enum-told-2 c = search needs
-
 array-set-from-us-2 : tie.Need-array-set-from-us-2
 array-set-from-us-2 c = search needs
 
-enum-told-3 : tie.Need-enum-told-3
-enum-told-3 c = search needs
+enum-told-2 : tie.Need-enum-told-2
+enum-told-2 c = search needs
 
 array-set-from-us-3 : tie.Need-array-set-from-us-3
 array-set-from-us-3 c = search needs
 
+array-set-from-us-4 : tie.Need-array-set-from-us-4
+array-set-from-us-4 c = search needs
+
+enum-told-3 : tie.Need-enum-told-3
+enum-told-3 c = search needs
+
+array-set-from-us-5 : tie.Need-array-set-from-us-5
+array-set-from-us-5 c = search needs
+
+array-set-from-us-6 : tie.Need-array-set-from-us-6
+array-set-from-us-6 c = search needs
+
 returns : tie.Need-returns
-unfolding every
-returns c = (sym (ap pathUpdates (c .enum-told .given .1)), refl)
+returns c = sym (ap (λ (path : Path). sixteen (pathUpdates path)) (c .enum-told .given .1))
 
 returns-2 : tie.Need-returns-2
-unfolding every
-returns-2 c = (sym (ap pathUpdates (c .enum-told2 .given .1)), refl)
+returns-2 c = sym (ap (λ (path : Path). sixteen (pathUpdates path)) (c .enum-told2 .given .1))
 
 returns-3 : tie.Need-returns-3
-unfolding every
-returns-3 c = (sym (ap pathUpdates (c .enum-told3 .given .1)), refl)
+returns-3 c = sym (ap (λ (path : Path). sixteen (pathUpdates path)) (c .enum-told3 .given .1))
 
 pub path-updates-spec : {M : Type 1} → statement M
 path-updates-spec =
@@ -42,10 +49,13 @@ path-updates-spec =
     (tie.spec
     enum-told
     array-set-from-us
-    enum-told-2
     array-set-from-us-2
-    enum-told-3
+    enum-told-2
     array-set-from-us-3
+    array-set-from-us-4
+    enum-told-3
+    array-set-from-us-5
+    array-set-from-us-6
     returns
     returns-2
     returns-3)
