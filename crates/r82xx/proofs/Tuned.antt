@@ -34,7 +34,7 @@ use Rattle.pll.proofs.Plans.{known}
 use Rattle.reference.specs.declared.Corrected.{Corrected}
 use Rattle.reference.specs.declared.Corrected.the-variants as corrected-variants
 use Rattle.reference.specs.Correct.{correctedOf}
-use Rattle.tuning.specs.Program.{innerSteps, numberOf, tuneSteps}
+use Rattle.tuning.specs.Program.{innerSteps, dividerNumber, tuneSteps}
 use Rattle.tuning.proofs.Programs.{eight-inner}
 use Rattle.writes.specs.Lists.{pathUpdates}
 use Rattle.r82xx.specs.declared.Tuner.{Tuner}
@@ -43,10 +43,10 @@ use Rattle.r82xx.specs.Calls.{bracketCall, hzRefusal, keptBy, keptPpm, p
 use Rattle.r82xx.proofs.Whole.{behind-eight, bracket-by, lock-by, perform-by}
 
 -- a plan's divider number
-pub number-small : (kind : Kind) (lo r : ℕ) → numberOf (planOf kind lo r) ≤ 5
+pub number-small : (kind : Kind) (lo r : ℕ) → dividerNumber (planOf kind lo r) ≤ 5
 number-small kind lo r = go (planOf kind lo r) refl
   where
-    go : (p : Pll) → planOf kind lo r ≡ p → numberOf p ≤ 5
+    go : (p : Pll) → planOf kind lo r ≡ p → dividerNumber p ≤ 5
     go (pll-variants.Planned p) e = known kind lo r p e .number
     go pll-variants.Refused e = omega arith
 

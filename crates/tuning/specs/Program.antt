@@ -13,9 +13,9 @@ use Rattle.tuning.specs.Mux.{muxUpdates, pllUpdates, rangeOf}
 use Rattle.tuning.specs.Tries.{repairUpdates, statusSteps, triesFrom}
 
 -- the divider's number of a plan; at most 5, as pll shows
-abbrev pub numberOf : Pll → ℕ
-numberOf Refused = 0
-numberOf (Planned p) = p .number
+abbrev pub dividerNumber : Pll → ℕ
+dividerNumber Refused = 0
+dividerNumber (Planned p) = p .number
 
 -- what follows the sixteen registers
 abbrev pub pllSteps : ℕ → Kind → ℕ → List ℕ → List Step

@@ -13,7 +13,7 @@ ghost use Rattle.chip.specs.Steps.{allIn, closing, due, inRoom, onLog, onRoom, 
 ghost use Rattle.chip.specs.Steps.Step.{Plain};
 ghost use Rattle.tuning.specs.Mux.{laterOf, masked, pick, muxUpdates, pllUpdates, rangeOf};
 ghost use Rattle.tuning.specs.Tries.{afterTry, listed, locked, fineOf, powerOf, repairUpdates, replyBytes, statusSteps, triesFrom, tryRead, lockedBy};
-ghost use Rattle.tuning.specs.Program.{innerSteps, numberOf, pllSteps, tuneSteps};
+ghost use Rattle.tuning.specs.Program.{innerSteps, dividerNumber, pllSteps, tuneSteps};
 use chip::FILLER;
 use chip::Flow;
 use chip::Log;
@@ -498,7 +498,7 @@ fn tune_inner(
     outcomes: &[u8],
     room: &mut [u8],
 ) -> Flow
-    requires { ⌜ (numberOf plan ≤ 5) × (35 ≤ length (now replies))
+    requires { ⌜ (dividerNumber plan ≤ 5) × (35 ≤ length (now replies))
         × (f .count + 51 + due (f .held) ≤ length (now outcomes)) × (16 * (f .count + 51 + due (f .held)) ≤ length (now room)) ⌝ }
     ensures { λ r. ⌜ onRoom r (now (room .exit))
         ≡ closing inRoom (now (outcomes .entry))
@@ -536,7 +536,7 @@ pub fn tune(
     outcomes: &[u8],
     room: &mut [u8],
 ) -> Flow
-    requires { ⌜ (numberOf plan ≤ 5) × (35 ≤ length (now replies))
+    requires { ⌜ (dividerNumber plan ≤ 5) × (35 ≤ length (now replies))
         × (f .count + 53 ≤ length (now outcomes)) × (16 * (f .count + 53) ≤ length (now room)) ⌝ }
     ensures { λ r. ⌜ onRoom r (now (room .exit))
         ≡ run inRoom (now (outcomes .entry)) (tuneSteps address kind notch plan hz (now (replies .entry))) (onRoom f (now (room .entry))) ⌝ }

@@ -1,5 +1,5 @@
 -- `tuning::tune_inner` meets its contract. Each return is one law of the definition, with what the calls before it ensure. Assumes nothing.
-use Rattle.tuning.specs.Program.{pllSteps, numberOf}
+use Rattle.tuning.specs.Program.{pllSteps, dividerNumber}
 use mathlib.Core.Path.{subst, _≡_, ap}
 use Rattle.chip.specs.declared.Update.{Update}
 use Rattle.pll.specs.declared.Pll.{Pll}
@@ -41,14 +41,14 @@ returns c = let a : c .before .before .write-all .result .count + due (c .before
     (swap inRoom _ _ _ _ _ (mux-made (c .before .before .before .before .before .before .before .before .before .before .before .args .address) (c .before .before .before .before .before .before .before .before .before .before .before .args .kind) (c .before .before .before .before .before .before .before .before .before .before .before .args .notch) (c .before .before .before .before .before .before .before .before .before .before .before .args .plan) (c .before .before .before .before .before .before .before .before .before .before .before .args .hz) (now (c .before .before .before .before .before .before .before .before .before .before .before .args .replies)) _ _ (record { m = 0; number = 0; n = 0; setting = 0; fraction = 0; sum = 0; rest = 0 }) (c .before .before .before .before .before .before .before .freq-range .ensures) (c .before .before .before .before .tune-updates .ensures) (c .before .before .before .before .before .enum-told .given .1)) (c .before .before .write-all .ensures .0), most)
 
 tune-updates-requires-2 : tie.Need-tune-updates-requires-2
-tune-updates-requires-2 c κs = subst (λ (q : Pll). numberOf q ≤ 5) (c .before .plan .given .1) (c .before .before .before .before .before .before .before .pre .0)
+tune-updates-requires-2 c κs = subst (λ (q : Pll). dividerNumber q ≤ 5) (c .before .plan .given .1) (c .before .before .before .before .before .before .before .pre .0)
 
 write-all-requires-2 : tie.Need-write-all-requires-2
 unfolding every
 write-all-requires-2 c κs = (search needs, ap (λ (l : List Update). every inRange (take 16 l)) (c .before .tune-updates2 .ensures), search needs, search needs)
 
 set-pll-raw-requires : tie.Need-set-pll-raw-requires
-set-pll-raw-requires c κs = let n : c .before .before .before .before .before .before .before .plan .given .0 .0 .number ≤ 5 = subst (λ (q : Pll). numberOf q ≤ 5) (c .before .before .before .before .before .before .before .plan .given .1) (c .before .before .before .before .before .before .before .before .before .before .before .before .before .pre .0) in
+set-pll-raw-requires c κs = let n : c .before .before .before .before .before .before .before .plan .given .0 .0 .number ≤ 5 = subst (λ (q : Pll). dividerNumber q ≤ 5) (c .before .before .before .before .before .before .before .plan .given .1) (c .before .before .before .before .before .before .before .before .before .before .before .before .before .pre .0) in
     let a : c .before .before .before .write-all2 .result .count + due (c .before .before .before .write-all2 .result .held) ≤ c .before .before .before .before .before .before .before .before .before .before .before .before .before .args .f .count + 16 + due (c .before .before .before .before .before .before .before .before .before .before .before .before .before .args .f .held) = c .before .before .before .write-all2 .ensures .1 in
     let d : length (c .before .before .before .write-all2 .last .1 .1 .1 .1 .0) ≡ length (now (c .before .before .before .before .before .before .before .before .before .before .before .before .before .args .room)) = c .before .before .before .write-all2 .kept .1 .1 .1 .1 .0 in
     let g : (35 ≤ length (now (c .before .before .before .before .before .before .before .before .before .before .before .before .before .args .replies))) × (c .before .before .before .write-all2 .result .count + 35 + due (c .before .before .before .write-all2 .result .held) ≤ length (now (c .before .before .before .before .before .before .before .before .before .before .before .before .before .args .outcomes))) × (16 * (c .before .before .before .write-all2 .result .count + 35 + due (c .before .before .before .write-all2 .result .held)) ≤ length (c .before .before .before .write-all2 .last .1 .1 .1 .1 .0)) = omega (arith, c .before .before .before .before .before .before .before .before .before .before .before .before .before .pre) in

@@ -10,7 +10,7 @@ use lib.ListN.{length}
 use Rattle.chip.specs.Steps.{due}
 use Rattle.r82xx.proofs.Tuned.{number-small, tune-by}
 use Rattle.pll.specs.declared.Pll.{Pll}
-use Rattle.tuning.specs.Program.{numberOf}
+use Rattle.tuning.specs.Program.{dividerNumber}
 use borrow.Author.Needs.{needs}
 use Rattle.r82xx.proofs.Tuner.set_frequency.Statement.{statement}
 use Rattle.r82xx.proofs.Tuner.set_frequency.Tie as tie
@@ -32,7 +32,7 @@ plan-pll-requires : tie.Need-plan-pll-requires
 plan-pll-requires c κs = search needs
 
 tune-requires : tie.Need-tune-requires
-tune-requires c κs = let z = taken-by (c .before .before .before .before .before .before .before .before .before .args .self) (c .before .before .before .before .before .hz-refusal .result) 53 35 (length (now (c .before .before .before .before .before .before .before .before .before .args .room))) (length (now (c .before .before .before .before .before .before .before .before .before .args .outcomes))) (length (now (c .before .before .before .before .before .before .before .before .before .args .replies))) (sym (c .before .before .before .before .refusal .ensures) ∙ c .before .before .before .if1 .left) in let one = z .lent .rooms in let two = z .lent .outs in let three = z .lent .back in (subst⁻¹ (λ (p : Pll). numberOf p ≤ 5) (c .before .plan-pll .ensures) (number-small _ _ _), omega arith, omega arith, omega arith)
+tune-requires c κs = let z = taken-by (c .before .before .before .before .before .before .before .before .before .args .self) (c .before .before .before .before .before .hz-refusal .result) 53 35 (length (now (c .before .before .before .before .before .before .before .before .before .args .room))) (length (now (c .before .before .before .before .before .before .before .before .before .args .outcomes))) (length (now (c .before .before .before .before .before .before .before .before .before .args .replies))) (sym (c .before .before .before .before .refusal .ensures) ∙ c .before .before .before .if1 .left) in let one = z .lent .rooms in let two = z .lent .outs in let three = z .lent .back in (subst⁻¹ (λ (p : Pll). dividerNumber p ≤ 5) (c .before .plan-pll .ensures) (number-small _ _ _), omega arith, omega arith, omega arith)
 
 whole-answer-requires : tie.Need-whole-answer-requires
 whole-answer-requires c κs = search needs
