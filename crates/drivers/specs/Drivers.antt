@@ -16,7 +16,7 @@ use Rattle.driver.specs.Record.{driverOf as madeDriver, xtalOf}
 use Rattle.records.specs.Drivers.{driverBytes, driverOf}
 use Rattle.records.specs.Tuners.{tunerBytes, tunerOf}
 use Rattle.replies.specs.declared.Reply.{Reply}
-use Rattle.replies.specs.Replies.{replyOf}
+use Rattle.replies.specs.Replies.{callReply, replyOf}
 use Rattle.tuners.specs.Over.{nextOf, unlessRefused}
 use Rattle.tuners.specs.Still.{changedTo, ofRecord, recordInto}
 
@@ -49,7 +49,7 @@ bothReady ok rate driver tuner =
 
 abbrev pub ratesMade : Called Both → List ℕ → List ℕ → Rates
 ratesMade c driver tuner =
-    rates (replyOf (c .answer) (c .count)) (c .room) (nextOf driverBytes (c .answer) (c .count) (c .next .driver) driver)
+    rates (callReply c) (c .room) (nextOf driverBytes (c .answer) (c .count) (c .next .driver) driver)
     (nextOf tunerBytes (c .answer) (c .count) (c .next .tuner) tuner)
 
 abbrev pub ratesRefused : ℕ → List ℕ → List ℕ → List ℕ → Rates

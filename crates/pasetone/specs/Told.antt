@@ -10,7 +10,7 @@ use Rattle.chip.specs.declared.Answer.{Answer}
 use Rattle.chip.specs.Calls.{Called}
 use Rattle.replies.specs.declared.Reply.{Reply}
 use Rattle.replies.specs.declared.TuneReply.{TuneReply}
-use Rattle.replies.specs.Replies.{replyOf, tunedOf}
+use Rattle.replies.specs.Replies.{callReply, replyOf, tunedOf}
 use Rattle.tuners.specs.Over.{After}
 
 -- an answer without steps, and the slice that was lent for its bytes
@@ -33,7 +33,7 @@ abbrev pub shown : Reply → List ℕ → Shown
 shown answer room = record { answer = answer; room = room }
 
 abbrev pub shownBy : Called (Unit {0}) → Shown
-shownBy c = shown (replyOf (c .answer) (c .count)) (c .room)
+shownBy c = shown (callReply c) (c .room)
 
 -- a tuning, which has a reply of its own
 pub record Tuned : Type 0 where

@@ -52,7 +52,7 @@ use Rattle.r82xx.proofs.Told as R
 use Rattle.r82xx.proofs.Told.Laws as R′
 
 -- the two functions' MIR, by the second argument's type and the callee's name
-abbrev pub function : Ty → Name → Fn
+abbrev function : Ty → Name → Fn
 function τ callee = record {
   lifetimes = 0;
   outlives = [];
@@ -65,17 +65,17 @@ function τ callee = record {
       (seq (assign (place 0 []) (aggregate (copy (place 6 []) ∷ copy (place 4 []) ∷ int w64 0 ∷ []))) return))));
 }
 
-abbrev pub mach : Tuner → Val
+abbrev mach : Tuner → Val
 mach t = LL.tuple-val T.the-type T′.the-laws (T.the-type .to t)
 
 -- what is handed back, and its machine value
-abbrev pub told : Tuner → Answer → Told
+abbrev told : Tuner → Answer → Told
 told t r = record { tuner = t; answer = r; count = 0 }
 
-abbrev pub whole : Tuner → Answer → Val
+abbrev whole : Tuner → Answer → Val
 whole t r = LL.tuple-val R.the-type R′.the-laws (R.the-type .to (told t r))
 
-abbrev pub Back : Tuner → Answer → Type 0
+abbrev Back : Tuner → Answer → Type 0
 Back t r = Is R.the-row (told t r) (whole t r ∷ [])
 
 back : (t : Tuner) (r : Answer) (v : Val) → Lies t → Is S.the-row r (v ∷ []) → Back t r
@@ -83,7 +83,7 @@ back t r v lies is =
     LL.owes R.the-type R′.the-laws (told t r) (lies, (subst (Is S.the-row r) (EL.tells S.the-type S′.the-laws r _ is) is, ((refl, omega arith), tt)))
 
 -- the record that lies at l, as it is lent there
-abbrev pub lent : Tuner → ℕ → GName → RefT Tuner
+abbrev lent : Tuner → ℕ → GName → RefT Tuner
 lent t l δ = record { ptr = (l, 0); name = δ; now = t }
 
 module _ {M : Type 1} (𝓤 : URA M) (H : Heap 𝓤) (A : Atoms 𝓤) (W : Given 𝓤 H A) where
@@ -114,22 +114,22 @@ still P =
 -- The second argument's type, as MIR has it, and its machine value; the record that is left and the answer; the callee
 module _ (P : RattleType) (τ : Ty) (value : P .Denot → Val) (tells : Tells P (Is P) (λ p. value p ∷ [])) (left : Tuner → P .Denot → Tuner) (answer : Tuner → P .Denot → Answer) (callee : Name) where
   -- the callee's signature and clauses, and the caller's
-  abbrev pub lending : Ended
+  abbrev lending : Ended
   lending = record {
     signature = record { lifetimes = 1; outlives = []; params = RefMutOf (0 ∷ []) tt (plain (λ _. T.the-row)) (λ _. tt) ∷ plain (λ _. still P) ∷ []; result = plain (λ _. S.the-row) };
     kept = (yes, (yes, tt));
   }
 
-  abbrev pub lends : {M : Type 1} (𝓤 : URA M) → Clauses 𝓤 lending
+  abbrev lends : {M : Type 1} (𝓤 : URA M) → Clauses 𝓤 lending
   lends 𝓤 κs a = record { ghost = Unit {0}; requires = λ _. emp 𝓤; ensures = λ _ r e. fact 𝓤 ((r ≡ answer (now (a .0)) (a .1 .0)) × (now (e .0) ≡ left (now (a .0)) (a .1 .0))) }
 
-  abbrev pub holding : Ended
+  abbrev holding : Ended
   holding = record {
     signature = record { lifetimes = 0; outlives = []; params = plain (λ _. T.the-row) ∷ plain (λ _. still P) ∷ []; result = plain (λ _. R.the-row) };
     kept = (yes, (yes, tt));
   }
 
-  abbrev pub holds : {M : Type 1} (𝓤 : URA M) → Clauses 𝓤 holding
+  abbrev holds : {M : Type 1} (𝓤 : URA M) → Clauses 𝓤 holding
   holds 𝓤 κs a = record { ghost = Unit {0}; requires = λ _. emp 𝓤; ensures = λ _ r e. fact 𝓤 (called (r .tuner) [] (r .count) (r .answer) ≡ called (left (a .0) (a .1 .0)) [] 0 (answer (a .0) (a .1 .0))) }
 
   abbrev stayed : Stays (holding .signature .params) (holding .kept)

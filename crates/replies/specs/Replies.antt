@@ -1,9 +1,10 @@
 -- An answer as the numbers that a host is told. Document 01, "Refusal numbers": "A refused call's value is 0; 11 also gives the failing entry's index."
 -- Assumes nothing.
-use Prim.Native.Nat.{ℕ, _%_}
-use mathlib.Core.List.{List}
+use Prim.Native.Nat.{ℕ, zero, suc, _%_}
+use mathlib.Core.List.{List, [], _∷_}
 use Rattle.chip.specs.declared.Answer.{Answer}
-use Rattle.chip.specs.Calls.{indexOf, numberOf, valueOf}
+use Rattle.chip.specs.Calls.{Called, indexOf, numberOf, valueOf}
+use Rattle.transcript.specs.declared.Entry.{Entry}
 use Rattle.transcript.specs.declared.Section.{Section}
 use Rattle.transcript.specs.declared.Section.the-variants as section
 use Rattle.replies.specs.declared.Parts.{Parts}
@@ -14,6 +15,19 @@ use Rattle.replies.specs.declared.TuneReply.{TuneReply}
 abbrev pub replyOf : Answer → ℕ → Reply
 replyOf a count =
     record { value = valueOf a; index = indexOf a; refusal = numberOf a; count = count % 4294967296 }
+
+-- the same of all that a call leaves
+abbrev pub callReply : {R : Type 0} → Called R → Reply
+callReply c = replyOf (c .answer) (c .count)
+
+abbrev pub numbersTold : ℕ → ℕ → ℕ → ℕ → Reply
+numbersTold refusal value index count = record { value = value; index = index; refusal = refusal; count = count }
+
+-- the outcome of the entry at an index, 0 where there is none
+unfoldable pub outcomeAt : List Entry → ℕ → ℕ
+outcomeAt [] i = 0
+outcomeAt (e ∷ es) zero = e .outcome
+outcomeAt (e ∷ es) (suc i) = outcomeAt es i
 
 abbrev pub tunedOf : Reply → TuneReply
 tunedOf r = record { value = r .value; index = r .index; refusal = r .refusal; count = r .count }

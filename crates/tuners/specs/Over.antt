@@ -14,7 +14,7 @@ use Rattle.r82xx.specs.declared.Tuner.{Tuner}
 use Rattle.r82xx.specs.Record.{pick}
 use Rattle.records.specs.Tuners.{tunerBytes, tunerOf}
 use Rattle.replies.specs.declared.Reply.{Reply}
-use Rattle.replies.specs.Replies.{replyOf}
+use Rattle.replies.specs.Replies.{callReply, replyOf}
 
 -- what a call over bytes leaves: its answer, the room, the slice for the next record
 pub record After : Type 0 where
@@ -41,7 +41,7 @@ nextOf bytes answer count new next = pick (keptOf answer count) (sets next 0 (by
 -- a call that was made, and one that was refused before it
 abbrev pub handed : Called Tuner → List ℕ → After
 handed c next =
-    after (replyOf (c .answer) (c .count)) (c .room) (nextOf tunerBytes (c .answer) (c .count) (c .next) next)
+    after (callReply c) (c .room) (nextOf tunerBytes (c .answer) (c .count) (c .next) next)
 
 abbrev pub refusal : ℕ → List ℕ → List ℕ → After
 refusal number room next = after (replyOf (Refused number) 0) room next
