@@ -52,7 +52,7 @@ fn later(hz: u64, best: FreqRange, r: FreqRange) -> FreqRange
 }
 
 // The last row whose frequency is at most hz.
-pub fn freq_range(hz: u64) -> FreqRange
+fn freq_range(hz: u64) -> FreqRange
     ensures { λ r. ⌜ r ≡ rangeOf hz ⌝ }
 {
     let table = FREQ_RANGES;

@@ -70,7 +70,7 @@ fn width(hz: u32) -> u8
     0x00
 }
 
-pub fn init_updates() -> [Update; 16]
+fn init_updates() -> [Update; 16]
     ensures { λ r. ⌜ r ≡ sixteen initUpdates ⌝ }
 {
     let mut us = [FILLER; 16];
