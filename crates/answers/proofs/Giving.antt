@@ -2,7 +2,7 @@
 -- Assumes nothing.
 use Prim.Native.Nat.{ℕ, _+_, _<_, _≤_}
 use mathlib.Core.Path.{_≡_, refl, sym, ap, _∙_}
-use mathlib.Core.Bool.{Bool, true, false}
+use mathlib.Core.Bool.{Bool, true, false, cond}
 use mathlib.Core.List.{List, _++_, append-nil, map}
 use native.Mathlib.Omega.{arith}
 use borrow.Author.Tests.{eq-eqb, ne-eqb, lt-ltb, le-ltb}
@@ -21,7 +21,7 @@ use Rattle.r82xx.specs.declared.Tuner.{Tuner}
 use Rattle.r82xx.specs.Record.{soundBy, pick as record-pick}
 use Rattle.registers.specs.declared.IfRegs.{IfRegs}
 use Rattle.registers.specs.declared.ResampleRegs.{ResampleRegs}
-use Rattle.registers.specs.Rates.{ifRegsOf, pickIf, pickResample, resampleRegsOf}
+use Rattle.registers.specs.Rates.{ifRegsOf, resampleRegsOf}
 
 module _ (refusal value : ℕ) (bytes out : List ℕ) where
   pub refused : 0 < refusal → given (Refused refusal) out ≡ lentTo refusal value bytes out
@@ -75,11 +75,11 @@ unfolding tableOf soundAnswer tableInto
 table-given t out = table-cases (soundBy (t .nominal) (t .corrected)) (replicate 29 (pos 0)) out
 
 -- a choice of two is small where both are
-if-either : (b : Bool) (x y : IfRegs) → x .refusal < 256 → y .refusal < 256 → pickIf b x y .refusal < 256
+if-either : (b : Bool) (x y : IfRegs) → x .refusal < 256 → y .refusal < 256 → cond b x y .refusal < 256
 if-either true x y h k = h
 if-either false x y h k = k
 
-resample-either : (b : Bool) (x y : ResampleRegs) → x .refusal < 256 → y .refusal < 256 → pickResample b x y .refusal < 256
+resample-either : (b : Bool) (x y : ResampleRegs) → x .refusal < 256 → y .refusal < 256 → cond b x y .refusal < 256
 resample-either true x y h k = h
 resample-either false x y h k = k
 
