@@ -2,7 +2,7 @@
 -- Document 01, "Worked numbers": "V4: 28,799,999 goes to 57,599,999 inverted; 28,800,000 stays."
 -- Assumes nothing.
 use Prim.Native.Nat.{ℕ, _+_}
-use mathlib.Core.Bool.{Bool, true, false, cond, _&&_, _||_}
+use mathlib.Core.Bool.{Bool, false, cond, _&&_, _||_}
 use lib.Dec.{ltb, leb}
 use Rattle.board.specs.declared.Board.{Board}
 use Rattle.board.specs.declared.Board.the-variants.{Generic, V4}

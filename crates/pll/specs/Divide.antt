@@ -1,6 +1,6 @@
 -- The divider of the oscillator. Document 01, "PLL": "Divider m: the first of 2, 4, .. 64 with 1,770,000,000 ≤ lo·m < 3,600,000,000."
 use Prim.Native.Nat.{ℕ, _+_, _*_}
-use mathlib.Core.Bool.{Bool, true, false, cond, _&&_}
+use mathlib.Core.Bool.{Bool, cond, _&&_}
 use mathlib.Core.List.{List, [], _∷_}
 use lib.Dec.{leb, ltb}
 use Rattle.pll.specs.declared.Mixer.{Mixer}

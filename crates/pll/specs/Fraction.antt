@@ -1,7 +1,7 @@
 -- The sum of the fraction. Document 01, "PLL": "Sum S from 0: for n = 2, 4, .. 65,536 while F > 1: if F > 2K/n, add 32,768/(n/2) to S,
 -- take 2K/n from F, and stop if n ≥ 32,768."
 use Prim.Native.Nat.{ℕ, zero, suc, _+_, _-_, _*_, _/_}
-use mathlib.Core.Bool.{Bool, true, false, cond, not, _&&_}
+use mathlib.Core.Bool.{Bool, false, cond, not, _&&_}
 use lib.Dec.{leb, ltb}
 use Rattle.pll.specs.declared.Sum.{Sum}
 

@@ -1,7 +1,7 @@
 -- The numbers of the PLL for a frequency of the oscillator. Document 01, "PLL": "N = lo·m / (2R). Above 127 (R828D) or 63 (R820T): refusal 2.
 -- F = (lo·m - 2RN) / 1000", and "K = R / 1000 (whole numbers throughout)".
 use Prim.Native.Nat.{ℕ, _-_, _*_, _/_}
-use mathlib.Core.Bool.{Bool, true, false, cond}
+use mathlib.Core.Bool.{cond}
 use lib.Dec.{ltb, eqb}
 use Rattle.pll.specs.declared.Kind.{Kind}
 use Rattle.pll.specs.declared.Kind.the-variants.{R820T, R828D}

@@ -1,7 +1,7 @@
 -- The corrected reference. Document 01, "The record": "Corrected reference: nominal + nominal·ppm / 1,000,000, the quotient cut toward zero."
 -- "Refusal numbers", 4: "corrected reference not 1..4,294,967,295".
 use Prim.Native.Nat.{ℕ}
-use mathlib.Core.Bool.{Bool, true, false, cond, _&&_}
+use mathlib.Core.Bool.{cond, _&&_}
 use lib.Dec.{leb}
 use lib.IntN.{ℤ, pos, negsuc, _+ℤ_, _*ℤ_}
 use lib.Signed.{quotZ}

@@ -6,8 +6,6 @@ use native.Mathlib.Omega.{arith}
 use mathlib.Core.List.{[], _∷_}
 use lib.Bits.{bitAnd, bitOr, and-high, and-le-r, or-shifted-r}
 use lib.Pow.{mod-pow-add}
-use Rattle.registers.specs.declared.IfRegs.{IfRegs}
-use Rattle.registers.specs.declared.ResampleRegs.{ResampleRegs}
 use Rattle.registers.specs.Rates.{ifRatioOf, ifRegsOf, ifValueOf, maskedOf, negatedOf, numberFrom, ratioOf, resampleRegsOf, sentOf, threeOf}
 
 -- negated is below 2^22, and the sum with the number is 0 there: minus the number, modulo 2^22

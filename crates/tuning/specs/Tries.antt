@@ -2,7 +2,7 @@
 -- reversed. No lock isn't a refusal." "Transcript and script": "Tune takes replies 0..4 as status, then three per try."
 -- Assumes nothing.
 use Prim.Native.Nat.{ℕ, zero, suc, _+_, _-_, _*_, _/_}
-use mathlib.Core.Bool.{Bool, true, false, cond}
+use mathlib.Core.Bool.{Bool, cond}
 use mathlib.Core.List.{List, [], _∷_, _++_}
 use lib.Bits.{bitAnd}
 use lib.Dec.{eqb, ltb}

@@ -2,14 +2,14 @@
 // written, the status, the divider's repair and the tries for a lock, over a flow that a larger call may hold.
 // Document 01, "PLL" and "Transcript and script".
 ghost use mathlib.Core.Path.{_≡_};
-ghost use mathlib.Core.Bool.{true, cond};
+ghost use mathlib.Core.Bool.{cond};
 ghost use mathlib.Core.List.{[], _∷_, _++_};
 ghost use Prim.Native.Nat.{_+_, _-_, _*_, _≤_, _<_};
 ghost use lib.Dec.{eqb};
-ghost use lib.ListN.{length, getD, take};
+ghost use lib.ListN.{length, getD};
 ghost use Rattle.chip.specs.declared.Chip.{Chip};
 ghost use Rattle.chip.specs.Entries.{lockedBy, pointer, readEntry, wait};
-ghost use Rattle.chip.specs.Steps.{allIn, closing, due, inRoom, onLog, onRoom, run, updates};
+ghost use Rattle.chip.specs.Steps.{closing, due, inRoom, onLog, onRoom, run, updates};
 ghost use Rattle.chip.specs.Steps.Step.{Plain};
 ghost use Rattle.tuning.specs.Mux.{laterOf, masked, muxUpdates, pllUpdates, rangeOf};
 ghost use Rattle.tuning.specs.Tries.{afterTry, listed, locked, fineOf, powerOf, repairUpdates, replyBytes, statusSteps, triesFrom, tryRead};

@@ -1,7 +1,7 @@
 -- Which registers the calls of src/tuners/r82xx.rs write, other than a tuning: value and mask of each, in the Rust's order.
 -- Assumes nothing.
 use Prim.Native.Nat.{ℕ}
-use mathlib.Core.Bool.{Bool, true, false, cond}
+use mathlib.Core.Bool.{false, cond}
 use mathlib.Core.List.{List, [], _∷_, _++_}
 use lib.Dec.{leb}
 use Rattle.board.specs.declared.Path.{Path}
