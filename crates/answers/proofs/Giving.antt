@@ -2,7 +2,7 @@
 -- Assumes nothing.
 use Prim.Native.Nat.{ℕ, _+_, _<_, _≤_}
 use mathlib.Core.Path.{_≡_, refl, sym, ap, _∙_}
-use mathlib.Core.Bool.{Bool, true, false}
+use mathlib.Core.Bool.{Bool, true, false, cond}
 use mathlib.Core.List.{List, _++_, append-nil, map}
 use native.Mathlib.Omega.{arith}
 use borrow.Author.Tests.{eq-eqb, ne-eqb, lt-ltb, le-ltb}
@@ -10,7 +10,7 @@ use lib.Dec.{eqb}
 use lib.IntN.{ℤ, pos}
 use lib.ListN.{length, replicate, drop-of-length-le}
 use lib.Seq.{sets, sets-eq}
-use Rattle.answers.specs.Lent.{Given, given, lentTo, packInto, pick, tableInto, unpackInto, wordBytes, wordsIn}
+use Rattle.answers.specs.Lent.{Given, given, lentTo, packInto, tableInto, unpackInto, wordBytes, wordsIn}
 use Rattle.chip.specs.Calls.{numberOf}
 use Rattle.chip.specs.declared.Answer.the-variants.{Done, Refused}
 use Rattle.fir.specs.Packing.{packed, unpackOf}
@@ -18,10 +18,10 @@ use Rattle.gain.specs.Steps.{steps}
 use Rattle.r82xx.specs.Calls.{soundAnswer, tableOf}
 use Rattle.r82xx.specs.declared.Table.{Table}
 use Rattle.r82xx.specs.declared.Tuner.{Tuner}
-use Rattle.r82xx.specs.Record.{soundBy, pick as record-pick}
+use Rattle.r82xx.specs.Record.{soundBy}
 use Rattle.registers.specs.declared.IfRegs.{IfRegs}
 use Rattle.registers.specs.declared.ResampleRegs.{ResampleRegs}
-use Rattle.registers.specs.Rates.{ifRegsOf, pickIf, pickResample, resampleRegsOf}
+use Rattle.registers.specs.Rates.{ifRegsOf, resampleRegsOf}
 
 module _ (refusal value : ℕ) (bytes out : List ℕ) where
   pub refused : 0 < refusal → given (Refused refusal) out ≡ lentTo refusal value bytes out
@@ -65,8 +65,8 @@ abbrev lentTable : Table → List ℕ → Given
 lentTable r out = lentTo (numberOf (r .answer)) 0 (wordBytes (r .steps)) out
 
 table-cases : (b : Bool) (zeros : List ℤ) (out : List ℕ)
-    → lentTable (record-pick b (record { answer = record-pick b (Done 0) (Refused 1); steps = map pos steps }) (record { answer = record-pick b (Done 0) (Refused 1); steps = zeros })) out
-    ≡ pick b (lentTo 0 0 (wordBytes (map pos steps)) out) (given (Refused 1) out)
+    → lentTable (cond b (record { answer = cond b (Done 0) (Refused 1); steps = map pos steps }) (record { answer = cond b (Done 0) (Refused 1); steps = zeros })) out
+    ≡ cond b (lentTo 0 0 (wordBytes (map pos steps)) out) (given (Refused 1) out)
 table-cases true zeros out = refl
 table-cases false zeros out = sym (refused 1 0 (wordBytes zeros) out (omega arith))
 
@@ -75,11 +75,11 @@ unfolding tableOf soundAnswer tableInto
 table-given t out = table-cases (soundBy (t .nominal) (t .corrected)) (replicate 29 (pos 0)) out
 
 -- a choice of two is small where both are
-if-either : (b : Bool) (x y : IfRegs) → x .refusal < 256 → y .refusal < 256 → pickIf b x y .refusal < 256
+if-either : (b : Bool) (x y : IfRegs) → x .refusal < 256 → y .refusal < 256 → cond b x y .refusal < 256
 if-either true x y h k = h
 if-either false x y h k = k
 
-resample-either : (b : Bool) (x y : ResampleRegs) → x .refusal < 256 → y .refusal < 256 → pickResample b x y .refusal < 256
+resample-either : (b : Bool) (x y : ResampleRegs) → x .refusal < 256 → y .refusal < 256 → cond b x y .refusal < 256
 resample-either true x y h k = h
 resample-either false x y h k = k
 

@@ -2,7 +2,7 @@
 -- fine, and its bytes past the answer stay; refused, all of it is as it was.
 -- Assumes nothing.
 use Prim.Native.Nat.{ℕ, zero, suc}
-use mathlib.Core.Bool.{Bool, true, false}
+use mathlib.Core.Bool.{Bool, true, false, cond}
 use mathlib.Core.List.{List, [], _∷_, _++_, map}
 use lib.Dec.{eqb, ltb}
 use lib.IntN.{ℤ, pos}
@@ -32,15 +32,11 @@ pub record Given : Type 0 where
 abbrev pub given : Answer → List ℕ → Given
 given answer out = record { answer = answer; out = out }
 
-abbrev pub pick : Bool → Given → Given → Given
-pick true a b = a
-pick false a b = b
-
 -- "Order: arguments (1 to 7, and 2 for hz), then 8": an argument's refusal, 0 for none, then the slice
 unfoldable pub lentTo : ℕ → ℕ → List ℕ → List ℕ → Given
 lentTo refusal value bytes out =
-    pick (eqb refusal 0)
-    (pick (ltb (length out) (length bytes)) (given (Refused 8) out) (given (Done value) (sets out 0 bytes)))
+    cond (eqb refusal 0)
+    (cond (ltb (length out) (length bytes)) (given (Refused 8) out) (given (Done value) (sets out 0 bytes)))
     (given (Refused refusal) out)
 
 -- the two register calls of src/registers.rs
@@ -74,11 +70,11 @@ wordsIn (suc n) s = toZ w32 (leValue (take 4 s)) ∷ wordsIn n (drop 4 s)
 -- the FIR packer and unpacker over lent bytes. Bytes that are not sixteen numbers, or not the twenty of a packing, are refused 7
 unfoldable pub packInto : List ℕ → List ℕ → Given
 packInto s out =
-    pick (eqb (length s) 64) (lentTo (packed (wordsIn 16 s) .refusal) 0 (packed (wordsIn 16 s) .bytes) out) (given (Refused 7) out)
+    cond (eqb (length s) 64) (lentTo (packed (wordsIn 16 s) .refusal) 0 (packed (wordsIn 16 s) .bytes) out) (given (Refused 7) out)
 
 unfoldable pub unpackInto : List ℕ → List ℕ → Given
-unpackInto s out = pick (eqb (length s) 20) (lentTo 0 0 (wordBytes (unpackOf s)) out) (given (Refused 7) out)
+unpackInto s out = cond (eqb (length s) 20) (lentTo 0 0 (wordBytes (unpackOf s)) out) (given (Refused 7) out)
 
 -- the gain table. "A given record out of its ranges .. is refused 1 first"
 unfoldable pub tableInto : Tuner → List ℕ → Given
-tableInto t out = pick (sound t) (lentTo 0 0 (wordBytes (map pos steps)) out) (given (Refused 1) out)
+tableInto t out = cond (sound t) (lentTo 0 0 (wordBytes (map pos steps)) out) (given (Refused 1) out)

@@ -39,7 +39,7 @@ fn put_words(v: &[i32], out: &mut [u8])
 }
 
 // `lend` for signed numbers, whose value is 0.
-pub fn lend_words(refusal: u8, v: &[i32], out: &mut [u8]) -> Answer
+fn lend_words(refusal: u8, v: &[i32], out: &mut [u8]) -> Answer
     ensures { λ r. ⌜ given r (now (out .exit)) ≡ lentTo refusal 0 (wordBytes (now (v .entry))) (now (out .entry)) ⌝ }
 {
     if refusal != 0 {

@@ -22,10 +22,6 @@ module _ (address : ℕ) (e : Entry) (r : ℕ) where
   unfolding names
   other-kind h = rw h
 
-  pub other-address : eqb (e .target) address ≡ false → names address e r ≡ false
-  unfolding names
-  other-address h = rw (h, and-false (eqb (e .kind) 2))
-
   pub below-first : r < firstOf e → names address e r ≡ false
   unfolding names
   below-first h = rw (lt-leb (firstOf e) r h, and-false (eqb (e .kind) 2 && eqb (e .target) address))

@@ -3,10 +3,10 @@
 -- Assumes nothing.
 use Prim.Native.Nat.{ℕ}
 use mathlib.Core.Path.{_≡_, refl, sym, ap, _∙_}
-use mathlib.Core.Bool.{Bool, true, false, not, false≢true}
+use mathlib.Core.Bool.{Bool, true, false, cond, not, false≢true}
 use mathlib.Core.List.{List, [], _∷_, _++_}
 use Rattle.transcript.specs.declared.Entry.{Entry}
-use Rattle.attempts.specs.Attempts.{Lands, Last, Played, Regs, done, lastBy, lastFrom, lastIn, names, partly, pickByte, sentTo}
+use Rattle.attempts.specs.Attempts.{Lands, Last, Played, Regs, done, lastBy, lastFrom, lastIn, names, partly, sentTo}
 use Rattle.attempts.specs.Attempts.Last.{Never, Tried}
 
 -- what is known of a register fits what a chip holds, where it held x at first
@@ -105,7 +105,7 @@ vain (Tried byte ok) = not ok
 
 -- what a failed write named holds x now
 abbrev spoiled : ℕ → Entry → ℕ → Regs → Regs
-spoiled address e x before r = pickByte (names address e r) (pickByte (done e) (sentTo e r) x) (before r)
+spoiled address e x before r = cond (names address e r) (cond (done e) (sentTo e r) x) (before r)
 
 spoiled-lands : (address : ℕ) (e : Entry) (x : ℕ) (before : Regs) → Lands address e before (spoiled address e x before)
 spoiled-lands address e x before = record { kept = λ r t. rw t; sent = λ r t d. rw (t, d) }

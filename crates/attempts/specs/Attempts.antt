@@ -6,7 +6,7 @@
 -- Assumes nothing.
 use Prim.Native.Nat.{ℕ, _+_, _-_}
 use mathlib.Core.Path.{_≡_}
-use mathlib.Core.Bool.{Bool, true, false, not, _&&_}
+use mathlib.Core.Bool.{Bool, true, false, cond, not, _&&_}
 use mathlib.Core.List.{List, [], _∷_}
 use lib.Dec.{eqb, leb, ltb}
 use lib.ListN.{getD}
@@ -34,13 +34,9 @@ names address e r = eqb (e .kind) 2 && eqb (e .target) address && leb (firstOf e
 abbrev pub sentTo : Entry → ℕ → ℕ
 sentTo e r = getD (e .bytes) (r - firstOf e + 1) 0
 
-abbrev pub pickLast : Bool → Last → Last → Last
-pickLast true a b = a
-pickLast false a b = b
-
 -- what is known of a register after one entry more
 abbrev pub lastBy : ℕ → Entry → ℕ → Last → Last
-lastBy address e r l = pickLast (names address e r) (Tried (sentTo e r) (done e)) l
+lastBy address e r l = cond (names address e r) (Tried (sentTo e r) (done e)) l
 
 -- and after entries, in their order
 unfoldable pub lastFrom : ℕ → Last → List Entry → ℕ → Last
@@ -76,10 +72,6 @@ abbrev pub Played : ℕ → List Entry → Regs → Regs → Type 0
 Played address [] before after = (r : ℕ) → after r ≡ before r
 Played address (e ∷ es) before after = (next : Regs) × Lands address e before next × Played address es next after
 
-abbrev pub pickByte : Bool → ℕ → ℕ → ℕ
-pickByte true a b = a
-pickByte false a b = b
-
 -- a write that landed in some of the registers that it named, and in no other
 abbrev pub partly : ℕ → Entry → (ℕ → Bool) → Regs → Regs
-partly address e part before r = pickByte (names address e r && part r) (sentTo e r) (before r)
+partly address e part before r = cond (names address e r && part r) (sentTo e r) (before r)

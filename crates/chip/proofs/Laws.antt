@@ -13,7 +13,7 @@ use Rattle.chip.specs.declared.Went.{Went}
 use Rattle.chip.specs.declared.Went.the-variants.{Going, Refused11}
 use Rattle.chip.specs.Chips.{attemptedBy, maskedByte, pair, withLists}
 use Rattle.chip.specs.Entries.{written}
-use Rattle.chip.specs.Steps.{Step, Line, acts, after, closing, due, emit, every, goes, heldFor, inner, line, okFor, pickLine, run, step, taken, toldOf, wentFor}
+use Rattle.chip.specs.Steps.{Step, Line, acts, after, closing, due, emit, every, goes, heldFor, inner, line, okFor, run, step, taken, toldOf, wentFor}
 use Rattle.chip.specs.Steps.Step.{Open, Close, Send, Mask, Plain}
 
 pub and-left : (a b : Bool) → (a && b) ≡ true → a ≡ true

@@ -21,7 +21,7 @@ use Rattle.chip.specs.declared.Flow.{Flow}
 use Rattle.chip.specs.declared.Seen.{Seen}
 use Rattle.chip.specs.declared.Went.{Went}
 use Rattle.chip.specs.declared.Went.the-variants.{Going, Refused11}
-use Rattle.chip.specs.Entries.{isTry, lockBit, look, pickBytes, pickSeen, settled, unseen, zeros8}
+use Rattle.chip.specs.Entries.{isTry, lockBit, look, pickBytes, settled, unseen, zeros8}
 use Rattle.chip.specs.Steps.{Step, Line, Logged, Trace, acts, after, eight, emit, every, heldFor, inList, inRoom, line, logged, okFor, onRoom, run, step, taken, trace, wentFor}
 use Rattle.chip.specs.Steps.Step.{Open, Close, Send, Mask, Plain}
 use Rattle.chip.specs.Calls.{Called, answerOf, callOf, called, laidOut, lockedIn, pickN, performed, sealed, seenFrom, triesIn}

@@ -1,7 +1,7 @@
 -- The entries that steps make. Document 01, "Transcript and script", the table of kinds.
 -- Assumes nothing.
 use Prim.Native.Nat.{ℕ, _+_, _%_, _^_}
-use mathlib.Core.Bool.{Bool, true, false, not, _&&_, _||_}
+use mathlib.Core.Bool.{Bool, true, false, cond, not, _&&_, _||_}
 use mathlib.Core.List.{List, [], _∷_}
 use lib.Bits.{bitAnd}
 use lib.Dec.{eqb}
@@ -64,20 +64,19 @@ settled e ok =
     }
 
 -- the lock bit of a status of three bytes, whose bits are reversed
+abbrev pub lockedBy : ℕ → Bool
+lockedBy byte = not (eqb (bitAnd (reversed byte) 0x40) 0)
+
 abbrev pub lockBit : Entry → Bool
-lockBit e = not (eqb (bitAnd (reversed (getD (e .bytes) 2 0)) 0x40) 0)
+lockBit e = lockedBy (getD (e .bytes) 2 0)
 
 -- a done read of three bytes
 abbrev pub isTry : Entry → Bool
 isTry e = eqb (e .kind) 3 && eqb (e .n) 3 && eqb (e .outcome) 0
 
-abbrev pub pickSeen : Bool → Seen → Seen → Seen
-pickSeen true a b = a
-pickSeen false a b = b
-
 -- what the tries have said, one entry later. The count is kept in 64 bits, which no room's entries reach
 unfoldable pub look : Seen → Entry → Seen
-look s e = pickSeen (isTry e) (record { tries = (s .tries + 1) % 2 ^ 64; locked = s .locked || lockBit e }) s
+look s e = cond (isTry e) (record { tries = (s .tries + 1) % 2 ^ 64; locked = s .locked || lockBit e }) s
 
 abbrev pub unseen : Seen
 unseen = record { tries = 0; locked = false }

@@ -3,7 +3,7 @@
 -- ignored." Two tables give a step its meaning: the entry that it makes, and the chip's record after it.
 -- Assumes nothing.
 use Prim.Native.Nat.{ℕ, zero, suc, _+_, _-_, _*_, _≤_, _<_}
-use mathlib.Core.Bool.{Bool, true, false, not, _&&_, _||_}
+use mathlib.Core.Bool.{Bool, true, false, cond, not, _&&_, _||_}
 use mathlib.Core.List.{List, [], _∷_, _++_, map}
 use lib.Dec.{eqb, leb}
 use lib.ListN.{length, getD, take, drop, replicate}
@@ -103,10 +103,6 @@ pub record Line (L : Type 0) : Type 0 where
 abbrev pub line : {L : Type 0} → Chip → L → ℕ → Went → Bool → Line L
 line chip log count went held = record { chip = chip; log = log; count = count; went = went; held = held }
 
-abbrev pub pickLine : {L : Type 0} → Bool → Line L → Line L → Line L
-pickLine true a b = a
-pickLine false a b = b
-
 module _ {L : Type 0} (put : L → ℕ → Entry → L) (os : List ℕ) where
   -- a step that is taken
   abbrev pub taken : Bool → Step → Line L → Line L
@@ -115,7 +111,7 @@ module _ {L : Type 0} (put : L → ℕ → Entry → L) (os : List ℕ) where
       (wentFor s ok (w .count) (w .went)) (heldFor s ok (w .held))
 
   unfoldable pub step : Step → Line L → Line L
-  step s w = pickLine (acts s (w .went) (w .held)) (taken (okFor os (w .count) s) s w) w
+  step s w = cond (acts s (w .went) (w .held)) (taken (okFor os (w .count) s) s w) w
 
   unfoldable pub run : List Step → Line L → Line L
   run [] w = w
@@ -123,7 +119,7 @@ module _ {L : Type 0} (put : L → ℕ → Entry → L) (os : List ℕ) where
 
   -- a failing step behind an open repeater: it is closed
   unfoldable pub closing : Line L → Line L
-  closing w = pickLine (goes (w .went)) w (step Close w)
+  closing w = cond (goes (w .went)) w (step Close w)
 
 -- a run's log as a list: its entries, in order
 abbrev pub inList : List Entry → ℕ → Entry → List Entry
@@ -170,13 +166,9 @@ trace os ss c = run inList os ss (line c [] 0 Going false)
 abbrev pub behind : List Step → List Step
 behind ss = Open ∷ (ss ++ (Close ∷ []))
 
-abbrev pub pickStep : Bool → Step → Step → Step
-pickStep true a b = a
-pickStep false a b = b
-
 -- a register's update: through the shadow, or past it as a write of two bytes
 abbrev pub updateStep : Update → Step
-updateStep u = pickStep (u .past) (Send 2 (pair (u .register) (u .value))) (Mask (u .register) (u .value) (u .mask))
+updateStep u = cond (u .past) (Send 2 (pair (u .register) (u .value))) (Mask (u .register) (u .value) (u .mask))
 
 abbrev pub updates : List Update → List Step
 updates us = map updateStep us

@@ -2,10 +2,9 @@
 -- entries as they make interface calls". Assumes nothing.
 use Prim.Native.Nat.{ℕ}
 use mathlib.Core.Path.{_≡_, refl}
-use mathlib.Core.Bool.{Bool}
 use lib.ListN.{length}
 use Rattle.fir.specs.Packing.{packOf}
-use Rattle.demod.specs.Programs.{ddcSteps, directSteps, firSteps, ifSteps, initSteps, lowIfSteps, modeSteps, powerSteps, rateSteps, resetSteps, startSteps, stopSteps, upward, zeroIfSteps}
+use Rattle.demod.specs.Programs.{directSteps, firSteps, ifSteps, initSteps, lowIfSteps, modeSteps, powerSteps, rateSteps, resetSteps, startSteps, stopSteps, upward, zeroIfSteps}
 
 pub init-length : length initSteps ≡ 45
 unfolding initSteps powerSteps upward firSteps packOf modeSteps
@@ -26,10 +25,6 @@ reset-length = refl
 pub direct-length : (page register value : ℕ) → length (directSteps page register value) ≡ 1
 unfolding directSteps
 direct-length page register value = refl
-
-pub ddc-length : (inverted : Bool) → length (ddcSteps inverted) ≡ 1
-unfolding ddcSteps
-ddc-length inverted = refl
 
 pub if-length : (hz xtal : ℕ) → length (ifSteps hz xtal) ≡ 3
 unfolding ifSteps

@@ -364,7 +364,7 @@ fn set_fir(f: Flow, outcomes: &[u8], room: &mut [u8]) -> Flow
     write_upward(f, 0x1c, bytes, 20, outcomes, room)
 }
 
-pub fn init_steps(f: Flow, outcomes: &[u8], room: &mut [u8]) -> Flow
+fn init_steps(f: Flow, outcomes: &[u8], room: &mut [u8]) -> Flow
     requires { ⌜ (f .count + 45 + due (f .held) ≤ length (now outcomes)) × (16 * (f .count + 45 + due (f .held)) ≤ length (now room)) ⌝ }
     ensures { λ r. ⌜ onRoom r (now (room .exit)) ≡ run inRoom (now (outcomes .entry)) initSteps (onRoom f (now (room .entry))) ⌝ }
     ensures bounds { λ r. ⌜ r .count + due (r .held) ≤ f .count + 45 + due (f .held) ⌝ }

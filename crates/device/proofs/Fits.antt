@@ -1,6 +1,6 @@
 -- Each access's entry fits the table, whatever its value: so do the entries of the GPIO programs. Assumes nothing.
 use Prim.Native.Nat.{ℕ, _/_, _%_, _^_, _≤_, _<_}
-use mathlib.Core.Path.{_≡_, refl}
+use mathlib.Core.Path.{_≡_}
 use mathlib.Core.Bool.{true}
 use native.Mathlib.Omega.{arith}
 use borrow.Author.Tests.{le-leb}
@@ -8,7 +8,7 @@ use lib.Dec.{leb}
 use Rattle.transcript.specs.Table.{addressMost, firstMost, nHigh, nLow, outcomeMost, rowFits, targetMost}
 use Rattle.transcript.specs.Entries.{entryFits, zeros}
 use Rattle.chip.specs.Steps.{every}
-use Rattle.device.specs.Accesses.{access, accessEntry, accessStep, blockWrite, blockWrite16, demodWrite, demodWrite16, fitting}
+use Rattle.device.specs.Accesses.{access, accessEntry, accessStep, blockWrite, demodWrite, demodWrite16, fitting}
 use Rattle.device.specs.Gpio.{bitSteps, changedOf, outputSteps, withBit, withoutBit}
 
 -- a value kept to eight bits, and the high half of sixteen
@@ -34,10 +34,6 @@ module _ (target register value : ℕ) (t : target ≤ 255) (r : register ≤ 65
   pub demod16-fits : value < 2 ^ 16 → entryFits (demodWrite16 target register value) ≡ true
   unfolding entryFits rowFits zeros nLow nHigh outcomeMost targetMost addressMost firstMost
   demod16-fits h = rw (le-leb target 255 t, le-leb register 65535 r, high-byte value h)
-
-  pub block16-fits : value < 2 ^ 16 → entryFits (blockWrite16 target register value) ≡ true
-  unfolding entryFits rowFits zeros nLow nHigh outcomeMost targetMost addressMost firstMost
-  block16-fits h = rw (le-leb target 255 t, le-leb register 65535 r, high-byte value h)
 
 pub output-fits : (pin a b : ℕ) → every fitting (outputSteps pin a b) ≡ true
 unfolding every accessStep outputSteps

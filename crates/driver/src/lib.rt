@@ -177,7 +177,7 @@ fn anew_steps(f: Flow, hz: u32, rate: u32, xtal: u32, outcomes: &[u8], room: &mu
 }
 
 // `set_sample_rate` behind its refusals, with the IF worked out and the spectrum inverted or not.
-pub fn sample_rate_steps(
+fn sample_rate_steps(
     f: Flow,
     hz: u32,
     rate: u32,
@@ -208,7 +208,7 @@ fn tuner_path(f: Flow, kind: Kind, path: Path, outcomes: &[u8], room: &mut [u8])
 }
 
 // `apply_input_path` behind its refusals, over its own part of the replies.
-pub fn path_steps(
+fn path_steps(
     f: Flow,
     kind: Kind,
     path: Path,

@@ -8,7 +8,7 @@ use native.Mathlib.Omega.{arith}
 use borrow.Author.Tests.{ltb-true, lt-ltb}
 use lib.Dec.{ltb, lit<}
 use lib.IntN.{ℤ}
-use lib.ListN.{length, take, drop, take-append-drop, length-take, length-drop}
+use lib.ListN.{length, take, drop, take-append-drop, length-map, length-take, length-drop}
 use lib.Pow.{areBytes}
 use lib.Seq.{take-at, drop-at}
 use Rattle.fir.specs.declared.Packed.{Packed}
@@ -23,10 +23,6 @@ and-left false b h = h
 and-right : (a b : Bool) → (a && b) ≡ true → b ≡ true
 and-right true b h = h
 and-right false b h = absurd (let z : _≡_ {A = ℕ} 0 1 = cc in omega arith)
-
-length-map : {A B : Type 0} (f : A → B) (l : List A) → length (map f l) ≡ length l
-length-map f [] = refl
-length-map f (x ∷ l) = ap suc (length-map f l)
 
 -- ---- packed, then unpacked
 
@@ -60,7 +56,7 @@ unfolding packOf unpackOf firFits
 packed-unpacked v n h =
     let p = map (lowOf 128) (take 8 v) in
     let q = threes (map (lowOf 2048) (drop 8 v)) in
-    let e : length p ≡ 8 = length-map (lowOf 128) (take 8 v) ∙ omega (arith, length-take 8 v) in
+    let e : length p ≡ 8 = length-map (take 8 v) (lowOf 128) ∙ omega (arith, length-take 8 v) in
     let d : length (drop 8 v) ≡ 4 + 4 = omega (arith, length-drop 8 v) in
     ap (λ (u : List ℕ). map (signedOf 128) u ++ map (signedOf 2048) (twos (drop 8 (p ++ q)))) (take-at p q 8 e)
     ∙ ap (λ (u : List ℕ). map (signedOf 128) p ++ map (signedOf 2048) (twos u)) (drop-at p q 8 e)
@@ -117,7 +113,7 @@ unfolding packOf unpackOf
 unpacked-packed b n h =
     let p = map (signedOf 128) (take 8 b) in
     let q = map (signedOf 2048) (twos (drop 8 b)) in
-    let e : length p ≡ 8 = length-map (signedOf 128) (take 8 b) ∙ omega (arith, length-take 8 b) in
+    let e : length p ≡ 8 = length-map (take 8 b) (signedOf 128) ∙ omega (arith, length-take 8 b) in
     let d : length (drop 8 b) ≡ 4 + 4 + 4 = omega (arith, length-drop 8 b) in
     ap (λ (u : List ℤ). map (lowOf 128) u ++ threes (map (lowOf 2048) (drop 8 (p ++ q)))) (take-at p q 8 e)
     ∙ ap (λ (u : List ℤ). map (lowOf 128) p ++ threes (map (lowOf 2048) u)) (drop-at p q 8 e)
@@ -134,7 +130,7 @@ unfolding firFits unpackOf
 unpacked-fits b n =
     let p = map (signedOf 128) (take 8 b) in
     let q = map (signedOf 2048) (twos (drop 8 b)) in
-    let e : length p ≡ 8 = length-map (signedOf 128) (take 8 b) ∙ omega (arith, length-take 8 b) in
+    let e : length p ≡ 8 = length-map (take 8 b) (signedOf 128) ∙ omega (arith, length-take 8 b) in
     ap (λ (u : List ℤ). every (within 128) u && every (within 2048) (drop 8 (p ++ q))) (take-at p q 8 e)
     ∙ ap (λ (u : List ℤ). every (within 128) p && every (within 2048) u) (drop-at p q 8 e)
     ∙ simp (all-signed 128 (lit< tt) (take 8 b), all-signed 2048 (lit< tt) (twos (drop 8 b)))

@@ -1,7 +1,7 @@
 -- A signed number and its bits at a width: each is the other's inverse, within the width. The width is said by half the numbers that it has.
 -- Assumes nothing.
 use mathlib.Core.Path.{_≡_, refl, ap, _∙_, subst}
-use mathlib.Core.Bool.{Bool, true, false}
+use mathlib.Core.Bool.{Bool, true, false, cond}
 use Prim.Native.Nat.{ℕ, zero, suc, _-_, _*_, _%_, _^_, _<_, _≤_}
 use native.Mathlib.Nat.{lt-of-lt-of-le, mod-lt, mod-eq-of-lt, zero-add}
 use native.Mathlib.Omega.{arith}
@@ -12,7 +12,7 @@ use mir.ValLaws.{toZ-ofZ}
 use lib.Dec.{T, ltb}
 use lib.IntN.{ℤ, pos, negsuc, _-ℤ_}
 use lib.Signed.{ltZ, mag}
-use Rattle.fir.specs.Packing.{lowOf, pick, signedOf, within}
+use Rattle.fir.specs.Packing.{lowOf, signedOf, within}
 
 -- ---- by the sign
 
@@ -57,7 +57,7 @@ signed-low half (negsuc n) h =
 pub low-signed : (half n : ℕ) → n < 2 * half → lowOf half (signedOf half n) ≡ n
 low-signed half n h = go (ltb n half) refl
   where
-    go : (b : Bool) → ltb n half ≡ b → lowOf half (pick b (pos n) (negsuc (2 * half - 1 - n))) ≡ n
+    go : (b : Bool) → ltb n half ≡ b → lowOf half (cond b (pos n) (negsuc (2 * half - 1 - n))) ≡ n
     go true e = mod-eq-of-lt h
     go false e =
         let l : 2 * half - 1 - n < 2 * half = omega arith in
@@ -68,7 +68,7 @@ low-signed half n h = go (ltb n half) refl
 pub signed-within : (half n : ℕ) → 0 < half → within half (signedOf half n) ≡ true
 signed-within half n h = go (ltb n half) refl
   where
-    go : (b : Bool) → ltb n half ≡ b → within half (pick b (pos n) (negsuc (2 * half - 1 - n))) ≡ true
+    go : (b : Bool) → ltb n half ≡ b → within half (cond b (pos n) (negsuc (2 * half - 1 - n))) ≡ true
     go true e = e
     go false e = let l : half ≤ n = ltb-false n half e in lt-ltb (2 * half - 1 - n) half (omega arith)
 

@@ -2,7 +2,7 @@
 -- Document 01, "Demodulator": "FIR: eight 8-bit, then eight 12-bit signed values, two in three bytes. Our packer takes any sixteen in range;
 -- our unpacker is its inverse." A width is said by half the numbers that it has: 128 for eight bits, 2048 for twelve.
 -- Assumes nothing.
-use mathlib.Core.Bool.{Bool, true, false, _&&_}
+use mathlib.Core.Bool.{Bool, true, false, cond, _&&_}
 use mathlib.Core.List.{List, [], _∷_, _++_, map}
 use Prim.Native.Nat.{ℕ, _+_, _-_, _*_, _/_, _%_}
 use lib.Dec.{ltb}
@@ -10,10 +10,6 @@ use lib.IntN.{ℤ, pos, negsuc}
 use lib.ListN.{take, drop}
 use lib.Signed.{mag}
 use Rattle.fir.specs.declared.Packed.{Packed}
-
-abbrev pub pick : {A : Type 0} → Bool → A → A → A
-pick true a b = a
-pick false a b = b
 
 -- from -half to half - 1
 abbrev pub within : ℕ → ℤ → Bool
@@ -33,7 +29,7 @@ lowOf half (pos n) = n % (2 * half)
 lowOf half (negsuc n) = 2 * half - 1 - n % (2 * half)
 
 abbrev pub signedOf : ℕ → ℕ → ℤ
-signedOf half n = pick (ltb n half) (pos n) (negsuc (2 * half - 1 - n))
+signedOf half n = cond (ltb n half) (pos n) (negsuc (2 * half - 1 - n))
 
 -- two of twelve bits in three bytes: eight bits of the first, its last four with the second's first four, eight bits of the second
 abbrev pub threes : List ℕ → List ℕ
@@ -58,7 +54,7 @@ no-bytes = 0 ∷ 0 ∷ 0 ∷ 0 ∷ 0 ∷ 0 ∷ 0 ∷ 0 ∷ 0 ∷ 0 ∷ 0 ∷ 0 �
 
 -- the packer's answer: its refusal, 0 or 7, and the bytes, zeros where it refused
 unfoldable pub packed : List ℤ → Packed
-packed v = pick (firFits v) (record { refusal = 0; bytes = packOf v }) (record { refusal = 7; bytes = no-bytes })
+packed v = cond (firFits v) (record { refusal = 0; bytes = packOf v }) (record { refusal = 7; bytes = no-bytes })
 
 -- the Rust's FIR_DEFAULT
 abbrev pub firDefault : List ℤ

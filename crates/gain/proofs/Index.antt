@@ -5,8 +5,9 @@ use Prim.Native.Nat.{ℕ, _<_}
 use lib.Dec.{eqb, eqb→eq}
 use lib.Ieee.{mul, div, ofInt, ofBits, toSigned}
 use Rattle.gain.specs.Product.{gainOf, tenthsOf}
-use Rattle.gain.specs.Steps.{chosenOf, nearestIn, nearestOf, steps, stepAt}
+use Rattle.gain.specs.Steps.{chosenOf, clamped, nearestIn, nearestOf, steps, stepAt}
 use Rattle.below.proofs.Test.{below}
+use Rattle.gain.proofs.Steps.{clamped-lt}
 
 right : ℕ → Bool
 right k = eqb (chosenOf (gainOf (stepAt k))) k
@@ -14,3 +15,7 @@ right k = eqb (chosenOf (gainOf (stepAt k))) k
 pub own-index : (k : ℕ) → k < 29 → chosenOf (gainOf (stepAt k)) ≡ k
 unfolding right steps chosenOf tenthsOf gainOf nearestOf nearestIn mul div ofInt ofBits toSigned
 own-index k h = eqb→eq (chosenOf (gainOf (stepAt k))) k (below right 29 tt k h)
+
+-- so the Rust's way to a step by its index, through the float, is the index clamped
+pub by-float : (k : ℕ) → chosenOf (gainOf (stepAt (clamped k))) ≡ clamped k
+by-float k = own-index (clamped k) (clamped-lt k)

@@ -42,7 +42,7 @@ fn whole_part(field: u32, digits: u32) -> u32
 }
 
 // The Rust's `x as i32`, for every x.
-pub fn truncated(x: f32) -> i32
+fn truncated(x: f32) -> i32
     ensures { λ r. ⌜ r ≡ Ieee.toSigned 31 x ⌝ }
 {
     if x != x {
@@ -91,7 +91,7 @@ fn nearest_up(t: u32) -> usize
 }
 
 // The Rust's difference overflows far below zero; every t below zero is nearest to step 0.
-pub fn nearest(t: i32) -> usize
+fn nearest(t: i32) -> usize
     ensures { λ r. ⌜ r ≡ nearestOf t ⌝ }
 {
     if t < 0 {
@@ -115,13 +115,6 @@ pub fn choose_index(k: usize) -> usize
         return k;
     }
     28
-}
-
-// The Rust's own way there, through the float: the same index.
-pub fn choose_index_by_float(k: usize) -> usize
-    ensures { λ r. ⌜ r ≡ clamped k ⌝ }
-{
-    choose(gain_at(choose_index(k)))
 }
 
 // The gain in dB that a call answers and the record holds.

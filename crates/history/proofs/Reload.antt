@@ -1,7 +1,7 @@
 -- Reload's program, done: the last attempt of each of the 27 registers is the byte sent, and it was done. Assumes nothing.
 use Prim.Native.Nat.{ℕ, _+_, _-_, _≤_, _<_}
 use mathlib.Core.Path.{_≡_, refl, sym, ap, _∙_}
-use mathlib.Core.Bool.{Bool, true, false, _&&_, _||_, true≢false, false≢true}
+use mathlib.Core.Bool.{Bool, true, false, cond, _&&_, _||_, true≢false, false≢true}
 use mathlib.Core.List.{List, [], _∷_, map}
 use native.Mathlib.Omega.{arith}
 use borrow.Author.Tests.{leb-true, leb-false, ltb-true, ltb-false}
@@ -10,7 +10,7 @@ use lib.ListN.{length, getD, take, drop, length-drop}
 use lib.Seq.{length-take-le, getD-take, getD-drop}
 use Rattle.below.proofs.Test.{below}
 use Rattle.transcript.specs.declared.Entry.{Entry}
-use Rattle.attempts.specs.Attempts.{Last, firstOf, lastBy, lastFrom, lastIn, names, pickLast, sentTo}
+use Rattle.attempts.specs.Attempts.{Last, firstOf, lastBy, lastFrom, lastIn, names, sentTo}
 use Rattle.attempts.specs.Attempts.Last.{Never, Tried}
 use Rattle.attempts.proofs.Named.{named, other-kind, below-first, past-last, last-snoc, last-same}
 use Rattle.chip.specs.declared.Chip.{Chip}
@@ -38,7 +38,7 @@ covers : List Chunk → ℕ → Bool
 covers [] i = false
 covers (k ∷ ks) i = inChunk k i || covers ks i
 
-pick-pick : (a b : Bool) (x l : Last) → pickLast b x (pickLast a x l) ≡ pickLast (a || b) x l
+pick-pick : (a b : Bool) (x l : Last) → cond b x (cond a x l) ≡ cond (a || b) x l
 pick-pick true true x l = refl
 pick-pick true false x l = refl
 pick-pick false b x l = refl
@@ -81,10 +81,10 @@ module _ (address : ℕ) (bs : List ℕ) (long : length bs ≡ 27) (k : Chunk) (
       ∙ getD-drop (k .at) bs (i - k .at + 1 - 1) 0
       ∙ ap (λ (j : ℕ). getD bs j 0) (back l)
 
-  chunk-last : (l : Last) → lastBy address e (5 + i) l ≡ pickLast (inChunk k i) (Tried (getD bs i 0) true) l
+  chunk-last : (l : Last) → lastBy address e (5 + i) l ≡ cond (inChunk k i) (Tried (getD bs i 0) true) l
   chunk-last l = go (leb (k .at) i) (ltb i (k .at + k .size)) refl refl
     where
-      go : (a b : Bool) → leb (k .at) i ≡ a → ltb i (k .at + k .size) ≡ b → lastBy address e (5 + i) l ≡ pickLast (inChunk k i) (Tried (getD bs i 0) true) l
+      go : (a b : Bool) → leb (k .at) i ≡ a → ltb i (k .at + k .size) ≡ b → lastBy address e (5 + i) l ≡ cond (inChunk k i) (Tried (getD bs i 0) true) l
       go true true p q =
           let lo : k .at ≤ i = leb-true (k .at) i p in
           let hi : i < k .at + k .size = ltb-true i (k .at + k .size) q in
@@ -148,7 +148,7 @@ module _ (os : List ℕ) where
     -- chunks one after the other
     chunks-last : (ks : List Chunk) → every within ks ≡ true → (t : Trace) → t .chip .address ≡ address
         → run inList os (map (chunkStep bs) ks) t .went ≡ Going
-        → lastIn address (run inList os (map (chunkStep bs) ks) t .log) (5 + i) ≡ pickLast (covers ks i) now (lastIn address (t .log) (5 + i))
+        → lastIn address (run inList os (map (chunkStep bs) ks) t .log) (5 + i) ≡ cond (covers ks i) now (lastIn address (t .log) (5 + i))
     unfolding run every covers attemptedBy
     chunks-last [] w t a g = refl
     chunks-last (k ∷ ks) w t a g =
@@ -157,19 +157,19 @@ module _ (os : List ℕ) where
         let still : next .went ≡ Going = going-before (map (chunkStep bs) ks) next g in
         let made : taken inList os true s t ≡ next = sent-done (k .size + 1) (chunkBytes bs (k .at) (k .size)) t (going-before (s ∷ map (chunkStep bs) ks) t g) still in
         let same : next .chip .address ≡ address = sym (ap (λ (u : Trace). u .chip .address) made) ∙ a in
-        let one : lastIn address (next .log) (5 + i) ≡ pickLast (inChunk k i) now (lastIn address (t .log) (5 + i)) =
+        let one : lastIn address (next .log) (5 + i) ≡ cond (inChunk k i) now (lastIn address (t .log) (5 + i)) =
         sym (ap (λ (u : Trace). lastIn address (u .log) (5 + i)) made)
         ∙ last-snoc address (t .log) (emit s (t .chip) true) (5 + i)
         ∙ ap (λ (j : ℕ). lastBy address (written j (k .size + 1) (chunkBytes bs (k .at) (k .size)) true) (5 + i) (lastIn address (t .log) (5 + i))) a
         ∙ chunk-last address bs long k (and-left (within k) (every within ks) w) i (lastIn address (t .log) (5 + i)) in
         chunks-last ks (and-right (within k) (every within ks) w) next same g
-        ∙ ap (pickLast (covers ks i) now) one
+        ∙ ap (cond (covers ks i) now) one
         ∙ pick-pick (inChunk k i) (covers ks i) now (lastIn address (t .log) (5 + i))
 
     -- a part of the table behind its repeater
     tuner-last : (from to : ℕ) (t : Trace) → t .chip .address ≡ address → run inList os (tunerWrite bs from to) t .went ≡ Going
         → lastIn address (run inList os (tunerWrite bs from to) t .log) (5 + i)
-        ≡ pickLast (covers (drop from (take to chunkTable)) i) now (lastIn address (t .log) (5 + i))
+        ≡ cond (covers (drop from (take to chunkTable)) i) now (lastIn address (t .log) (5 + i))
     tuner-last from to t a g =
         let ks : List Chunk = drop from (take to chunkTable) in
         let ss : List Step = map (chunkStep bs) ks in
@@ -181,7 +181,7 @@ module _ (os : List ℕ) where
         ap (λ (u : Trace). lastIn address (u .log) (5 + i)) whole
         ∙ quiet address Close sent (5 + i) (λ ok. other-kind address (emit Close (sent .chip) ok) (5 + i) refl)
         ∙ chunks-last ks (table-part from to) opened same went
-        ∙ ap (pickLast (covers ks i) now) (quiet address Open t (5 + i) (λ ok. other-kind address (emit Open (t .chip) ok) (5 + i) refl))
+        ∙ ap (cond (covers ks i) now) (quiet address Open t (5 + i) (λ ok. other-kind address (emit Open (t .chip) ok) (5 + i) refl))
 
 -- every register's last attempt in a reload that was done
 pub reload-last : (os : List ℕ) (c : Chip) (bs : List ℕ) → length bs ≡ 27 → trace os (reloadSteps bs) c .went ≡ Going → (i : ℕ) → i < 27
@@ -193,10 +193,10 @@ reload-last os c bs long g i h =
     let whole : run inList os (reloadSteps bs) start ≡ run inList os (tunerWrite bs 3 5) mid = run-app inList os (tunerWrite bs 0 3) (tunerWrite bs 3 5) start in
     let went : run inList os (tunerWrite bs 3 5) mid .went ≡ Going = sym (ap (λ (u : Trace). u .went) whole) ∙ g in
     let same : mid .chip .address ≡ c .address = run-address os (tunerWrite bs 0 3) start (c .address) refl in
-    let first : lastIn (c .address) (mid .log) (5 + i) ≡ pickLast (covers (drop 0 (take 3 chunkTable)) i) (Tried (getD bs i 0) true) Never =
+    let first : lastIn (c .address) (mid .log) (5 + i) ≡ cond (covers (drop 0 (take 3 chunkTable)) i) (Tried (getD bs i 0) true) Never =
     tuner-last os (c .address) bs long i 0 3 start refl (going-before os (tunerWrite bs 3 5) mid went) in
     ap (λ (u : Trace). lastIn (c .address) (u .log) (5 + i)) whole
     ∙ tuner-last os (c .address) bs long i 3 5 mid same went
-    ∙ ap (pickLast (covers (drop 3 (take 5 chunkTable)) i) (Tried (getD bs i 0) true)) first
+    ∙ ap (cond (covers (drop 3 (take 5 chunkTable)) i) (Tried (getD bs i 0) true)) first
     ∙ pick-pick (covers (drop 0 (take 3 chunkTable)) i) (covers (drop 3 (take 5 chunkTable)) i) (Tried (getD bs i 0) true) Never
-    ∙ ap (λ (b : Bool). pickLast b (Tried (getD bs i 0) true) Never) (all-covered i h)
+    ∙ ap (λ (b : Bool). cond b (Tried (getD bs i 0) true) Never) (all-covered i h)

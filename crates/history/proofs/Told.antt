@@ -1,7 +1,7 @@
 -- How a program went is read off its entries: the first one that failed and is no closing, by its place among them. Assumes nothing.
 use Prim.Native.Nat.{ℕ, suc, _+_}
 use mathlib.Core.Path.{_≡_, refl, sym, ap, _∙_}
-use mathlib.Core.Bool.{Bool, true, false, _||_, or-true, or-false, false≢true}
+use mathlib.Core.Bool.{Bool, true, false, cond, _||_, or-true, or-false, false≢true}
 use mathlib.Core.List.{List, [], _∷_, _++_}
 use native.Mathlib.Omega.{arith}
 use lib.ListN.{length}
@@ -13,26 +13,26 @@ use Rattle.chip.specs.declared.Went.the-variants.{Going, Refused11}
 use Rattle.chip.specs.Steps.{Step, Trace, acts, emit, every, goes, inList, inner, line, okFor, taken, toldOf, trace}
 use Rattle.chip.specs.Steps.Step.{Open, Close, Send, Mask, Plain}
 use Rattle.history.specs.Programs.{fine}
-use Rattle.history.specs.Histories.{isClosing, passable, pickWent, wentFrom, wentIn}
+use Rattle.history.specs.Histories.{isClosing, passable, wentFrom, wentIn}
 use Rattle.history.proofs.Runs.{counted-taken, run-keeps}
 use Rattle.history.proofs.Tracked.{aside-of}
 use Rattle.history.proofs.Cuts.{emit-done, inner-went}
 
 -- one entry more: it counts only where none has failed before
 abbrev next : Went → Bool → ℕ → Went
-next Going b k = pickWent b Going (Refused11 k)
+next Going b k = cond b Going (Refused11 k)
 next (Refused11 j) b k = Refused11 j
 
 went-snoc : (k : ℕ) (es : List Entry) (e : Entry) → wentFrom k (es ++ (e ∷ [])) ≡ next (wentFrom k es) (passable e) (k + length es)
 unfolding wentFrom
 went-snoc k [] e =
     let here : k ≡ k + 0 = omega arith in
-    ap (λ (j : ℕ). pickWent (passable e) Going (Refused11 j)) here
+    ap (λ (j : ℕ). cond (passable e) Going (Refused11 j)) here
 went-snoc k (x ∷ es) e = go (passable x) refl (went-snoc (k + 1) es e)
   where
     go : (b : Bool) → passable x ≡ b → wentFrom (k + 1) (es ++ (e ∷ [])) ≡ next (wentFrom (k + 1) es) (passable e) (k + 1 + length es)
-        → pickWent (passable x) (wentFrom (k + 1) (es ++ (e ∷ []))) (Refused11 k)
-        ≡ next (pickWent (passable x) (wentFrom (k + 1) es) (Refused11 k)) (passable e) (k + suc (length es))
+        → cond (passable x) (wentFrom (k + 1) (es ++ (e ∷ []))) (Refused11 k)
+        ≡ next (cond (passable x) (wentFrom (k + 1) es) (Refused11 k)) (passable e) (k + suc (length es))
     go true h r =
         let place : k + 1 + length es ≡ k + suc (length es) = omega arith in
         rw h (r ∙ ap (next (wentFrom (k + 1) es) (passable e)) place)

@@ -6,7 +6,7 @@
 -- Assumes nothing.
 use Prim.Native.Nat.{ℕ, _+_, _≤_, _<_}
 use mathlib.Core.Path.{_≡_}
-use mathlib.Core.Bool.{Bool, true, false, _&&_, _||_}
+use mathlib.Core.Bool.{Bool, true, false, cond, _&&_, _||_}
 use mathlib.Core.List.{List, [], _∷_, _++_}
 use lib.Dec.{eqb}
 use lib.ListN.{length, getD, replicate}
@@ -100,10 +100,6 @@ pub record Restored (byte i : ℕ) (c : Chip) (chip : Regs) : Type 0 where
 abbrev pub isClosing : Entry → Bool
 isClosing e = eqb (e .kind) 1 && eqb (firstOf e) 0
 
-abbrev pub pickWent : Bool → Went → Went → Went
-pickWent true a b = a
-pickWent false a b = b
-
 -- an entry after which a call goes on: it was done, or "A failed closing is recorded and otherwise ignored"
 abbrev pub passable : Entry → Bool
 passable e = done e || isClosing e
@@ -111,18 +107,14 @@ passable e = done e || isClosing e
 -- how a call went, told by its entries: "a step other than a closing failed", the first one, by its index
 unfoldable pub wentFrom : ℕ → List Entry → Went
 wentFrom k [] = Going
-wentFrom k (e ∷ es) = pickWent (passable e) (wentFrom (k + 1) es) (Refused11 k)
+wentFrom k (e ∷ es) = cond (passable e) (wentFrom (k + 1) es) (Refused11 k)
 
 abbrev pub wentIn : List Entry → Went
 wentIn es = wentFrom 0 es
 
-abbrev pub pickEntries : Bool → List Entry → List Entry → List Entry
-pickEntries true a b = a
-pickEntries false a b = b
-
 -- the entries of a call as crate `chip` has it: those of its program's trace, and none where a number refuses it before any step
 abbrev pub callEntries : ℕ → List ℕ → List Step → Chip → List Entry
-callEntries number os ss c = pickEntries (eqb number 0) (trace os ss c .log) []
+callEntries number os ss c = cond (eqb number 0) (trace os ss c .log) []
 
 -- an answer of a call whose steps are all done: a value or a refusal of its own, never a step's failing
 abbrev pub stops : Answer → Bool

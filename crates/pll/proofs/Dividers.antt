@@ -1,7 +1,7 @@
 -- The divider, by intervals of lo; that it is the first right one of its list; and that one exists exactly in document 01's range.
 -- Assumes nothing.
 use mathlib.Core.Path.{_≡_, refl, subst}
-use mathlib.Core.Bool.{Bool, true, false, _&&_}
+use mathlib.Core.Bool.{Bool, true, false, cond, _&&_}
 use mathlib.Core.List.{List, [], _∷_}
 use mathlib.Core.Logic.{_⊎_, inl, inr, ⊎-elim}
 use Prim.Native.Nat.{ℕ, zero, suc, _+_, _*_, _≤_, _<_}
@@ -13,7 +13,7 @@ use lib.ListN.{length, getD}
 use borrow.Author.Tests.{lt-leb, le-leb, lt-ltb, le-ltb, leb-true, ltb-true, ltb-false}
 use Rattle.below.proofs.Test.{below}
 use Rattle.pll.specs.declared.Mixer.the-variants.{By, Missing}
-use Rattle.pll.specs.Divide.{pickMixer, inVco, firstOf, dividers, dividerOf}
+use Rattle.pll.specs.Divide.{inVco, firstOf, dividers, dividerOf}
 
 -- lo·m is below, in, or above the oscillator's range
 under : (lo m : ℕ) → lo * m < 1_770_000_000 → inVco lo m ≡ false
@@ -118,7 +118,7 @@ first-later lo m ms number m′ k e f =
     earlier zero h = e
     earlier (suc i) h = f .before i (le-of-suc-le-suc h)
 
-step : (lo m : ℕ) (ms : List ℕ) (number m′ k : ℕ) (b : Bool) → inVco lo m ≡ b → pickMixer b (By m number) (firstOf lo ms (number + 1)) ≡ By m′ k → (firstOf lo ms (number + 1) ≡ By m′ k → First lo ms (number + 1) m′ k) → First lo (m ∷ ms) number m′ k
+step : (lo m : ℕ) (ms : List ℕ) (number m′ k : ℕ) (b : Bool) → inVco lo m ≡ b → cond b (By m number) (firstOf lo ms (number + 1)) ≡ By m′ k → (firstOf lo ms (number + 1) ≡ By m′ k → First lo ms (number + 1) m′ k) → First lo (m ∷ ms) number m′ k
 step lo m ms number m′ k true e same later = first-here lo m ms number m′ k e same
 step lo m ms number m′ k false e same later = first-later lo m ms number m′ k e (later same)
 
@@ -132,7 +132,7 @@ first lo (x ∷ ms) number m k e = step lo x ms number m k (inVco lo x) refl e (
 abbrev pub AllWrong : ℕ → List ℕ → Type 0
 AllWrong lo ms = (i : ℕ) → i < length ms → inVco lo (getD ms i 0) ≡ false
 
-none-step : (lo m : ℕ) (ms : List ℕ) (number : ℕ) (b : Bool) → inVco lo m ≡ b → pickMixer b (By m number) (firstOf lo ms (number + 1)) ≡ Missing → (firstOf lo ms (number + 1) ≡ Missing → AllWrong lo ms) → AllWrong lo (m ∷ ms)
+none-step : (lo m : ℕ) (ms : List ℕ) (number : ℕ) (b : Bool) → inVco lo m ≡ b → cond b (By m number) (firstOf lo ms (number + 1)) ≡ Missing → (firstOf lo ms (number + 1) ≡ Missing → AllWrong lo ms) → AllWrong lo (m ∷ ms)
 none-step lo m ms number true t e later i h = let z : _≡_ {A = ℕ} 0 1 = cc in absurd (omega arith)
 none-step lo m ms number false t e later zero h = t
 none-step lo m ms number false t e later (suc i) h = later e i (le-of-suc-le-suc h)

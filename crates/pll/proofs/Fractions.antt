@@ -1,6 +1,6 @@
 -- The sum of the fraction: S fits 16 bits, and the quotients taken plus the rest equal the first F. Assumes nothing.
 use mathlib.Core.Path.{_≡_, refl, sym, ap}
-use mathlib.Core.Bool.{Bool, true, false, not, _&&_}
+use mathlib.Core.Bool.{Bool, true, false, cond, not, _&&_}
 use Prim.Native.Nat.{ℕ, zero, suc, _+_, _-_, _*_, _/_, _^_, _≤_, _<_}
 use native.Mathlib.Omega.{arith}
 use native.Mathlib.Nat.{div-le-self, pow-succ', le-mul-of-pos-right, not-suc-le-zero}
@@ -8,7 +8,7 @@ use lib.Pow.{pow-pos}
 use lib.Dec.{ltb}
 use borrow.Author.Tests.{ltb-true}
 use Rattle.pll.specs.declared.Sum.{Sum}
-use Rattle.pll.specs.Fraction.{pickNumber, takes, turnOf, turnsOf, startOf, sumOf, takenOf}
+use Rattle.pll.specs.Fraction.{takes, turnOf, turnsOf, startOf, sumOf, takenOf}
 
 -- what that many turns can add at most, from n on
 weights : ℕ → ℕ → ℕ
@@ -39,7 +39,7 @@ later true b e = e
 later false b e = let z : _≡_ {A = ℕ} 0 1 = cc in absurd (omega arith)
 
 -- one turn moves what it takes, and nothing else, from the rest
-keeps : (k n : ℕ) (s : Sum) (b : Bool) → takes k n s ≡ b → pickNumber (takes k n s) (2 * k / n) 0 + turnOf k n s .rest ≡ s .rest
+keeps : (k n : ℕ) (s : Sum) (b : Bool) → takes k n s ≡ b → cond (takes k n s) (2 * k / n) 0 + turnOf k n s .rest ≡ s .rest
 unfolding turnOf
 keeps k n s true e =
     let l : 2 * k / n < s .rest = ltb-true _ _ (later (ltb 1 (s .rest)) (ltb (2 * k / n) (s .rest)) (later (not (s .stopped)) (ltb 1 (s .rest) && ltb (2 * k / n) (s .rest)) e)) in

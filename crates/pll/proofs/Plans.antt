@@ -1,6 +1,6 @@
 -- The plan, case by case, and what is known of a plan that was made. Assumes nothing.
 use mathlib.Core.Path.{_≡_, refl, subst}
-use mathlib.Core.Bool.{Bool, true, false}
+use mathlib.Core.Bool.{Bool, true, false, cond}
 use Prim.Native.Nat.{ℕ, zero, suc, _+_, _-_, _*_, _/_, _%_, _^_, _≤_, _<_}
 use native.Mathlib.Omega.{arith}
 use lib.Dec.{ltb, eqb}
@@ -15,7 +15,7 @@ use Rattle.pll.specs.declared.Sum.{Sum}
 use Rattle.pll.specs.Divide.{dividerOf}
 use Rattle.pll.specs.Setting.{settingOf}
 use Rattle.pll.specs.Fraction.{startOf, sumOf, takenOf}
-use Rattle.pll.specs.Plan.{capOf, pickPll, wholeOf, fractionOf, madeOf, planWith, planOf}
+use Rattle.pll.specs.Plan.{capOf, wholeOf, fractionOf, madeOf, planWith, planOf}
 use Rattle.pll.proofs.Dividers.{found}
 use Rattle.pll.proofs.Settings.{setting-law, setting-byte}
 use Rattle.pll.proofs.Fractions.{sum-fits, sum-keeps}
@@ -28,7 +28,7 @@ pub no-reference : (kind : Kind) (lo r : ℕ) → r ≡ 0 → planOf kind lo r �
 unfolding planOf
 no-reference kind lo r z = simp (eq-eqb r 0 z)
 
-same : (b : Bool) → pickPll b Refused Refused ≡ Refused
+same : (b : Bool) → cond b Refused Refused ≡ Refused
 same true = refl
 same false = refl
 
@@ -77,7 +77,7 @@ known-of kind lo r m k h e l =
       taken = sum-keeps _ _;
     }
 
-by-cap : (kind : Kind) (lo r m k : ℕ) (p : Plan) (b : Bool) → 0 < r → dividerOf lo ≡ By m k → ltb (capOf kind) (wholeOf (lo * m) r) ≡ b → pickPll b Refused (Planned (madeOf (lo * m) m k r)) ≡ Planned p → Known kind lo r p
+by-cap : (kind : Kind) (lo r m k : ℕ) (p : Plan) (b : Bool) → 0 < r → dividerOf lo ≡ By m k → ltb (capOf kind) (wholeOf (lo * m) r) ≡ b → cond b Refused (Planned (madeOf (lo * m) m k r)) ≡ Planned p → Known kind lo r p
 by-cap kind lo r m k p true h d e is = let z : _≡_ {A = ℕ} 0 1 = cc in absurd (omega arith)
 by-cap kind lo r m k p false h d e is =
     let same : madeOf (lo * m) m k r ≡ p = cc in

@@ -1,13 +1,9 @@
 -- The sum of the fraction. Document 01, "PLL": "Sum S from 0: for n = 2, 4, .. 65,536 while F > 1: if F > 2K/n, add 32,768/(n/2) to S,
 -- take 2K/n from F, and stop if n ≥ 32,768."
 use Prim.Native.Nat.{ℕ, zero, suc, _+_, _-_, _*_, _/_}
-use mathlib.Core.Bool.{Bool, true, false, not, _&&_}
+use mathlib.Core.Bool.{Bool, false, cond, not, _&&_}
 use lib.Dec.{leb, ltb}
 use Rattle.pll.specs.declared.Sum.{Sum}
-
-abbrev pub pickSum : Bool → Sum → Sum → Sum
-pickSum true a b = a
-pickSum false a b = b
 
 -- a turn takes the quotient: not stopped, F > 1 and F > 2K/n
 abbrev pub takes : ℕ → ℕ → Sum → Bool
@@ -15,7 +11,7 @@ takes k n s = not (s .stopped) && (ltb 1 (s .rest) && ltb (2 * k / n) (s .rest))
 
 unfoldable pub turnOf : ℕ → ℕ → Sum → Sum
 turnOf k n s =
-    pickSum (takes k n s)
+    cond (takes k n s)
     (record { sum = s .sum + 32_768 / (n / 2); rest = s .rest - 2 * k / n; stopped = leb 32_768 n })
     s
 
@@ -31,11 +27,7 @@ startOf f = record { sum = 0; rest = f; stopped = false }
 abbrev pub sumOf : ℕ → ℕ → Sum
 sumOf k f = turnsOf 16 k 2 (startOf f)
 
-abbrev pub pickNumber : Bool → ℕ → ℕ → ℕ
-pickNumber true a b = a
-pickNumber false a b = b
-
 -- the quotients taken, added up: what the law of the sum speaks of
 unfoldable pub takenOf : ℕ → ℕ → ℕ → Sum → ℕ
 takenOf zero k n s = 0
-takenOf (suc t) k n s = pickNumber (takes k n s) (2 * k / n) 0 + takenOf t k (n * 2) (turnOf k n s)
+takenOf (suc t) k n s = cond (takes k n s) (2 * k / n) 0 + takenOf t k (n * 2) (turnOf k n s)

@@ -1,7 +1,7 @@
 -- The numbers of the PLL for a frequency of the oscillator. Document 01, "PLL": "N = lo·m / (2R). Above 127 (R828D) or 63 (R820T): refusal 2.
 -- F = (lo·m - 2RN) / 1000", and "K = R / 1000 (whole numbers throughout)".
 use Prim.Native.Nat.{ℕ, _-_, _*_, _/_}
-use mathlib.Core.Bool.{Bool, true, false}
+use mathlib.Core.Bool.{cond}
 use lib.Dec.{ltb, eqb}
 use Rattle.pll.specs.declared.Kind.{Kind}
 use Rattle.pll.specs.declared.Kind.the-variants.{R820T, R828D}
@@ -14,13 +14,14 @@ use Rattle.pll.specs.Divide.{dividerOf}
 use Rattle.pll.specs.Setting.{settingOf}
 use Rattle.pll.specs.Fraction.{sumOf}
 
+-- the numbers by which kinds cross to a host: 0 R820T, 1 R828D
+abbrev pub kindNumber : Kind → ℕ
+kindNumber R820T = 0
+kindNumber R828D = 1
+
 abbrev pub capOf : Kind → ℕ
 capOf R820T = 63
 capOf R828D = 127
-
-abbrev pub pickPll : Bool → Pll → Pll → Pll
-pickPll true a b = a
-pickPll false a b = b
 
 -- N and F of lo·m at the reference R
 abbrev pub wholeOf : ℕ → ℕ → ℕ
@@ -44,8 +45,8 @@ madeOf vco m number r =
 unfoldable pub planWith : Kind → ℕ → ℕ → Mixer → Pll
 planWith kind lo r Missing = Refused
 planWith kind lo r (By m number) =
-    pickPll (ltb (capOf kind) (wholeOf (lo * m) r)) Refused (Planned (madeOf (lo * m) m number r))
+    cond (ltb (capOf kind) (wholeOf (lo * m) r)) Refused (Planned (madeOf (lo * m) m number r))
 
 -- no record holds a reference of zero ("nominal and corrected reference" are 1..4,294,967,295): it is refused here so that every input has an answer
 unfoldable pub planOf : Kind → ℕ → ℕ → Pll
-planOf kind lo r = pickPll (eqb r 0) Refused (planWith kind lo r (dividerOf lo))
+planOf kind lo r = cond (eqb r 0) Refused (planWith kind lo r (dividerOf lo))

@@ -52,7 +52,7 @@ pub fn divider(lo: u64) -> Mixer
 }
 
 // The largest N: 128 / (the Rust's vco_power_ref) - 1.
-pub fn cap(kind: Kind) -> u64
+fn cap(kind: Kind) -> u64
     ensures { λ r. ⌜ r ≡ capOf kind ⌝ }
 {
     match kind {
@@ -61,14 +61,14 @@ pub fn cap(kind: Kind) -> u64
     }
 }
 
-pub fn quarter(n: u64) -> u64
+fn quarter(n: u64) -> u64
     ensures { λ r. ⌜ r ≡ quarterOf n ⌝ }
 {
     if n < 13 { 0 } else { (n - 13) / 4 }
 }
 
 // The byte for register 0x14.
-pub fn setting(n: u64) -> u8
+fn setting(n: u64) -> u8
     requires { ⌜ n < 128 ⌝ }
     ensures { λ r. ⌜ r ≡ settingOf n ⌝ }
 {
@@ -85,7 +85,7 @@ pub struct Sum {
     pub stopped: bool,
 }
 
-pub fn turn(k: u64, n: u64, s: Sum) -> Sum
+fn turn(k: u64, n: u64, s: Sum) -> Sum
     requires { ⌜ (k < 2 ^ 32) × (2 ≤ n) × (s .sum < 2 ^ 40) ⌝ }
     ensures { λ r. ⌜ r ≡ turnOf k n s ⌝ }
 {
@@ -109,7 +109,7 @@ pub fn turn(k: u64, n: u64, s: Sum) -> Sum
     }
 }
 
-pub fn fraction(k: u64, f: u64) -> Sum
+fn fraction(k: u64, f: u64) -> Sum
     requires { ⌜ k < 2 ^ 32 ⌝ }
     ensures { λ r. ⌜ r ≡ sumOf k f ⌝ }
 {

@@ -18,7 +18,8 @@ use Rattle.wire.proofs.Floats.{nan-pattern, own-pattern}
 use Rattle.pll.specs.declared.Kind.{Kind}
 use Rattle.pll.specs.declared.Kind.the-variants.{R820T, R828D}
 use Rattle.r82xx.specs.declared.Tuner.{Tuner}
-use Rattle.records.specs.Fields.{flagByte, flagOf, flagsOnly, kindNumber, kindOf, properGain}
+use Rattle.pll.specs.Plan.{kindNumber}
+use Rattle.records.specs.Fields.{flagByte, flagOf, flagsOnly, kindOf, properGain}
 use Rattle.records.specs.Parts.{joined, partsFrom}
 use Rattle.records.specs.Tuners.{isTuner, tunerBytes, tunerFits, tunerFrom, tunerOf, tunerParts, tunerRead, tunerWidths}
 use Rattle.records.proofs.Joins.{joined-parts, length-joined, parts-joined}

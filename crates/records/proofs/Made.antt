@@ -17,7 +17,8 @@ use Rattle.pll.specs.declared.Kind.{Kind}
 use Rattle.r82xx.specs.declared.Made.{Made}
 use Rattle.r82xx.specs.declared.Tuner.{Tuner}
 use Rattle.r82xx.specs.Record.{madeOf}
-use Rattle.records.specs.Fields.{flagByte, flagOf, flagsOnly, kindNumber, kindOf, properGain}
+use Rattle.pll.specs.Plan.{kindNumber}
+use Rattle.records.specs.Fields.{flagByte, flagOf, flagsOnly, kindOf, properGain}
 use Rattle.records.specs.Parts.{partsFrom, laid, Sized}
 use Rattle.records.specs.Tuners.{chipFrom, isTuner, tunerBytes, tunerFits, tunerFrom, tunerOf, tunerParts, tunerRead, tunerWidths}
 use Rattle.records.proofs.Turns.{sets-whole}

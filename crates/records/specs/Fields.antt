@@ -1,33 +1,22 @@
 -- What stands in a part that is no plain number: a kind, a flag, a gain's bits. The other way each is read back, from what it can be alone.
 -- Assumes nothing.
 use Prim.Native.Nat.{ℕ, _%_}
-use mathlib.Core.Bool.{Bool, true, false, _&&_, _||_}
+use mathlib.Core.Bool.{Bool, true, false, cond, _&&_, _||_}
 use mathlib.Core.List.{List, [], _∷_}
 use lib.Dec.{eqb, leb}
 use Rattle.board.specs.declared.Board.{Board}
 use Rattle.board.specs.declared.Board.the-variants.{Generic, V4}
+use Rattle.board.specs.Numbers.{boardNumber}
 use Rattle.pll.specs.declared.Kind.{Kind}
 use Rattle.pll.specs.declared.Kind.the-variants.{R820T, R828D}
+use Rattle.pll.specs.Plan.{kindNumber}
 
--- "kind not R820T or R828D": 0 R820T, 1 R828D
-abbrev pub kindNumber : Kind → ℕ
-kindNumber R820T = 0
-kindNumber R828D = 1
-
-abbrev pub pickKind : Bool → Kind
-pickKind true = R828D
-pickKind false = R820T
-
+-- a kind and a board by their numbers; another number stands in no record
 abbrev pub kindOf : ℕ → Kind
-kindOf n = pickKind (eqb n 1)
+kindOf n = cond (eqb n (kindNumber R828D)) R828D R820T
 
-abbrev pub pickBoard : Bool → Board
-pickBoard true = V4
-pickBoard false = Generic
-
--- board: 0 generic, 1 V4
 abbrev pub boardFrom : ℕ → Board
-boardFrom n = pickBoard (eqb n 1)
+boardFrom n = cond (eqb n (boardNumber V4)) V4 Generic
 
 abbrev pub flagByte : Bool → ℕ
 flagByte true = 1

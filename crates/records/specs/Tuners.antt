@@ -13,7 +13,8 @@ use Rattle.pll.specs.declared.Kind.the-variants.{R820T}
 use Rattle.r82xx.specs.declared.Tuner.{Tuner}
 use Rattle.r82xx.specs.Record.{freshTuner}
 use Rattle.records.specs.declared.TunerRead.{TunerRead}
-use Rattle.records.specs.Fields.{flagByte, flagOf, flagsOnly, kindNumber, kindOf, properGain}
+use Rattle.pll.specs.Plan.{kindNumber}
+use Rattle.records.specs.Fields.{flagByte, flagOf, flagsOnly, kindOf, properGain}
 use Rattle.records.specs.Parts.{joined, num, part, partsFrom}
 
 -- kind, address, shadow, nominal, corrected, lock, gain, IF, notch, attempted, doubtful

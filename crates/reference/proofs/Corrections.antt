@@ -1,6 +1,6 @@
 -- The corrected reference by the sign of ppm, over whole numbers without a sign, as the code works it out. Assumes nothing.
 use mathlib.Core.Path.{_≡_, refl, sym, ap, _∙_, subst}
-use mathlib.Core.Bool.{Bool, true, false, _&&_}
+use mathlib.Core.Bool.{Bool, true, false, cond, _&&_}
 use Prim.Native.Nat.{ℕ, zero, suc, _+_, _-_, _*_, _/_, _≤_, _<_}
 use native.Mathlib.Omega.{arith}
 use lib.Dec.{T, leb}
@@ -10,7 +10,7 @@ use lib.Signed.{quotZ, ltZ}
 use borrow.Author.Tests.{le-ltb, lt-ltb, le-leb}
 use Rattle.reference.specs.declared.Corrected.the-variants.{Is, Refused}
 use Rattle.reference.proofs.Sign.{not-below}
-use Rattle.reference.specs.Correct.{pickCorrected, acceptOf, correctedOf}
+use Rattle.reference.specs.Correct.{acceptOf, correctedOf}
 
 -- what is added or taken off
 abbrev pub shareOf : ℕ → ℤ → ℕ
@@ -49,7 +49,7 @@ ranged : (x : ℤ) (v : ℕ) → acceptOf x ≡ Is v → (0 < v) × (v ≤ 4_294
 ranged (negsuc k) v e = let z : _≡_ {A = ℕ} 0 1 = cc in absurd (omega arith)
 ranged (pos k) v e = by (leb 1 k && leb k 4_294_967_295) refl e
   where
-    by : (b : Bool) → (leb 1 k && leb k 4_294_967_295) ≡ b → pickCorrected b (Is k) Refused ≡ Is v → (0 < v) × (v ≤ 4_294_967_295)
+    by : (b : Bool) → (leb 1 k && leb k 4_294_967_295) ≡ b → cond b (Is k) Refused ≡ Is v → (0 < v) × (v ≤ 4_294_967_295)
     by false t e = let z : _≡_ {A = ℕ} 0 1 = cc in absurd (omega arith)
     by true t e =
         let both : T (leb 1 k) × T (leb k 4_294_967_295) = and-yes (leb 1 k) (leb k 4_294_967_295) (subst T (sym t) tt) in

@@ -1,19 +1,15 @@
 -- The corrected reference. Document 01, "The record": "Corrected reference: nominal + nominal·ppm / 1,000,000, the quotient cut toward zero."
 -- "Refusal numbers", 4: "corrected reference not 1..4,294,967,295".
 use Prim.Native.Nat.{ℕ}
-use mathlib.Core.Bool.{Bool, true, false, _&&_}
+use mathlib.Core.Bool.{cond, _&&_}
 use lib.Dec.{leb}
 use lib.IntN.{ℤ, pos, negsuc, _+ℤ_, _*ℤ_}
 use lib.Signed.{quotZ}
 use Rattle.reference.specs.declared.Corrected.{Corrected}
 use Rattle.reference.specs.declared.Corrected.the-variants.{Is, Refused}
 
-abbrev pub pickCorrected : Bool → Corrected → Corrected → Corrected
-pickCorrected true a b = a
-pickCorrected false a b = b
-
 abbrev pub acceptOf : ℤ → Corrected
-acceptOf (pos v) = pickCorrected (leb 1 v && leb v 4_294_967_295) (Is v) Refused
+acceptOf (pos v) = cond (leb 1 v && leb v 4_294_967_295) (Is v) Refused
 acceptOf (negsuc v) = Refused
 
 unfoldable pub correctedOf : ℕ → ℤ → Corrected

@@ -9,7 +9,7 @@ pub enum Corrected {
     Refused,
 }
 
-pub fn magnitude(ppm: i32) -> u64
+fn magnitude(ppm: i32) -> u64
     ensures { λ r. ⌜ r ≡ natAbs ppm ⌝ }
 {
     let wide = ppm as i64;
@@ -19,7 +19,7 @@ pub fn magnitude(ppm: i32) -> u64
     wide as u64
 }
 
-pub fn accept(value: u64) -> Corrected
+fn accept(value: u64) -> Corrected
     ensures { λ r. ⌜ r ≡ acceptOf (pos value) ⌝ }
 {
     if value < 1 {

@@ -3,12 +3,9 @@ use mathlib.Core.Path.{_≡_, sym, ap, ap₂, _∙_}
 use Prim.Native.Nat.{ℕ, _+_, _*_, _/_, _%_, _^_, _<_}
 use borrow.Author.Tests.{ne-eqb}
 use native.Mathlib.Omega.{arith}
-use native.Mathlib.Nat.{div-le-self}
 use mathlib.Core.List.{[], _∷_}
 use lib.Bits.{bitAnd, bitOr, and-high, and-le-r, or-shifted-r}
 use lib.Pow.{mod-pow-add}
-use Rattle.registers.specs.declared.IfRegs.{IfRegs}
-use Rattle.registers.specs.declared.ResampleRegs.{ResampleRegs}
 use Rattle.registers.specs.Rates.{ifRatioOf, ifRegsOf, ifValueOf, maskedOf, negatedOf, numberFrom, ratioOf, resampleRegsOf, sentOf, threeOf}
 
 -- negated is below 2^22, and the sum with the number is 0 there: minus the number, modulo 2^22
@@ -17,13 +14,6 @@ negated-small x = omega arith
 
 pub negated-law : (x : ℕ) → (negatedOf x + x) % 2 ^ 22 ≡ 0
 negated-law x = omega arith
-
--- the uncut ratios of numbers of 32 bits fit 54
-pub if-ratio-fits : (hz xtal : ℕ) → hz < 2 ^ 32 → ifRatioOf hz xtal < 2 ^ 54
-if-ratio-fits hz xtal h = omega (arith, div-le-self (hz * 2 ^ 22) xtal)
-
-pub ratio-fits : (rate xtal : ℕ) → xtal < 2 ^ 32 → ratioOf rate xtal < 2 ^ 54
-ratio-fits rate xtal h = omega (arith, div-le-self (xtal * 2 ^ 22) rate)
 
 -- the mask keeps bits 2 to 27
 masked-is : (r : ℕ) → maskedOf r ≡ r / 4 % 2 ^ 26 * 4

@@ -4,7 +4,7 @@
 -- "Refusal numbers": "`if_freq_regs` and its demod sister refuse 4 for reference zero; so do both resampler calls, after rate";
 -- "A refused call's value is 0".
 use Prim.Native.Nat.{ℕ, _+_, _-_, _*_, _/_, _%_, _^_}
-use mathlib.Core.Bool.{Bool, true, false}
+use mathlib.Core.Bool.{cond}
 use mathlib.Core.List.{List, [], _∷_}
 use lib.Dec.{eqb}
 use lib.Bits.{bitAnd, bitOr}
@@ -34,14 +34,6 @@ maskedOf ratio = bitAnd (ratio % 2 ^ 32) 0x0fff_fffc
 unfoldable pub sentOf : ℕ → ℕ
 sentOf ratio = bitOr (maskedOf ratio) (bitAnd (maskedOf ratio) 0x0800_0000 * 2)
 
-abbrev pub pickIf : Bool → IfRegs → IfRegs → IfRegs
-pickIf true a b = a
-pickIf false a b = b
-
-abbrev pub pickResample : Bool → ResampleRegs → ResampleRegs → ResampleRegs
-pickResample true a b = a
-pickResample false a b = b
-
 -- 22 bits in three registers: six bits and two bytes, high first
 abbrev pub threeOf : ℕ → List ℕ
 threeOf x = x / 2 ^ 16 % 2 ^ 6 ∷ x / 2 ^ 8 % 2 ^ 8 ∷ x % 2 ^ 8 ∷ []
@@ -52,7 +44,7 @@ numberFrom x [] = x
 numberFrom x (b ∷ bs) = numberFrom (x * 2 ^ 8 + b) bs
 
 unfoldable pub ifRegsOf : ℕ → ℕ → IfRegs
-ifRegsOf hz xtal = pickIf (eqb xtal 0) (record { refusal = 4; bytes = 0 ∷ 0 ∷ 0 ∷ [] }) (record { refusal = 0; bytes = threeOf (ifRatioOf hz xtal) })
+ifRegsOf hz xtal = cond (eqb xtal 0) (record { refusal = 4; bytes = 0 ∷ 0 ∷ 0 ∷ [] }) (record { refusal = 0; bytes = threeOf (ifRatioOf hz xtal) })
 
 abbrev pub noResample : ℕ → ResampleRegs
 noResample number = record { refusal = number; bytes = 0 ∷ 0 ∷ 0 ∷ 0 ∷ [] }
@@ -60,6 +52,6 @@ noResample number = record { refusal = number; bytes = 0 ∷ 0 ∷ 0 ∷ 0 ∷ [
 -- six bits and three bytes, high first
 unfoldable pub resampleRegsOf : ℕ → ℕ → ResampleRegs
 resampleRegsOf rate xtal =
-    pickResample (eqb rate 0) (noResample 3)
-    (pickResample (eqb xtal 0) (noResample 4)
+    cond (eqb rate 0) (noResample 3)
+    (cond (eqb xtal 0) (noResample 4)
     (record { refusal = 0; bytes = ratioOf rate xtal / 2 ^ 24 % 2 ^ 6 ∷ ratioOf rate xtal / 2 ^ 16 % 2 ^ 8 ∷ ratioOf rate xtal / 2 ^ 8 % 2 ^ 8 ∷ ratioOf rate xtal % 2 ^ 8 ∷ [] }))

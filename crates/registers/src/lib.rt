@@ -109,7 +109,7 @@ pub const IF_FREQ_HZ: u64 = 3_570_000;
 pub const XTAL_FREQ_HZ: u32 = 28_800_000;
 
 // The positive value of an intermediate frequency.
-pub fn if_ratio(hz: u32, xtal: u32) -> u64
+fn if_ratio(hz: u32, xtal: u32) -> u64
     requires { ⌜ 0 < xtal ⌝ }
     ensures { λ r. ⌜ r ≡ ifRatioOf hz xtal ⌝ }
 {

@@ -1,35 +1,31 @@
 -- Where everything stands in a case (docs/VECTORS.md, "Layout"), and what it is for what came back to agree with it. Assumes nothing.
 use Prim.Native.Nat.{ℕ, zero, suc, _+_, _-_, _*_, _/_, _%_, _≤_, _<_}
 use mathlib.Core.Path.{_≡_}
-use mathlib.Core.Bool.{Bool, true, false, _&&_}
+use mathlib.Core.Bool.{cond, _&&_}
 use mathlib.Core.List.{List, []}
 use lib.Dec.{leb, eqb}
 use lib.ListN.{length, getD, take, drop}
 use Rattle.wire.specs.Bytes.{leValue}
 use Rattle.replay.specs.declared.compare.Answer.{Answer}
 
-abbrev pub pick : {A : Type 0} → Bool → A → A → A
-pick true a b = a
-pick false a b = b
-
 -- the number in the k bytes of a case from `at`, low byte first; 0 where the case ends before
 unfoldable pub numberAt : List ℕ → ℕ → ℕ → ℕ
-numberAt c at k = pick (leb (at + k) (length c)) (leValue (take k (drop at c))) 0
+numberAt c at k = cond (leb (at + k) (length c)) (leValue (take k (drop at c))) 0
 
 -- the bytes of a case from a up to e; none where the case ends before
 unfoldable pub cutOf : List ℕ → ℕ → ℕ → List ℕ
-cutOf c a e = pick (leb a e && leb e (length c)) (take (e - a) (drop a c)) []
+cutOf c a e = cond (leb a e && leb e (length c)) (take (e - a) (drop a c)) []
 
 -- how long a part is that only stands there where bit number 0, 1 or 2 of the flags is set: the bit is the flags over 1, 2 or 4
 unfoldable pub flagged : List ℕ → ℕ → ℕ → ℕ
-flagged c bit n = pick (eqb (numberAt c 7 1 / bit % 2) 1) n 0
+flagged c bit n = cond (eqb (numberAt c 7 1 / bit % 2) 1) n 0
 
 -- how long part k is: 0 to 4 are given to a call (outcomes, replies, tuner record, driver record, input bytes), 5 to 8 must come back (section,
 -- next tuner record, next driver record, answered bytes)
 unfoldable pub sizeAt : List ℕ → ℕ → ℕ
 sizeAt c k =
-    pick (eqb k 5) (flagged c 1 (16 * numberAt c 50 2 + 8))
-    (pick (eqb k 6) (flagged c 2 105) (pick (eqb k 7) (flagged c 4 21) (pick (eqb k 8) (numberAt c 64 2) (numberAt c (54 + 2 * k) 2))))
+    cond (eqb k 5) (flagged c 1 (16 * numberAt c 50 2 + 8))
+    (cond (eqb k 6) (flagged c 2 105) (cond (eqb k 7) (flagged c 4 21) (cond (eqb k 8) (numberAt c 64 2) (numberAt c (54 + 2 * k) 2))))
 
 -- where part k starts: they stand end to end
 unfoldable pub startAt : List ℕ → ℕ → ℕ
@@ -53,7 +49,7 @@ pub record Written (lent bytes : List ℕ) : Type 0 where
 
 -- the bytes of an answer by value: none where it is refused
 abbrev pub unlessRefused : ℕ → List ℕ → List ℕ
-unlessRefused refusal bytes = pick (eqb refusal 0) bytes []
+unlessRefused refusal bytes = cond (eqb refusal 0) bytes []
 
 -- a call that answers by value agrees with a case: its numbers, and its answered bytes exactly; the case has no section and no next record
 pub record Valued (c : List ℕ) (refusal value : ℕ) (bytes : List ℕ) : Type 0 where

@@ -11,7 +11,7 @@ use Rattle.transcript.specs.declared.Entry.{Entry}
 use Rattle.chip.specs.declared.Answer.{Answer}
 use Rattle.chip.specs.declared.Chip.{Chip}
 use Rattle.chip.specs.declared.Went.{Went}
-use Rattle.chip.specs.declared.Went.the-variants.{Going, Failed}
+use Rattle.chip.specs.declared.Went.the-variants.{Going, Refused11}
 use Rattle.chip.specs.Calls.{Called, answerOf, callOf}
 use Rattle.chip.specs.Steps.{Step, Trace, acts, emit, goes, inList, line, okFor, run, step, toldOf, trace, wentFor}
 use Rattle.chip.specs.Steps.Step.{Open, Close, Send, Mask, Plain}
@@ -43,21 +43,21 @@ emit-failed (Plain e) c = refl
 
 indexIn : Went → ℕ
 indexIn Going = 0
-indexIn (Failed k) = k
+indexIn (Refused11 k) = k
 
 record Marked (t : Trace) : Type 0 where
   counted : t .count ≡ length (t .log)
-  failed : (i : ℕ) → t .went ≡ Failed i → outcomeAt (t .log) i ≡ 1
+  failed : (i : ℕ) → t .went ≡ Refused11 i → outcomeAt (t .log) i ≡ 1
 
 -- a step other than a closing tells how it went; a closing leaves that as it was
-told-new : (s : Step) (t : Trace) (ok : Bool) → t .count ≡ length (t .log) → (i : ℕ) → toldOf ok (t .count) ≡ Failed i
+told-new : (s : Step) (t : Trace) (ok : Bool) → t .count ≡ length (t .log) → (i : ℕ) → toldOf ok (t .count) ≡ Refused11 i
     → outcomeAt (t .log ++ (emit s (t .chip) ok ∷ [])) i ≡ 1
 unfolding indexIn
 told-new s t true k i h = absurd (true≢false (ap goes h))
 told-new s t false k i h =
     subst (λ (j : ℕ). outcomeAt (t .log ++ (emit s (t .chip) false ∷ [])) j ≡ 1) (sym k ∙ ap indexIn h) (snoc-new (t .log) (emit s (t .chip) false) ∙ emit-failed s (t .chip))
 
-told-step : (s : Step) (t : Trace) (ok : Bool) → Marked t → (i : ℕ) → wentFor s ok (t .count) (t .went) ≡ Failed i
+told-step : (s : Step) (t : Trace) (ok : Bool) → Marked t → (i : ℕ) → wentFor s ok (t .count) (t .went) ≡ Refused11 i
     → outcomeAt (t .log ++ (emit s (t .chip) ok ∷ [])) i ≡ 1
 told-step Open t ok m i h = told-new Open t ok (m .counted) i h
 told-step Close t ok m i h = snoc-old (t .log) (emit Close (t .chip) ok) i (m .failed i h)
@@ -83,7 +83,7 @@ module _ (os : List ℕ) where
   marked-run [] t m = m
   marked-run (s ∷ ss) t m = marked-run ss (step inList os s t) (marked-step s t m)
 
-failed-entry : (os : List ℕ) (ss : List Step) (c : Chip) (i : ℕ) → trace os ss c .went ≡ Failed i → outcomeAt (trace os ss c .log) i ≡ 1
+failed-entry : (os : List ℕ) (ss : List Step) (c : Chip) (i : ℕ) → trace os ss c .went ≡ Refused11 i → outcomeAt (trace os ss c .log) i ≡ 1
 unfolding trace
 failed-entry os ss c i h =
     marked-run os ss (line c [] 0 Going false) (record { counted = refl; failed = λ j k. absurd (true≢false (ap goes k)) }) .failed i h
@@ -105,7 +105,7 @@ module _ {R : Type 0} (number : ℕ) (whole : Answer) (os : List ℕ) (ss : List
       ∙ ap (λ (w : Went). replyOf (answerOf whole w) (length (trace os ss c .log))) h
 
   -- a step failed: 11, value 0 and the index of an entry that says so
-  pub stopped-told : (i : ℕ) → number ≡ 0 → trace os ss c .went ≡ Failed i
+  pub stopped-told : (i : ℕ) → number ≡ 0 → trace os ss c .went ≡ Refused11 i
       → (callReply call ≡ numbersTold 11 0 i (length (trace os ss c .log) % 4294967296)) × (outcomeAt (trace os ss c .log) i ≡ 1)
   stopped-told i z h = (
     sym (ap callReply (performs number whole os ss c keep old room z))

@@ -7,6 +7,7 @@ use Rattle.chip.specs.Calls.{Called, indexOf, numberOf, valueOf}
 use Rattle.transcript.specs.declared.Entry.{Entry}
 use Rattle.transcript.specs.declared.Section.{Section}
 use Rattle.transcript.specs.declared.Section.the-variants as section
+use Rattle.transcript.specs.Sections.{refusalOf}
 use Rattle.replies.specs.declared.Parts.{Parts}
 use Rattle.replies.specs.declared.Reply.{Reply}
 use Rattle.replies.specs.declared.TuneReply.{TuneReply}
@@ -34,7 +35,7 @@ tunedOf r = record { value = r .value; index = r .index; refusal = r .refusal; c
 
 -- "refused: empty parts"
 abbrev pub noParts : Parts
-noParts = record { start = 0; count = 0; refusal = 12; zero = 0 }
+noParts = record { start = 0; count = 0; refusal = refusalOf section.Refused; zero = 0 }
 
 abbrev pub partsOf : Section → Parts
 partsOf (section.Read start count) = record { start = start; count = count; refusal = 0; zero = 0 }

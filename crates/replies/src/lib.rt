@@ -90,7 +90,7 @@ pub fn located(section: Section) -> Parts
         Section::Refused => Parts {
             start: 0,
             count: 0,
-            refusal: 12,
+            refusal: section.refusal(),
             zero: 0,
         },
     }

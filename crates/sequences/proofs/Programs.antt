@@ -1,7 +1,7 @@
 -- The programs of the calls: every step of them passes crate `history`'s test, and how many steps they have. Assumes nothing.
 use Prim.Native.Nat.{ℕ, zero, suc, _+_, _-_, _*_, _≤_}
 use mathlib.Core.Path.{_≡_, refl}
-use mathlib.Core.Bool.{Bool, true, false}
+use mathlib.Core.Bool.{Bool, true, false, cond}
 use mathlib.Core.List.{List, [], _∷_, _++_}
 use native.Mathlib.Omega.{arith}
 use borrow.Author.Tests.{leb-true, ne-eqb}
@@ -21,7 +21,7 @@ use Rattle.pll.specs.declared.Kind.the-variants.{R820T, R828D}
 use Rattle.pll.specs.declared.Plan.{Plan}
 use Rattle.pll.specs.declared.Pll.{Pll}
 use Rattle.pll.specs.declared.Pll.the-variants.{Planned, Refused}
-use Rattle.tuning.specs.Mux.{masked, muxUpdates, pick, pllUpdates, rangeOf}
+use Rattle.tuning.specs.Mux.{masked, muxUpdates, pllUpdates, rangeOf}
 use Rattle.tuning.specs.Tries.{afterTry, again, locked, locksAt, repairUpdates, replyBytes, statusSteps, triesFrom, tryRead}
 use Rattle.tuning.specs.Program.{innerSteps, pllSteps, tuneSteps}
 use Rattle.tuning.proofs.Turns.{pick-every, repair-in, repair-most}
@@ -120,7 +120,7 @@ module _ (address : ℕ) (rs : List ℕ) (small : address ≤ 255) (bytes : ever
   unfolding triesFrom every
   fine-tries zero i = refl
   fine-tries (suc left) i =
-      every-append fine (tryRead address rs i) (pick (locksAt rs i) (updates locked) (afterTry i ++ triesFrom address rs left (i + 1))) (fine-try i)
+      every-append fine (tryRead address rs i) (cond (locksAt rs i) (updates locked) (afterTry i ++ triesFrom address rs left (i + 1))) (fine-try i)
       (pick-every fine (locksAt rs i) (updates locked) (afterTry i ++ triesFrom address rs left (i + 1)) (fine-updates locked locked-in)
       (every-append fine (afterTry i) (triesFrom address rs left (i + 1)) (fine-after i) (fine-tries left (i + 1))))
 
@@ -173,7 +173,7 @@ again-length (suc i) =
     rw later (omega arith)
 
 try-length : (address : ℕ) (rs : List ℕ) (left i : ℕ) (deeper : List Step) → length deeper ≤ 3 * left + (1 - (i + 1)) → (b : Bool)
-    → length (tryRead address rs i ++ pick b (updates locked) (afterTry i ++ deeper)) ≤ 3 * suc left + (1 - i)
+    → length (tryRead address rs i ++ cond b (updates locked) (afterTry i ++ deeper)) ≤ 3 * suc left + (1 - i)
 try-length address rs left i deeper h true = omega arith
 try-length address rs left i deeper h false =
     omega (arith, length-append (afterTry i) deeper, length-append (updates (again i)) (Plain (wait 1) ∷ []), again-length i, h)

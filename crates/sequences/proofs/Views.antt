@@ -10,7 +10,6 @@ use lib.Dec.{eqb, leb}
 use lib.Ieee.{binary32, toBits}
 use lib.IntN.{ℤ}
 use lib.ListN.{length, length-append, length-map}
-use Rattle.board.specs.declared.Path.{Path}
 use Rattle.board.specs.declared.PathRead.{PathRead}
 use Rattle.board.specs.declared.PathRead.the-variants as path-read
 use Rattle.board.specs.Numbers.{pathOf}

@@ -3,7 +3,7 @@
 use Prim.Native.Nat.{ℕ, suc, _+_, _-_, _*_, _<_, _≤_}
 use mathlib.Core.Path.{_≡_, refl, sym, ap₂, _∙_}
 use mathlib.Core.List.{List, []}
-use mathlib.Core.Bool.{Bool, true, false, _&&_, and-false}
+use mathlib.Core.Bool.{Bool, true, false, cond, _&&_, and-false}
 use native.Mathlib.Omega.{arith}
 use lib.Dec.{eqb, leb}
 use borrow.Author.Tests.{eq-eqb, ne-eqb, eqb-true, lt-leb, le-leb, leb-true}
@@ -11,7 +11,7 @@ use lib.ListN.{length, take, drop}
 use lib.Seq.{drop-drop}
 use Rattle.transcript.specs.declared.Section.the-variants.{Read, Refused}
 use Rattle.transcript.specs.Entries.{fits}
-use Rattle.transcript.specs.Sections.{allFit, countOf, distanceOf, startOf, isSection, pickSection, sectionOf, entriesOf, beforeOf}
+use Rattle.transcript.specs.Sections.{allFit, countOf, distanceOf, startOf, isSection, sectionOf, entriesOf, beforeOf}
 
 -- a loop over entries that have to fit: it goes on, it stops, it ends
 module _ (s : List ℕ) (at i k : ℕ) where
@@ -125,7 +125,7 @@ module _ (s : List ℕ) (count distance : ℕ) (long : 8 ≤ length s) (c : coun
         rw (good, there, c)
 
 -- a section that the reader found lies in the slice
-picked : (b : Bool) (x y a k : ℕ) → Read a k ≡ pickSection b (Read x y) Refused → (b ≡ true) × ((a ≡ x) × (k ≡ y))
+picked : (b : Bool) (x y a k : ℕ) → Read a k ≡ cond b (Read x y) Refused → (b ≡ true) × ((a ≡ x) × (k ≡ y))
 picked true x y a k h = (refl, (cc, cc))
 picked false x y a k h =
     let z : _≡_ {A = ℕ} 0 1 = cc in
@@ -142,7 +142,7 @@ lies s a k h =
     let g = sound s (f .0) in
     (omega (arith, f .1 .1, g .most), omega (arith, f .1 .0, f .1 .1, g .long, g .room))
 
-dropped : (b : Bool) (x y : ℕ) → Refused ≡ pickSection b (Read x y) Refused → b ≡ false
+dropped : (b : Bool) (x y : ℕ) → Refused ≡ cond b (Read x y) Refused → b ≡ false
 dropped true x y h =
     let z : _≡_ {A = ℕ} 0 1 = cc in
     absurd (omega arith)

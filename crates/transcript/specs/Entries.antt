@@ -4,7 +4,7 @@
 use Prim.Native.Nat.{ℕ}
 use mathlib.Core.Path.{_≡_}
 use mathlib.Core.List.{List, [], _∷_, _++_}
-use mathlib.Core.Bool.{Bool, true, false, _&&_}
+use mathlib.Core.Bool.{Bool, true, false, cond, _&&_}
 use lib.Dec.{eqb, ltb}
 use lib.ListN.{length, getD, drop, take}
 use Rattle.wire.specs.Bytes.{leBytes, leValue}
@@ -30,13 +30,9 @@ unfoldable pub zeros : List ℕ → Bool
 zeros [] = true
 zeros (b ∷ bs) = eqb b 0 && zeros bs
 
-abbrev pub pickN : Bool → ℕ → ℕ → ℕ
-pickN true a b = a
-pickN false a b = b
-
 -- how many data bytes an entry keeps: n, and none of a failed read, whose data are "zeros if failed"
 abbrev pub keptBy : ℕ → ℕ → ℕ → ℕ
-keptBy k o n = pickN (isRead k && ltb 0 o) 0 n
+keptBy k o n = cond (isRead k && ltb 0 o) 0 n
 
 -- "entries fit the table (a wait has outcome 0)": a row's numbers within its columns, and eight data bytes "padded with zeros"
 unfoldable pub entryFits : Entry → Bool

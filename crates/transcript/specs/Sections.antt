@@ -4,7 +4,7 @@
 use Prim.Native.Nat.{ℕ, zero, suc, _+_, _-_, _*_, _≤_}
 use mathlib.Core.Path.{_≡_}
 use mathlib.Core.List.{List, [], _∷_, _++_}
-use mathlib.Core.Bool.{Bool, true, false, _&&_}
+use mathlib.Core.Bool.{Bool, true, cond, _&&_}
 use lib.Dec.{leb, eqb}
 use lib.ListN.{length, take, drop}
 use Rattle.wire.specs.Bytes.{leBytes, leValue}
@@ -52,23 +52,15 @@ isSection s =
     && leb (16 * countOf s) (length s - 8)
     && allFit (countOf s) (drop (startOf s) s)
 
-abbrev pub pickSection : Bool → Section → Section → Section
-pickSection true a b = a
-pickSection false a b = b
-
-abbrev pub pickPart : Bool → List ℕ → List ℕ → List ℕ
-pickPart true a b = a
-pickPart false a b = b
-
 unfoldable pub sectionOf : List ℕ → Section
-sectionOf s = pickSection (isSection s) (Read (startOf s) (countOf s)) Refused
+sectionOf s = cond (isSection s) (Read (startOf s) (countOf s)) Refused
 
 -- "also hands back what stands before them (refused: empty parts)"
 unfoldable pub entriesOf : List ℕ → List ℕ
-entriesOf s = pickPart (isSection s) (take (16 * countOf s) (drop (startOf s) s)) []
+entriesOf s = cond (isSection s) (take (16 * countOf s) (drop (startOf s) s)) []
 
 unfoldable pub beforeOf : List ℕ → List ℕ
-beforeOf s = pickPart (isSection s) (take (startOf s) s) []
+beforeOf s = cond (isSection s) (take (startOf s) s) []
 
 -- the entries of a section: those of the part that is handed back
 abbrev pub sectionEntries : List ℕ → List Entry

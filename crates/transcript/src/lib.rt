@@ -111,7 +111,7 @@ impl Entry {
     }
 
     // Whether the entry fits the table, with zeros behind its data; a failed read has none.
-    pub fn fits(self) -> bool
+    fn fits(self) -> bool
         ensures { λ r. ⌜ r ≡ entryFits self ⌝ }
     {
         let k = wide(self.kind);

@@ -2,7 +2,7 @@
 -- "eight data bytes". Assumes nothing.
 use Prim.Native.Nat.{ℕ, zero, suc, _+_, _-_, _*_, _≤_}
 use mathlib.Core.Path.{_≡_, refl, sym, ap, _∙_}
-use mathlib.Core.Bool.{Bool, true, false, _&&_}
+use mathlib.Core.Bool.{Bool, true, false, cond, _&&_}
 use mathlib.Core.List.{List, [], _∷_, _++_, map}
 use borrow.Author.Tests.{eq-eqb}
 use lib.ListN.{length, take, drop, getD}
@@ -17,7 +17,7 @@ use Rattle.chip.proofs.Lists.{inner-update}
 use Rattle.pll.specs.declared.Kind.{Kind}
 use Rattle.pll.specs.declared.Pll.{Pll}
 use Rattle.pll.specs.declared.Pll.the-variants.{Planned, Refused}
-use Rattle.tuning.specs.Mux.{muxUpdates, pick, pllUpdates, rangeOf}
+use Rattle.tuning.specs.Mux.{muxUpdates, pllUpdates, rangeOf}
 use Rattle.tuning.specs.Tries.{afterTry, again, locked, locksAt, repairUpdates, replyBytes, statusSteps, triesFrom, tryRead}
 use Rattle.tuning.specs.Program.{innerSteps, pllSteps}
 
@@ -33,7 +33,7 @@ unfolding every
 every-app p [] ys h k = k
 every-app p (x ∷ xs) ys h k = both (p x) (every p xs) (every p (xs ++ ys)) h (every-app p xs ys (and-right (p x) (every p xs) h) k)
 
-pick-every : (p : Step → Bool) (b : Bool) (xs ys : List Step) → every p xs ≡ true → every p ys ≡ true → every p (pick b xs ys) ≡ true
+pick-every : (p : Step → Bool) (b : Bool) (xs ys : List Step) → every p xs ≡ true → every p ys ≡ true → every p (cond b xs ys) ≡ true
 pick-every p true xs ys h k = h
 pick-every p false xs ys h k = k
 
@@ -79,7 +79,7 @@ module _ (p : Step → Bool) (by-plain : (e : Entry) → length (e .bytes) ≡ 8
   unfolding triesFrom every
   all-tries address rs zero i = refl
   all-tries address rs (suc left) i =
-      every-app p (tryRead address rs i) (pick (locksAt rs i) (updates locked) (afterTry i ++ triesFrom address rs left (i + 1))) (all-read address rs i)
+      every-app p (tryRead address rs i) (cond (locksAt rs i) (updates locked) (afterTry i ++ triesFrom address rs left (i + 1))) (all-read address rs i)
       (pick-every p (locksAt rs i) (updates locked) (afterTry i ++ triesFrom address rs left (i + 1)) (all-updates locked)
       (every-app p (afterTry i) (triesFrom address rs left (i + 1)) (all-after i) (all-tries address rs left (i + 1))))
 

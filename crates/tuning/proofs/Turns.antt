@@ -1,7 +1,7 @@
 -- The tries for a lock, one by one: what a turn of the loop does to what is left of the program. Assumes nothing.
 use Prim.Native.Nat.{ℕ, zero, suc, _+_, _-_, _*_, _≤_, _<_}
 use mathlib.Core.Path.{_≡_, refl, sym, ap, _∙_}
-use mathlib.Core.Bool.{Bool, true, false, _&&_}
+use mathlib.Core.Bool.{Bool, true, false, cond, _&&_}
 use mathlib.Core.List.{List, [], _∷_, _++_, map}
 use native.Mathlib.Omega.{arith}
 use borrow.Author.Tests.{lt-ltb, le-ltb}
@@ -24,7 +24,7 @@ use Rattle.pll.specs.declared.Pll.{Pll}
 use Rattle.pll.specs.declared.Pll.the-variants.{Planned, Refused}
 use Rattle.tuning.specs.declared.FreqRange.{FreqRange}
 use Rattle.tuning.specs.declared.Updates.{Updates}
-use Rattle.tuning.specs.Mux.{masked, muxUpdates, pick, pllUpdates, rangeOf}
+use Rattle.tuning.specs.Mux.{masked, muxUpdates, pllUpdates, rangeOf}
 use Rattle.tuning.specs.Program.{innerSteps, pllSteps}
 use Rattle.tuning.specs.Tries.{afterTry, again, fineOf, listed, locked, locksAt, powerOf, repairUpdates, replyBytes, statusSteps, triesFrom, tryRead}
 use Rattle.tuning.proofs.Programs.{every-app, inner-after, inner-tries, inner-updates}
@@ -52,11 +52,11 @@ module _ (kind : Kind) (number byte power fine : ℕ) (p : power ≡ powerOf kin
   repair-none h k = rw (← p, ← q, le-ltb power fine h, le-ltb fine power k)
 
 -- what all of two lists pass, all of the one that is picked pass
-pub pick-every : {A : Type 0} (p : A → Bool) (b : Bool) (xs ys : List A) → every p xs ≡ true → every p ys ≡ true → every p (pick b xs ys) ≡ true
+pub pick-every : {A : Type 0} (p : A → Bool) (b : Bool) (xs ys : List A) → every p xs ≡ true → every p ys ≡ true → every p (cond b xs ys) ≡ true
 pick-every p true xs ys h k = h
 pick-every p false xs ys h k = k
 
-pick-most : (b : Bool) (xs ys : List Update) (n : ℕ) → length xs ≤ n → length ys ≤ n → length (pick b xs ys) ≤ n
+pick-most : (b : Bool) (xs ys : List Update) (n : ℕ) → length xs ≤ n → length ys ≤ n → length (cond b xs ys) ≤ n
 pick-most true xs ys n h k = h
 pick-most false xs ys n h k = k
 
@@ -71,13 +71,13 @@ module _ (kind : Kind) (number byte : ℕ) where
   pub repair-in : allIn (repairUpdates kind number byte) ≡ true
   unfolding repairUpdates every
   repair-in =
-      pick-every inRange (ltb (powerOf kind) (fineOf byte)) down (pick (ltb (fineOf byte) (powerOf kind)) up []) refl
+      pick-every inRange (ltb (powerOf kind) (fineOf byte)) down (cond (ltb (fineOf byte) (powerOf kind)) up []) refl
       (pick-every inRange (ltb (fineOf byte) (powerOf kind)) up [] refl refl)
 
   pub repair-most : length (repairUpdates kind number byte) ≤ 1
   unfolding repairUpdates
   repair-most =
-      pick-most (ltb (powerOf kind) (fineOf byte)) down (pick (ltb (fineOf byte) (powerOf kind)) up []) 1 (omega arith)
+      pick-most (ltb (powerOf kind) (fineOf byte)) down (cond (ltb (fineOf byte) (powerOf kind)) up []) 1 (omega arith)
       (pick-most (ltb (fineOf byte) (powerOf kind)) up [] 1 (omega arith) (omega arith))
 
   -- the same of what the code hands on
@@ -115,7 +115,7 @@ plan-made address kind notch plan hz rs range us p e l q = rw (l, e, q)
 
 -- what follows the read of try i
 abbrev restOf : ℕ → List ℕ → ℕ → List Step
-restOf address rs i = pick (locksAt rs i) (updates locked) (afterTry i ++ triesFrom address rs (10 - (i + 1)) (i + 1))
+restOf address rs i = cond (locksAt rs i) (updates locked) (afterTry i ++ triesFrom address rs (10 - (i + 1)) (i + 1))
 
 opened : (address : ℕ) (rs : List ℕ) (i : ℕ) → i < 10 → triesFrom address rs (10 - i) i ≡ tryRead address rs i ++ restOf address rs i
 unfolding triesFrom
@@ -141,7 +141,7 @@ module _ {L : Type 0} (put : L → ℕ → Entry → L) (os : List ℕ) where
 
     -- it has the lock bit
     pub lock-try : (y : Line L) → locksAt rs i ≡ true → y ≡ closing put os (run put os (updates locked) x) → y ≡ closing put os (run put os (triesFrom address rs (10 - i) i) w)
-    lock-try y b e = all y (swap put os (updates locked) (restOf address rs i) x y (sym (ap (λ (t : Bool). pick t (updates locked) (afterTry i ++ triesFrom address rs (10 - (i + 1)) (i + 1))) b)) e)
+    lock-try y b e = all y (swap put os (updates locked) (restOf address rs i) x y (sym (ap (λ (t : Bool). cond t (updates locked) (afterTry i ++ triesFrom address rs (10 - (i + 1)) (i + 1))) b)) e)
 
     -- it has not
     pub next-try : (y : Line L) → locksAt rs i ≡ false → y ≡ closing put os (run put os (afterTry i) x)
@@ -150,7 +150,7 @@ module _ {L : Type 0} (put : L → ℕ → Entry → L) (os : List ℕ) where
         let z : Line L = closing put os (run put os (triesFrom address rs (10 - (i + 1)) (i + 1)) y) in
         all z
         (swap put os (afterTry i ++ triesFrom address rs (10 - (i + 1)) (i + 1)) (restOf address rs i) x z
-        (sym (ap (λ (t : Bool). pick t (updates locked) (afterTry i ++ triesFrom address rs (10 - (i + 1)) (i + 1))) b))
+        (sym (ap (λ (t : Bool). cond t (updates locked) (afterTry i ++ triesFrom address rs (10 - (i + 1)) (i + 1))) b))
         (parts put os (afterTry i) (triesFrom address rs (10 - (i + 1)) (i + 1)) x y z (inner-tries address rs (10 - (i + 1)) (i + 1)) e refl))
 
   pub end-try : (address : ℕ) (rs : List ℕ) (i : ℕ) (w : Line L) → 10 ≤ i → closing put os w ≡ closing put os (run put os (triesFrom address rs (10 - i) i) w)

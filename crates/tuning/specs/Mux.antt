@@ -2,16 +2,12 @@
 -- 0x14, 0x16, 0x15, 0x12, wait 2, status, divider repair, up to ten lock tries) follow `set_pll_raw`."
 -- Assumes nothing.
 use Prim.Native.Nat.{ℕ, _*_, _/_, _%_}
-use mathlib.Core.Bool.{Bool, true, false}
+use mathlib.Core.Bool.{Bool, true, false, cond}
 use mathlib.Core.List.{List, [], _∷_, _++_}
 use lib.Dec.{eqb, leb}
 use Rattle.chip.specs.declared.Update.{Update}
 use Rattle.pll.specs.declared.Plan.{Plan}
 use Rattle.tuning.specs.declared.FreqRange.{FreqRange}
-
-abbrev pub pick : {A : Type 0} → Bool → A → A → A
-pick true a b = a
-pick false a b = b
 
 -- a masked write; a write past the shadow: "0x14, 0x15, 0x16 are written past it"
 abbrev pub masked : ℕ → ℕ → ℕ → Update
@@ -51,7 +47,7 @@ ranges =
 
 -- a row in place of the one in hand where its frequency is at most hz
 abbrev pub laterOf : ℕ → FreqRange → FreqRange → FreqRange
-laterOf hz best r = pick (leb (r .hz) hz) r best
+laterOf hz best r = cond (leb (r .hz) hz) r best
 
 -- the last row of a list whose frequency is at most hz, or the one in hand where there is none
 unfoldable pub lastAt : ℕ → FreqRange → List FreqRange → FreqRange
@@ -66,7 +62,7 @@ rangeOf hz = lastAt hz (row 0 0x08 0x02 0xdf) ranges
 abbrev pub muxUpdates : Bool → FreqRange → List Update
 muxUpdates notch r =
     masked 0x17 0xa0 0x30
-    ∷ masked 0x17 (pick notch 0x00 (r .drain)) 0x08
+    ∷ masked 0x17 (cond notch 0x00 (r .drain)) 0x08
     ∷ masked 0x1a (r .mux) 0xc3
     ∷ masked 0x1b (r .filter) 0xff
     ∷ masked 0x10 0x0b 0x0b
@@ -85,5 +81,5 @@ pllUpdates p =
     ∷ past 0x14 (p .setting)
     ∷ past 0x16 (p .sum / 256)
     ∷ past 0x15 (p .sum % 256)
-    ∷ masked 0x12 (pick (eqb (p .fraction) 0) 0x08 0x00) 0x08
+    ∷ masked 0x12 (cond (eqb (p .fraction) 0) 0x08 0x00) 0x08
     ∷ []

@@ -2,7 +2,7 @@
 -- reversed. No lock isn't a refusal." "Transcript and script": "Tune takes replies 0..4 as status, then three per try."
 -- Assumes nothing.
 use Prim.Native.Nat.{ℕ, zero, suc, _+_, _-_, _*_, _/_}
-use mathlib.Core.Bool.{Bool, true, false, not}
+use mathlib.Core.Bool.{Bool, cond}
 use mathlib.Core.List.{List, [], _∷_, _++_}
 use lib.Bits.{bitAnd}
 use lib.Dec.{eqb, ltb}
@@ -10,13 +10,13 @@ use lib.ListN.{length, getD, take, drop}
 use lib.Seq.{sets}
 use Rattle.status.specs.Reversal.{reversed}
 use Rattle.chip.specs.declared.Update.{Update}
-use Rattle.chip.specs.Entries.{pointer, readEntry, wait, zeros8}
+use Rattle.chip.specs.Entries.{lockedBy, pointer, readEntry, wait, zeros8}
 use Rattle.chip.specs.Steps.{Step, sixteen, updates}
 use Rattle.chip.specs.Steps.Step.{Mask, Plain}
 use Rattle.pll.specs.declared.Kind.{Kind}
 use Rattle.pll.specs.declared.Kind.the-variants.{R820T, R828D}
 use Rattle.tuning.specs.declared.Updates.{Updates}
-use Rattle.tuning.specs.Mux.{masked, pick}
+use Rattle.tuning.specs.Mux.{masked}
 
 -- n replies from `at`, with the zeros behind them
 unfoldable pub replyBytes : List ℕ → ℕ → ℕ → List ℕ
@@ -42,13 +42,10 @@ listed us = record { list = sixteen us; n = length us }
 -- the divider is repaired by one where the VCO's band is off; below 0 it stays 0
 unfoldable pub repairUpdates : Kind → ℕ → ℕ → List Update
 repairUpdates kind number byte =
-    pick (ltb (powerOf kind) (fineOf byte)) (masked 0x10 ((number - 1) * 32) 0xe0 ∷ [])
-    (pick (ltb (fineOf byte) (powerOf kind)) (masked 0x10 ((number + 1) * 32) 0xe0 ∷ []) [])
+    cond (ltb (powerOf kind) (fineOf byte)) (masked 0x10 ((number - 1) * 32) 0xe0 ∷ [])
+    (cond (ltb (fineOf byte) (powerOf kind)) (masked 0x10 ((number + 1) * 32) 0xe0 ∷ []) [])
 
--- the lock bit of a try's third byte; try i's third reply
-abbrev pub lockedBy : ℕ → Bool
-lockedBy byte = not (eqb (bitAnd (reversed byte) 0x40) 0)
-
+-- the lock bit of try i's third reply
 abbrev pub locksAt : List ℕ → ℕ → Bool
 locksAt rs i = lockedBy (getD rs (7 + 3 * i) 0)
 
@@ -58,7 +55,7 @@ tryRead address rs i = Plain (pointer address) ∷ Plain (readEntry address 3 (r
 
 -- what follows a try without the lock: 0x12 is written once, behind the first, and each waits 1
 abbrev pub again : ℕ → List Update
-again i = pick (eqb i 0) (masked 0x12 0x06 0xff ∷ []) []
+again i = cond (eqb i 0) (masked 0x12 0x06 0xff ∷ []) []
 
 abbrev pub afterTry : ℕ → List Step
 afterTry i = updates (again i) ++ (Plain (wait 1) ∷ [])
@@ -71,4 +68,4 @@ locked = masked 0x1a 0x08 0x08 ∷ []
 unfoldable pub triesFrom : ℕ → List ℕ → ℕ → ℕ → List Step
 triesFrom address rs zero i = []
 triesFrom address rs (suc left) i =
-    tryRead address rs i ++ pick (locksAt rs i) (updates locked) (afterTry i ++ triesFrom address rs left (i + 1))
+    tryRead address rs i ++ cond (locksAt rs i) (updates locked) (afterTry i ++ triesFrom address rs left (i + 1))

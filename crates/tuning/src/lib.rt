@@ -2,17 +2,17 @@
 // written, the status, the divider's repair and the tries for a lock, over a flow that a larger call may hold.
 // Document 01, "PLL" and "Transcript and script".
 ghost use mathlib.Core.Path.{_≡_};
-ghost use mathlib.Core.Bool.{true};
+ghost use mathlib.Core.Bool.{cond};
 ghost use mathlib.Core.List.{[], _∷_, _++_};
 ghost use Prim.Native.Nat.{_+_, _-_, _*_, _≤_, _<_};
 ghost use lib.Dec.{eqb};
-ghost use lib.ListN.{length, getD, take};
+ghost use lib.ListN.{length, getD};
 ghost use Rattle.chip.specs.declared.Chip.{Chip};
-ghost use Rattle.chip.specs.Entries.{pointer, readEntry, wait};
-ghost use Rattle.chip.specs.Steps.{allIn, closing, due, inRoom, onLog, onRoom, run, updates};
+ghost use Rattle.chip.specs.Entries.{lockedBy, pointer, readEntry, wait};
+ghost use Rattle.chip.specs.Steps.{closing, due, inRoom, onLog, onRoom, run, updates};
 ghost use Rattle.chip.specs.Steps.Step.{Plain};
-ghost use Rattle.tuning.specs.Mux.{laterOf, masked, pick, muxUpdates, pllUpdates, rangeOf};
-ghost use Rattle.tuning.specs.Tries.{afterTry, listed, locked, fineOf, powerOf, repairUpdates, replyBytes, statusSteps, triesFrom, tryRead, lockedBy};
+ghost use Rattle.tuning.specs.Mux.{laterOf, masked, muxUpdates, pllUpdates, rangeOf};
+ghost use Rattle.tuning.specs.Tries.{afterTry, listed, locked, fineOf, powerOf, repairUpdates, replyBytes, statusSteps, triesFrom, tryRead};
 ghost use Rattle.tuning.specs.Program.{innerSteps, dividerNumber, pllSteps, tuneSteps};
 use chip::FILLER;
 use chip::Flow;
@@ -52,7 +52,7 @@ fn later(hz: u64, best: FreqRange, r: FreqRange) -> FreqRange
 }
 
 // The last row whose frequency is at most hz.
-pub fn freq_range(hz: u64) -> FreqRange
+fn freq_range(hz: u64) -> FreqRange
     ensures { λ r. ⌜ r ≡ rangeOf hz ⌝ }
 {
     let table = FREQ_RANGES;
@@ -67,14 +67,14 @@ pub fn freq_range(hz: u64) -> FreqRange
 
 // The notch suppresses open_d.
 fn drained(notch: bool, drain: u8) -> u8
-    ensures { λ r. ⌜ r ≡ pick notch 0 drain ⌝ }
+    ensures { λ r. ⌜ r ≡ cond notch 0 drain ⌝ }
 {
     if notch { 0x00 } else { drain }
 }
 
 // The Rust's `pw_sdm`: without a fraction the sum is off.
 fn whole_only(fraction: u64) -> u8
-    ensures { λ r. ⌜ r ≡ pick (eqb fraction 0) 0x08 0x00 ⌝ }
+    ensures { λ r. ⌜ r ≡ cond (eqb fraction 0) 0x08 0x00 ⌝ }
 {
     if fraction == 0 { 0x08 } else { 0x00 }
 }

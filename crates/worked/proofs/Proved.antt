@@ -2,7 +2,7 @@
 use mathlib.Core.Path.{_≡_, refl}
 use Prim.Native.Nat.{ℕ}
 use Rattle.board.proofs.Worked.{last-below, first-above}
-use Rattle.fir.specs.Packing.{firFits, packOf, packed}
+use Rattle.fir.proofs.Worked.{default-packed}
 use Rattle.gain.proofs.Worked.{three-two-index, three-two-answer, nan-index, far-below-tenths, far-below-index}
 use Rattle.pll.specs.declared.Kind.{Kind}
 use Rattle.pll.specs.declared.Kind.the-variants.{R820T, R828D}
@@ -25,7 +25,7 @@ wrapped R820T = refl
 wrapped R828D = refl
 
 pub worked : Worked
-unfolding inVco firstOf settingOf turnOf turnsOf planWith planOf correctedOf ifRegsOf sentOf firFits packOf packed
+unfolding inVco firstOf settingOf turnOf turnsOf planWith planOf correctedOf ifRegsOf sentOf
 worked =
     record {
       lowest = refl;
@@ -55,5 +55,5 @@ worked =
       notch-first = refl;
       notch-last = refl;
       notch-past = refl;
-      fir-default = refl;
+      fir-default = default-packed;
     }

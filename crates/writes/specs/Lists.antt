@@ -1,7 +1,7 @@
 -- Which registers the calls of src/tuners/r82xx.rs write, other than a tuning: value and mask of each, in the Rust's order.
 -- Assumes nothing.
 use Prim.Native.Nat.{ℕ}
-use mathlib.Core.Bool.{Bool, true, false}
+use mathlib.Core.Bool.{false, cond}
 use mathlib.Core.List.{List, [], _∷_, _++_}
 use lib.Dec.{leb}
 use Rattle.board.specs.declared.Path.{Path}
@@ -9,10 +9,6 @@ use Rattle.board.specs.declared.Path.the-variants.{Hf, Vhf, Uhf}
 use Rattle.chip.specs.declared.Update.{Update}
 use Rattle.gain.specs.declared.GainEntry.{GainEntry}
 use Rattle.gain.specs.Table.{entryAt}
-
-abbrev pub pick : {A : Type 0} → Bool → A → A → A
-pick true a b = a
-pick false a b = b
 
 abbrev pub masked : ℕ → ℕ → ℕ → Update
 masked register value mask = record { register = register; value = value; mask = mask; past = false }
@@ -30,11 +26,11 @@ initUpdates = masked 0x1a 0x00 0x0c ∷ masked 0x12 0x06 0xff ∷ masked 0x0c 0x
 -- `set_if_bandwidth`: from 3.5 MHz on the wide filter
 abbrev pub ifUpdates : ℕ → List Update
 ifUpdates hz =
-    masked 0x0a (pick (leb 3_500_000 hz) 0x10 0x00) 0x70 ∷ masked 0x0b (pick (leb 3_500_000 hz) 0x6b 0x80) 0xef ∷ []
+    masked 0x0a (cond (leb 3_500_000 hz) 0x10 0x00) 0x70 ∷ masked 0x0b (cond (leb 3_500_000 hz) 0x6b 0x80) 0xef ∷ []
 
 -- `set_bandwidth`: up to 6 MHz, up to 7 MHz, above
 abbrev pub bandwidthUpdates : ℕ → List Update
-bandwidthUpdates hz = masked 0x0a (pick (leb hz 6_000_000) 0x08 (pick (leb hz 7_000_000) 0x06 0x00)) 0x0f ∷ []
+bandwidthUpdates hz = masked 0x0a (cond (leb hz 6_000_000) 0x08 (cond (leb hz 7_000_000) 0x06 0x00)) 0x0f ∷ []
 
 -- `set_gain`, for the step of index k: the loops off, then the step's three values
 abbrev pub byHand : List Update

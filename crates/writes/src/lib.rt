@@ -1,12 +1,13 @@
 // Which registers the calls of src/tuners/r82xx.rs write, other than a tuning, and the calls of several brackets over a flow: `initialize`,
 // `set_if_bandwidth`, `set_bandwidth`, `set_gain`, `set_input_path`, and our reload. Document 01, "The record", "Gain".
+ghost use mathlib.Core.Bool.{cond};
 ghost use mathlib.Core.Path.{_≡_};
 ghost use mathlib.Core.List.{_++_};
 ghost use Prim.Native.Nat.{_+_, _*_, _≤_, _<_};
 ghost use lib.Dec.{leb};
 ghost use lib.ListN.{length};
 ghost use Rattle.chip.specs.Steps.{behind, closing, due, inRoom, onLists, onRoom, run, sixteen, updates};
-ghost use Rattle.writes.specs.Lists.{bandwidthUpdates, byHand, gainUpdates, ifUpdates, initUpdates, pathUpdates, pick, stepValues};
+ghost use Rattle.writes.specs.Lists.{bandwidthUpdates, byHand, gainUpdates, ifUpdates, initUpdates, pathUpdates, stepValues};
 ghost use Rattle.writes.specs.Programs.{initSteps, sendAll};
 use board::Path;
 use chip::Chip;
@@ -50,7 +51,7 @@ pub const INIT_ARRAY: [u8; 27] = [
 ];
 
 fn narrow_or_wide(hz: u64, narrow: u8, wide: u8) -> u8
-    ensures { λ r. ⌜ r ≡ pick (leb 3_500_000 hz) wide narrow ⌝ }
+    ensures { λ r. ⌜ r ≡ cond (leb 3_500_000 hz) wide narrow ⌝ }
 {
     if 3_500_000 <= hz {
         return wide;
@@ -59,7 +60,7 @@ fn narrow_or_wide(hz: u64, narrow: u8, wide: u8) -> u8
 }
 
 fn width(hz: u32) -> u8
-    ensures { λ r. ⌜ r ≡ pick (leb hz 6_000_000) 0x08 (pick (leb hz 7_000_000) 0x06 0x00) ⌝ }
+    ensures { λ r. ⌜ r ≡ cond (leb hz 6_000_000) 0x08 (cond (leb hz 7_000_000) 0x06 0x00) ⌝ }
 {
     if hz <= 6_000_000 {
         return 0x08;
@@ -70,7 +71,7 @@ fn width(hz: u32) -> u8
     0x00
 }
 
-pub fn init_updates() -> [Update; 16]
+fn init_updates() -> [Update; 16]
     ensures { λ r. ⌜ r ≡ sixteen initUpdates ⌝ }
 {
     let mut us = [FILLER; 16];
