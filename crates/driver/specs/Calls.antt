@@ -2,7 +2,7 @@
 -- "The record": "`set_sample_rate` takes both records; the rate is recorded only when all steps are done."
 -- Assumes nothing.
 use Prim.Native.Nat.{ℕ}
-use mathlib.Core.Bool.{Bool, _&&_}
+use mathlib.Core.Bool.{Bool, _&&_, cond}
 use mathlib.Core.List.{List, []}
 use lib.Dec.{eqb, leb}
 use lib.IntN.{ℤ}
@@ -18,14 +18,14 @@ use Rattle.chip.specs.declared.Went.{Went}
 use Rattle.chip.specs.Calls.{Called, callOf, called, lentOf, pickCalled, pickN}
 use Rattle.chip.specs.Steps.{goes}
 use Rattle.r82xx.specs.declared.Tuner.{Tuner}
-use Rattle.r82xx.specs.Record.{pick, sound, withChip, withIf}
+use Rattle.r82xx.specs.Record.{sound, withChip, withIf}
 use Rattle.driver.specs.declared.Driver.{Driver}
 use Rattle.driver.specs.Record.{soundDriver, withPpm, withRate, xtalBy, xtalOf}
 use Rattle.driver.specs.Programs.{boardPathSteps, ifFor, sampleRateSteps}
 
 -- `corrected_xtal_hz`
 unfoldable pub xtalAnswer : ℕ → Answer
-xtalAnswer xtal = pick (leb 1 xtal) (Done xtal) (Refused 1)
+xtalAnswer xtal = cond (leb 1 xtal) (Done xtal) (Refused 1)
 
 -- "Its ppm call, our addition, refuses 4 likewise": the ppm alone is stored
 unfoldable pub driverPpmCall : ℤ → Driver → Called Driver
@@ -56,7 +56,7 @@ retuned t hz chip = withChip (withIf t hz) chip
 
 -- the driver's: "the rate is recorded only when all steps are done"
 abbrev pub ratedBy : Driver → ℕ → Went → Driver
-ratedBy d rate went = pick (goes went) (withRate d rate) d
+ratedBy d rate went = cond (goes went) (withRate d rate) d
 
 -- sample rate 17, 0
 unfoldable pub sampleRateCall : List ℕ → ℕ → Tuner → Driver → List ℕ → Called Both

@@ -2,7 +2,7 @@
 -- rates, until an IF is set"; "The record": "Its DDC byte follows the plan for the recorded frequency."
 -- Assumes nothing.
 use Prim.Native.Nat.{ℕ}
-use mathlib.Core.Bool.{Bool}
+use mathlib.Core.Bool.{Bool, cond}
 use mathlib.Core.List.{List, [], _++_}
 use lib.Dec.{eqb, leb}
 use lib.ListN.{getD}
@@ -13,12 +13,11 @@ use Rattle.demod.specs.Programs.{ddcSteps, ifSteps, rateSteps, resetSteps}
 use Rattle.device.specs.Gpio.{bitSteps, outputSteps}
 use Rattle.pll.specs.declared.Kind.{Kind}
 use Rattle.pll.specs.declared.Kind.the-variants.{R820T, R828D}
-use Rattle.r82xx.specs.Record.{pick}
 use Rattle.writes.specs.Lists.{bandwidthUpdates, ifUpdates, pathUpdates}
 
 -- the IF that a rate asks for, by the IF so far
 abbrev pub ifFor : ℕ → ℕ → ℕ
-ifFor now rate = pick (eqb now 0) 0 (pick (leb 2_500_000 rate) 3_570_000 (pick (leb 1_000_000 rate) 2_300_000 0))
+ifFor now rate = cond (eqb now 0) 0 (cond (leb 2_500_000 rate) 3_570_000 (cond (leb 1_000_000 rate) 2_300_000 0))
 
 -- the tuner's IF and bandwidth, a bracket each
 abbrev pub filterSteps : ℕ → ℕ → List Step

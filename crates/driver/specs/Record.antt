@@ -2,7 +2,7 @@
 -- board, nominal (1..4,294,967,295, else 1), ppm, frequency and rate, all given at its making, with 4 for a bad correction."
 -- Assumes nothing.
 use Prim.Native.Nat.{ℕ}
-use mathlib.Core.Bool.{Bool, _&&_}
+use mathlib.Core.Bool.{Bool, _&&_, cond}
 use lib.Dec.{leb}
 use lib.IntN.{ℤ, pos}
 use Rattle.board.specs.declared.Board.{Board}
@@ -13,7 +13,6 @@ use Rattle.board.specs.Numbers.{boardOf}
 use Rattle.chip.specs.declared.Answer.{Answer}
 use Rattle.chip.specs.declared.Answer.the-variants.{Done, Refused}
 use Rattle.reference.specs.Correct.{correctedOf}
-use Rattle.r82xx.specs.Record.{pick}
 use Rattle.r82xx.specs.Calls.{keptBy}
 use Rattle.driver.specs.declared.Driver.{Driver}
 use Rattle.driver.specs.declared.Made.{Made}
@@ -44,8 +43,8 @@ nothingMade number = made (Refused number) (driver Generic 1 (pos 0) 0 0)
 abbrev pub madeOn : BoardRead → ℕ → ℤ → ℕ → ℕ → Made
 madeOn board-read.Refused nominal ppm frequency rate = nothingMade 1
 madeOn (board-read.Is board) nominal ppm frequency rate =
-    pick (leb 1 nominal && leb nominal 4_294_967_295)
-    (pick (leb 1 (xtalBy nominal ppm)) (made (Done 0) (driver board nominal ppm frequency rate)) (nothingMade 4))
+    cond (leb 1 nominal && leb nominal 4_294_967_295)
+    (cond (leb 1 (xtalBy nominal ppm)) (made (Done 0) (driver board nominal ppm frequency rate)) (nothingMade 4))
     (nothingMade 1)
 
 unfoldable pub driverOf : ℕ → ℕ → ℤ → ℕ → ℕ → Made

@@ -3,7 +3,7 @@ use Prim.Native.Nat.{ℕ, _+_, _^_, _<_}
 use native.Mathlib.Omega.{arith}
 use lib.Ieee.{Float, binary32, toBits}
 use mathlib.Core.Path.{_≡_, refl, sym, ap, _∙_}
-use mathlib.Core.Bool.{Bool, true, false, _&&_, _||_}
+use mathlib.Core.Bool.{Bool, true, false, _&&_, _||_, cond}
 use mathlib.Core.List.{List, [], _∷_, _++_}
 use borrow.Author.Tests.{eq-eqb}
 use lib.ListN.{length}
@@ -28,7 +28,7 @@ use Rattle.gain.specs.Steps.{stepAt}
 use Rattle.writes.specs.Lists.{gainUpdates, ifUpdates, initArray, initUpdates}
 use Rattle.writes.specs.Programs.{initSteps, sendAll}
 use Rattle.r82xx.specs.declared.Tuner.{Tuner}
-use Rattle.r82xx.specs.Record.{endedBy, lockBy, pick, withChip, withGain}
+use Rattle.r82xx.specs.Record.{endedBy, lockBy, withChip, withGain}
 use Rattle.r82xx.specs.Calls.{bracketCall, refusalOf, stepCall}
 
 -- refused by a number that was worked out apart
@@ -97,16 +97,16 @@ step-refused k given os t room e h = refuse-by _ given _ os _ _ _ t room e h
 pub same-ended : (t : Tuner) (went : Went) (chip : Chip) → withChip t chip ≡ endedBy t t went chip
 same-ended t went chip = by (goes went)
   where
-    by : (b : Bool) → withChip t chip ≡ withChip (pick b t t) chip
+    by : (b : Bool) → withChip t chip ≡ withChip (cond b t t) chip
     by true = refl
     by false = refl
 
 -- the record of a gain's call, whose gain alone was chosen
-pub gain-kept : (t : Tuner) (actual g : Float) (went : Went) (chip : Chip) → g ≡ pick (goes went) actual (t .gain)
+pub gain-kept : (t : Tuner) (actual g : Float) (went : Went) (chip : Chip) → g ≡ cond (goes went) actual (t .gain)
     → withChip (withGain t g) chip ≡ endedBy t (withGain t actual) went chip
 gain-kept t actual g went chip e = ap (λ (x : Float). withChip (withGain t x) chip) e ∙ by (goes went)
   where
-    by : (b : Bool) → withChip (withGain t (pick b actual (t .gain))) chip ≡ withChip (pick b (withGain t actual) t) chip
+    by : (b : Bool) → withChip (withGain t (cond b actual (t .gain))) chip ≡ withChip (cond b (withGain t actual) t) chip
     by true = refl
     by false = refl
 

@@ -2,7 +2,7 @@
 -- the answer, the record and the room. Document 01, "Transcript and script", "Refusal numbers", "The record", "Gain", "PLL".
 -- Assumes nothing.
 use Prim.Native.Nat.{ℕ, _+_, _-_, _^_}
-use mathlib.Core.Bool.{Bool, true, false, not, _||_, _&&_}
+use mathlib.Core.Bool.{Bool, true, false, not, _||_, _&&_, cond}
 use mathlib.Core.List.{List, [], map}
 use lib.Dec.{eqb, leb}
 use lib.Ieee.{Float, binary32, toBits}
@@ -33,7 +33,7 @@ use Rattle.writes.specs.Lists.{bandwidthUpdates, gainUpdates, ifUpdates, pathUp
 use Rattle.writes.specs.Programs.{initSteps, sendAll}
 use Rattle.r82xx.specs.declared.Table.{Table}
 use Rattle.r82xx.specs.declared.Tuner.{Tuner}
-use Rattle.r82xx.specs.Record.{endedBy, lockBy, pick, reloaded, sound, soundBy, withChip, withCorrected, withGain, withIf, withLock, withNotch}
+use Rattle.r82xx.specs.Record.{endedBy, lockBy, reloaded, sound, soundBy, withChip, withCorrected, withGain, withIf, withLock, withNotch}
 
 -- 1 for the record, then an argument's number where it is refused, then 8, 9, 10
 abbrev pub refusalOf : Tuner → ℕ → ℕ → ℕ → ℕ → ℕ → ℕ → ℕ
@@ -79,7 +79,7 @@ indexCall os k t room = stepCall os (clamped k) t room
 -- input path 4, 0 (R820T: 0, 0): on R820T nothing is written and no lent memory looked at. A number that names no path is a setup: 1
 unfoldable pub pathWith : PathRead → Kind → List ℕ → Tuner → List ℕ → Called Tuner
 pathWith path-read.Refused kind os t room = called t room 0 (Refused 1)
-pathWith (path-read.Is path) R820T os t room = called t room 0 (pick (sound t) (Done 0) (Refused 1))
+pathWith (path-read.Is path) R820T os t room = called t room 0 (cond (sound t) (Done 0) (Refused 1))
 pathWith (path-read.Is path) R828D os t room = bracketCall t t (Done 0) (pathUpdates path) 2 os t room
 
 abbrev pub pathCall : List ℕ → ℕ → Tuner → List ℕ → Called Tuner
@@ -123,20 +123,20 @@ toldBy (corrected-variants.Is v) = Done 0
 toldBy corrected-variants.Refused = Refused 4
 
 unfoldable pub keptPpm : ℕ → ℕ → ℤ → ℕ
-keptPpm nominal corrected ppm = pick (soundBy nominal corrected) (keptBy (correctedOf nominal ppm) corrected) corrected
+keptPpm nominal corrected ppm = cond (soundBy nominal corrected) (keptBy (correctedOf nominal ppm) corrected) corrected
 
 unfoldable pub ppmAnswer : ℕ → ℕ → ℤ → Answer
-ppmAnswer nominal corrected ppm = pick (soundBy nominal corrected) (toldBy (correctedOf nominal ppm)) (Refused 1)
+ppmAnswer nominal corrected ppm = cond (soundBy nominal corrected) (toldBy (correctedOf nominal ppm)) (Refused 1)
 
 unfoldable pub keptNotch : ℕ → ℕ → Bool → Bool → Bool
-keptNotch nominal corrected old on = pick (soundBy nominal corrected) on old
+keptNotch nominal corrected old on = cond (soundBy nominal corrected) on old
 
 -- an answer that only says whether the record was sound
 unfoldable pub soundAnswer : ℕ → ℕ → ℕ → Answer
-soundAnswer nominal corrected value = pick (soundBy nominal corrected) (Done value) (Refused 1)
+soundAnswer nominal corrected value = cond (soundBy nominal corrected) (Done value) (Refused 1)
 
 -- the gain table, zeros beside a refusal
 unfoldable pub tableOf : ℕ → ℕ → Table
 tableOf nominal corrected =
-    pick (soundBy nominal corrected) (record { answer = soundAnswer nominal corrected 0; steps = map pos steps })
+    cond (soundBy nominal corrected) (record { answer = soundAnswer nominal corrected 0; steps = map pos steps })
     (record { answer = soundAnswer nominal corrected 0; steps = replicate 29 (pos 0) })

@@ -1,7 +1,7 @@
 -- The tuner's record: how it is made, when it is out of its ranges, and what changes in it. Document 01, "The record".
 -- Assumes nothing.
 use Prim.Native.Nat.{ℕ, _≤_}
-use mathlib.Core.Bool.{Bool, true, false, _&&_}
+use mathlib.Core.Bool.{Bool, true, false, _&&_, cond}
 use mathlib.Core.List.{List}
 use lib.Dec.{eqb, leb}
 use lib.Ieee.{Float, binary32, ofBits}
@@ -19,10 +19,6 @@ use Rattle.pll.specs.declared.Kind.the-variants.{R820T, R828D}
 use Rattle.writes.specs.Lists.{initArray}
 use Rattle.r82xx.specs.declared.Made.{Made}
 use Rattle.r82xx.specs.declared.Tuner.{Tuner}
-
-abbrev pub pick : {A : Type 0} → Bool → A → A → A
-pick true a b = a
-pick false a b = b
 
 -- 0.0
 abbrev pub nought : Float
@@ -57,9 +53,9 @@ nothingMade = made (Refused 1) (freshTuner R820T 0 1)
 -- kind: 0 R820T, 1 R828D
 unfoldable pub madeOf : ℕ → ℕ → ℕ → Made
 madeOf kind address nominal =
-    pick (leb 1 nominal && leb nominal 4_294_967_295)
-    (pick (eqb kind 0) (made (Done 0) (freshTuner R820T address nominal))
-    (pick (eqb kind 1) (made (Done 0) (freshTuner R828D address nominal)) nothingMade))
+    cond (leb 1 nominal && leb nominal 4_294_967_295)
+    (cond (eqb kind 0) (made (Done 0) (freshTuner R820T address nominal))
+    (cond (eqb kind 1) (made (Done 0) (freshTuner R828D address nominal)) nothingMade))
     nothingMade
 
 -- "A given record out of its ranges": no reference is zero. Above, a u32 bounds them, and the kind is one of two
@@ -96,11 +92,11 @@ withNotch t notch =
 
 -- the record after steps: one where a step failed, another where all were done, each with the chip's part as the steps left it
 abbrev pub endedBy : Tuner → Tuner → Went → Chip → Tuner
-endedBy cut whole went chip = withChip (pick (goes went) whole cut) chip
+endedBy cut whole went chip = withChip (cond (goes went) whole cut) chip
 
 -- "lock only when the waiting has ended": true where a done three-byte read has the bit, false where all ten tries ended without it, else as before
 abbrev pub lockBy : Bool → ℕ → Bool → Bool
-lockBy locked tries old = pick locked true (pick (eqb tries 10) false old)
+lockBy locked tries old = cond locked true (cond (eqb tries 10) false old)
 
 -- "sets the shadow to them when all are done"
 abbrev pub reloaded : Went → Chip → Chip

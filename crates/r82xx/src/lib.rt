@@ -2,7 +2,7 @@
 // Document 01, "The record": "Each operation hands the record back with its answer"; a method takes the record by value and returns the next one,
 // the answer and how many entries were made. A record out of its ranges is refused 1 first, by every call.
 ghost use mathlib.Core.Path.{_≡_};
-ghost use mathlib.Core.Bool.{true};
+ghost use mathlib.Core.Bool.{true, cond};
 ghost use mathlib.Core.List.{[]};
 ghost use lib.Ieee.{binary32, toBits};
 ghost use Prim.Native.Nat.{_+_, _≤_, _<_};
@@ -10,7 +10,7 @@ ghost use lib.ListN.{length, take};
 ghost use Rattle.chip.specs.Calls.{called};
 ghost use Rattle.chip.specs.declared.Answer.the-variants.{Done};
 ghost use Rattle.chip.specs.Steps.{allIn, goes};
-ghost use Rattle.r82xx.specs.Record.{freshTuner, lockBy, madeOf, pick, reloaded, soundBy, withCorrected, withNotch};
+ghost use Rattle.r82xx.specs.Record.{freshTuner, lockBy, madeOf, reloaded, soundBy, withCorrected, withNotch};
 ghost use Rattle.r82xx.specs.Calls.{bandwidthCall, bracketCall, gainCall, hzRefusal, ifCall, indexCall, initCall, keptNotch, keptPpm, pathCall, ppmAnswer, refusalOf, reloadCall, shadowCall, soundAnswer, tableOf, tuneCall, wholeOf};
 use board::PathRead;
 use chip::Answer;
@@ -84,7 +84,7 @@ fn sound(nominal: u32, corrected: u32) -> bool
 
 // "gain only when all are done". The number alone: two whole records to choose from cost more than the writes.
 fn kept_gain(went: Went, old: f32, new: f32) -> f32
-    ensures { λ r. ⌜ r ≡ pick (goes went) new old ⌝ }
+    ensures { λ r. ⌜ r ≡ cond (goes went) new old ⌝ }
 {
     let Went::Going = went else {
         return old;

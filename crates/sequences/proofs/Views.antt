@@ -2,7 +2,7 @@
 -- for each call; what follows goes by these two alone. Assumes nothing.
 use Prim.Native.Nat.{ℕ, _+_, _*_, _≤_}
 use mathlib.Core.Path.{_≡_, refl}
-use mathlib.Core.Bool.{Bool, true, false, _&&_}
+use mathlib.Core.Bool.{Bool, true, false, _&&_, cond}
 use mathlib.Core.List.{List, [], _∷_}
 use native.Mathlib.Omega.{arith}
 use borrow.Author.Tests.{eqb-false}
@@ -36,7 +36,7 @@ use Rattle.tuning.specs.Program.{tuneSteps}
 use Rattle.writes.specs.Lists.{bandwidthUpdates, gainUpdates, ifUpdates, pathUpdates}
 use Rattle.writes.specs.Programs.{initSteps, sendAll}
 use Rattle.r82xx.specs.declared.Tuner.{Tuner}
-use Rattle.r82xx.specs.Record.{endedBy, lockBy, pick, reloaded, sound, soundBy, withChip, withGain, withIf, withLock}
+use Rattle.r82xx.specs.Record.{endedBy, lockBy, reloaded, sound, soundBy, withChip, withGain, withIf, withLock}
 use Rattle.r82xx.specs.Calls.{bandwidthCall, bracketCall, hzRefusal, ifCall, initCall, pathWith, planFor, ppmAnswer, reloadCall, shadowCall, soundAnswer, stepCall, tableOf, toldBy, tuneCall, wholeOf}
 use Rattle.board.specs.Plans.{planOf}
 use Rattle.driver.specs.declared.Driver.{Driver}
@@ -218,7 +218,7 @@ module _ (t : Tuner) (os room : List ℕ) where
 
 -- ---- calls without steps
 
-answered : (b : Bool) (v : ℕ) → stops (pick b (Done v) (Refused 1)) ≡ false
+answered : (b : Bool) (v : ℕ) → stops (cond b (Done v) (Refused 1)) ≡ false
 answered true v = refl
 answered false v = refl
 
@@ -230,7 +230,7 @@ ppm-named : (n c : ℕ) (ppm : ℤ) → stops (ppmAnswer n c ppm) ≡ false
 unfolding ppmAnswer
 ppm-named n c ppm = go (soundBy n c) (correctedOf n ppm)
   where
-    go : (b : Bool) (r : Corrected) → stops (pick b (toldBy r) (Refused 1)) ≡ false
+    go : (b : Bool) (r : Corrected) → stops (cond b (toldBy r) (Refused 1)) ≡ false
     go true (corrected-variants.Is v) = refl
     go true corrected-variants.Refused = refl
     go false r = refl
@@ -277,7 +277,7 @@ quiet-silent TableTold t = kept-silent t [] (tableOf (t .nominal) (t .corrected)
 path-view : (p : PathRead) (kind : Kind) (os room : List ℕ) (t : Tuner) → View t (pathWith p kind os t room) (pathAsked p kind t os room) os room
 unfolding pathWith
 path-view path-read.Refused kind os room t = silent (kept-silent t room (Refused 1) refl)
-path-view (path-read.Is path) R820T os room t = silent (kept-silent t room (pick (sound t) (Done 0) (Refused 1)) (answered (sound t) 0))
+path-view (path-read.Is path) R820T os room t = silent (kept-silent t room (cond (sound t) (Done 0) (Refused 1)) (answered (sound t) 0))
 path-view (path-read.Is path) R828D os room t =
     moving (bracket-view t os room t t (Done 0) (pathUpdates path) 2 refl (path-in path) (path-two path) (omega arith))
 

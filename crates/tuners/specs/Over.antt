@@ -2,7 +2,7 @@
 -- Document 01, "Modules, leaves first": "Records cross there as bytes. A given record out of its ranges .. is refused 1 first, all unchanged".
 -- Assumes nothing.
 use Prim.Native.Nat.{ℕ}
-use mathlib.Core.Bool.{Bool, true, not}
+use mathlib.Core.Bool.{Bool, true, not, cond}
 use mathlib.Core.List.{List}
 use lib.Dec.{eqb, ltb}
 use lib.ListN.{length}
@@ -11,7 +11,6 @@ use Rattle.chip.specs.declared.Answer.{Answer}
 use Rattle.chip.specs.declared.Answer.the-variants.{Done, Refused, Stopped}
 use Rattle.chip.specs.Calls.{Called, pickN}
 use Rattle.r82xx.specs.declared.Tuner.{Tuner}
-use Rattle.r82xx.specs.Record.{pick}
 use Rattle.records.specs.Tuners.{tunerBytes, tunerOf}
 use Rattle.replies.specs.declared.Reply.{Reply}
 use Rattle.replies.specs.Replies.{callReply, replyOf}
@@ -36,7 +35,7 @@ keptOf (Refused number) count = not (eqb count 0)
 keptOf (Stopped index) count = not (eqb count 0)
 
 unfoldable pub nextOf : {R : Type 0} → (R → List ℕ) → Answer → ℕ → R → List ℕ → List ℕ
-nextOf bytes answer count new next = pick (keptOf answer count) (sets next 0 (bytes new)) next
+nextOf bytes answer count new next = cond (keptOf answer count) (sets next 0 (bytes new)) next
 
 -- a call that was made, and one that was refused before it
 abbrev pub handed : Called Tuner → List ℕ → After
@@ -48,7 +47,7 @@ refusal number room next = after (replyOf (Refused number) 0) room next
 
 -- what a call comes to by the number that it is refused by before its steps, 0 for none; said for any answer, as crate drivers has its own
 unfoldable pub unlessRefused : {A : Type 0} → ℕ → (ℕ → A) → A → A
-unlessRefused number refuse made = pick (eqb number 0) made (refuse number)
+unlessRefused number refuse made = cond (eqb number 0) made (refuse number)
 
 -- one call over bytes, by the number that its argument is refused by and its definition over a record
 unfoldable pub overTuner : (Tuner → ℕ) → (Tuner → List ℕ → Called Tuner) → List ℕ → List ℕ → List ℕ → After

@@ -1,7 +1,7 @@
 -- The tuner's calls without steps, over bytes. They make no entry; the answer's bytes are lent as by crate answers: an argument's refusal, then 8.
 -- Assumes nothing.
 use Prim.Native.Nat.{ℕ}
-use mathlib.Core.Bool.{Bool}
+use mathlib.Core.Bool.{Bool, cond}
 use mathlib.Core.List.{List, []}
 use lib.IntN.{ℤ}
 use lib.Ieee.{binary32, toBits}
@@ -11,12 +11,12 @@ use Rattle.chip.specs.declared.Answer.the-variants.{Done, Refused}
 use Rattle.chip.specs.Calls.{Called, called, numberOf, valueOf}
 use Rattle.r82xx.specs.declared.Tuner.{Tuner}
 use Rattle.r82xx.specs.Calls.{keptNotch, keptPpm, ppmAnswer, shadowCall, soundAnswer}
-use Rattle.r82xx.specs.Record.{madeOf, pick, withCorrected, withNotch}
+use Rattle.r82xx.specs.Record.{madeOf, withCorrected, withNotch}
 use Rattle.records.specs.Tuners.{tunerBytes, tunerOf}
 
 -- what is made of the record that bytes are read as, or what is told where they are none; said for any record, as crate drivers has its own
 unfoldable pub ofRecord : {R A : Type 0} → Bool → R → (R → A) → A → A
-ofRecord ok r make none = pick ok (make r) none
+ofRecord ok r make none = cond ok (make r) none
 
 -- a record behind an answer, as bytes
 abbrev pub recordInto : Answer → List ℕ → List ℕ → Given
