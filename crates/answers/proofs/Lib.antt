@@ -1,2 +1,3 @@
+pub mod Fir
 pub mod Giving
 pub mod Words
