@@ -18,7 +18,7 @@ use Rattle.gain.specs.Steps.{steps}
 use Rattle.r82xx.specs.Calls.{soundAnswer, tableOf}
 use Rattle.r82xx.specs.declared.Table.{Table}
 use Rattle.r82xx.specs.declared.Tuner.{Tuner}
-use Rattle.r82xx.specs.Record.{soundBy, pick as record-pick}
+use Rattle.r82xx.specs.Record.{soundBy}
 use Rattle.registers.specs.declared.IfRegs.{IfRegs}
 use Rattle.registers.specs.declared.ResampleRegs.{ResampleRegs}
 use Rattle.registers.specs.Rates.{ifRegsOf, resampleRegsOf}
@@ -65,7 +65,7 @@ abbrev lentTable : Table → List ℕ → Given
 lentTable r out = lentTo (numberOf (r .answer)) 0 (wordBytes (r .steps)) out
 
 table-cases : (b : Bool) (zeros : List ℤ) (out : List ℕ)
-    → lentTable (record-pick b (record { answer = record-pick b (Done 0) (Refused 1); steps = map pos steps }) (record { answer = record-pick b (Done 0) (Refused 1); steps = zeros })) out
+    → lentTable (cond b (record { answer = cond b (Done 0) (Refused 1); steps = map pos steps }) (record { answer = cond b (Done 0) (Refused 1); steps = zeros })) out
     ≡ cond b (lentTo 0 0 (wordBytes (map pos steps)) out) (given (Refused 1) out)
 table-cases true zeros out = refl
 table-cases false zeros out = sym (refused 1 0 (wordBytes zeros) out (omega arith))
