@@ -24,13 +24,14 @@ use Rattle.pll.specs.declared.Kind.{Kind}
 use Rattle.pll.specs.declared.Kind.the-variants.{R820T, R828D}
 use Rattle.tuning.proofs.Programs.{every-app}
 use Rattle.writes.specs.Lists.{bandwidthUpdates, ifUpdates, pathUpdates}
+use Rattle.r82xx.specs.Calls.{refusalWith}
 use Rattle.r82xx.specs.declared.Tuner.{Tuner}
 use Rattle.r82xx.specs.Record.{sound, withChip}
 use Rattle.r82xx.proofs.Whole.{bracket-eight, perform-by, refuse-by}
 use Rattle.driver.specs.declared.Driver.{Driver}
 use Rattle.driver.specs.Record.{soundDriver, xtalOf}
 use Rattle.driver.specs.Programs.{anewSteps, boardPathSteps, filterSteps, ifFor, levelFor, sampleRateSteps, tunerPath}
-use Rattle.driver.specs.Calls.{both, boardPathWith, rateRefusal, ratedBy, refusalWith, retuned, sampleRateCall}
+use Rattle.driver.specs.Calls.{both, boardPathWith, rateRefusal, ratedBy, retuned, sampleRateCall}
 
 -- every entry has its eight data bytes
 reset-eight : every eight resetSteps ≡ true

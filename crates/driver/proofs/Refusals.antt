@@ -5,9 +5,10 @@ use mathlib.Core.Bool.{Bool, true, false, _&&_}
 use native.Mathlib.Omega.{arith}
 use borrow.Author.Tests.{eqb-false, eqb-true, leb-true}
 use lib.Dec.{eqb, leb}
+use Rattle.r82xx.specs.Calls.{refusalWith}
 use Rattle.chip.proofs.Laws.{and-right}
 use Rattle.r82xx.proofs.Refusals.{Enough, enough}
-use Rattle.driver.specs.Calls.{rateRefusal, refusalWith}
+use Rattle.driver.specs.Calls.{rateRefusal}
 
 -- no refusal: the records are whole, the argument is taken, and the slices suffice
 pub record Taken (whole : Bool) (argument n m room outcomes replies : ℕ) : Type 0 where

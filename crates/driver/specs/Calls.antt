@@ -17,6 +17,7 @@ use Rattle.chip.specs.declared.Chip.{Chip}
 use Rattle.chip.specs.declared.Went.{Went}
 use Rattle.chip.specs.Calls.{Called, callOf, called, lentOf, pickCalled, pickN}
 use Rattle.chip.specs.Steps.{goes}
+use Rattle.r82xx.specs.Calls.{refusalWith}
 use Rattle.r82xx.specs.declared.Tuner.{Tuner}
 use Rattle.r82xx.specs.Record.{sound, withChip, withIf}
 use Rattle.driver.specs.declared.Driver.{Driver}
@@ -33,10 +34,6 @@ driverPpmCall ppm d =
     pickCalled (soundDriver d)
     (pickCalled (leb 1 (xtalBy (d .nominal) ppm)) (called (withPpm d ppm) [] 0 (Done 0)) (called d [] 0 (Refused 4)))
     (called d [] 0 (Refused 1))
-
--- 1 unless the records given are whole, then an argument's number where it is refused, then 8, 9, 10
-abbrev pub refusalWith : Bool → ℕ → ℕ → ℕ → ℕ → ℕ → ℕ → ℕ
-refusalWith whole argument n m room os rs = pickN whole (pickN (eqb argument 0) (lentOf n m room os rs) argument) 1
 
 -- both records
 pub record Both : Type 0 where

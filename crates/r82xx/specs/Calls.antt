@@ -35,9 +35,13 @@ use Rattle.r82xx.specs.declared.Table.{Table}
 use Rattle.r82xx.specs.declared.Tuner.{Tuner}
 use Rattle.r82xx.specs.Record.{endedBy, lockBy, reloaded, sound, soundBy, withChip, withCorrected, withGain, withIf, withLock, withNotch}
 
--- 1 for the record, then an argument's number where it is refused, then 8, 9, 10
+-- 1 unless the records given are whole, then an argument's number where it is refused, then 8, 9, 10
+abbrev pub refusalWith : Bool → ℕ → ℕ → ℕ → ℕ → ℕ → ℕ → ℕ
+refusalWith whole argument n m room os rs = pickN whole (pickN (eqb argument 0) (lentOf n m room os rs) argument) 1
+
+-- the same of the tuner's record alone
 abbrev pub refusalOf : Tuner → ℕ → ℕ → ℕ → ℕ → ℕ → ℕ → ℕ
-refusalOf t argument n m room os rs = pickN (sound t) (pickN (eqb argument 0) (lentOf n m room os rs) argument) 1
+refusalOf t = refusalWith (sound t)
 
 -- a call of one bracket of masked writes: the record is `cut` where a step failed, `whole` where all were done
 unfoldable pub bracketCall : Tuner → Tuner → Answer → List Update → ℕ → List ℕ → Tuner → List ℕ → Called Tuner

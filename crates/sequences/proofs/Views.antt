@@ -37,13 +37,13 @@ use Rattle.writes.specs.Lists.{bandwidthUpdates, gainUpdates, ifUpdates, pathUp
 use Rattle.writes.specs.Programs.{initSteps, sendAll}
 use Rattle.r82xx.specs.declared.Tuner.{Tuner}
 use Rattle.r82xx.specs.Record.{endedBy, lockBy, reloaded, sound, soundBy, withChip, withGain, withIf, withLock}
-use Rattle.r82xx.specs.Calls.{bandwidthCall, bracketCall, hzRefusal, ifCall, initCall, pathWith, planFor, ppmAnswer, reloadCall, shadowCall, soundAnswer, stepCall, tableOf, toldBy, tuneCall, wholeOf}
+use Rattle.r82xx.specs.Calls.{bandwidthCall, bracketCall, hzRefusal, ifCall, initCall, pathWith, planFor, ppmAnswer, refusalWith, reloadCall, shadowCall, soundAnswer, stepCall, tableOf, toldBy, tuneCall, wholeOf}
 use Rattle.board.specs.Plans.{planOf}
 use Rattle.driver.specs.declared.Driver.{Driver}
 use Rattle.driver.specs.Record.{soundDriver, xtalOf}
 use Rattle.driver.proofs.Lengths.{sample-rate-length}
 use Rattle.driver.specs.Programs.{boardPathSteps, ifFor, sampleRateSteps}
-use Rattle.driver.specs.Calls.{Both, boardPathWith, both, rateRefusal, ratedBy, refusalWith, retuned, sampleRateCall}
+use Rattle.driver.specs.Calls.{Both, boardPathWith, both, rateRefusal, ratedBy, retuned, sampleRateCall}
 use Rattle.history.specs.Programs.{fine}
 use Rattle.history.specs.Histories.{Alike, stops}
 use Rattle.history.proofs.Calls.{lent-room}

@@ -24,11 +24,11 @@ use Rattle.writes.specs.Lists.{bandwidthUpdates, gainUpdates, ifUpdates, pathUp
 use Rattle.writes.specs.Programs.{initSteps, sendAll}
 use Rattle.r82xx.specs.declared.Tuner.{Tuner}
 use Rattle.r82xx.specs.Record.{sound, withCorrected, withNotch}
-use Rattle.r82xx.specs.Calls.{bandwidthCall, gainCall, hzRefusal, ifCall, indexCall, initCall, keptNotch, keptPpm, pathCall, planFor, ppmAnswer, refusalOf, reloadCall, shadowCall, soundAnswer, tableOf, tuneCall}
+use Rattle.r82xx.specs.Calls.{bandwidthCall, gainCall, hzRefusal, ifCall, indexCall, initCall, keptNotch, keptPpm, pathCall, planFor, ppmAnswer, refusalOf, refusalWith, reloadCall, shadowCall, soundAnswer, tableOf, tuneCall}
 use Rattle.driver.specs.declared.Driver.{Driver}
 use Rattle.driver.specs.Record.{soundDriver, xtalOf}
 use Rattle.driver.specs.Programs.{boardPathSteps, ifFor, sampleRateSteps}
-use Rattle.driver.specs.Calls.{Both, boardPathCall, rateRefusal, refusalWith, sampleRateCall}
+use Rattle.driver.specs.Calls.{Both, boardPathCall, rateRefusal, sampleRateCall}
 use Rattle.history.specs.Histories.{callEntries}
 
 -- calls that take no step: "`set_ppm`, notch, `update_shadow` 0, 0 (0 entries: no lent memory, no section)", and the three that only tell
