@@ -2,7 +2,7 @@
 -- Assumes nothing.
 use Prim.Native.Nat.{ℕ, suc, _+_, _*_, _%_, _^_, _≤_, _<_}
 use mathlib.Core.Path.{_≡_, refl, sym, ap, subst, _∙_}
-use mathlib.Core.Bool.{Bool, true, false, not, _&&_, _||_, or-false}
+use mathlib.Core.Bool.{Bool, true, false, not, _&&_, _||_, or-false, cond}
 use mathlib.Core.List.{List, [], _∷_, _++_}
 use native.Mathlib.Omega.{arith}
 use native.Mathlib.Numerals.{add-one}
@@ -21,10 +21,10 @@ use Rattle.chip.specs.declared.Flow.{Flow}
 use Rattle.chip.specs.declared.Seen.{Seen}
 use Rattle.chip.specs.declared.Went.{Went}
 use Rattle.chip.specs.declared.Went.the-variants.{Going, Refused11}
-use Rattle.chip.specs.Entries.{isTry, lockBit, look, pickBytes, settled, unseen, zeros8}
+use Rattle.chip.specs.Entries.{isTry, lockBit, look, settled, unseen, zeros8}
 use Rattle.chip.specs.Steps.{Step, Line, Logged, Trace, acts, after, eight, emit, every, heldFor, inList, inRoom, line, logged, okFor, onRoom, run, step, taken, trace, wentFor}
 use Rattle.chip.specs.Steps.Step.{Open, Close, Send, Mask, Plain}
-use Rattle.chip.specs.Calls.{Called, answerOf, callOf, called, laidOut, lockedIn, pickN, performed, sealed, seenFrom, triesIn}
+use Rattle.chip.specs.Calls.{Called, answerOf, callOf, called, laidOut, lockedIn, performed, sealed, seenFrom, triesIn}
 use Rattle.chip.proofs.Laws.{active, and-left, and-right, idle}
 
 or-assoc : (a b c : Bool) → ((a || b) || c) ≡ (a || (b || c))
@@ -36,7 +36,7 @@ unfolding seenFrom
 seen-snoc s [] e = refl
 seen-snoc s (x ∷ es) e = seen-snoc (look s x) es e
 
-pick-eight : (b : Bool) (xs ys : List ℕ) → length xs ≡ 8 → length ys ≡ 8 → length (pickBytes b xs ys) ≡ 8
+pick-eight : (b : Bool) (xs ys : List ℕ) → length xs ≡ 8 → length ys ≡ 8 → length (cond b xs ys) ≡ 8
 pick-eight true xs ys p q = p
 pick-eight false xs ys p q = q
 
@@ -158,7 +158,7 @@ performs number whole os ss c keep old room h = rw (eq-eqb number 0 h)
 -- one entry of the count below: it is a try or not
 counted-one : (s : Seen) (e : Entry) (es : List Entry) (b : Bool) → isTry e ≡ b → s .tries + suc (length es) < 2 ^ 64
     → ((r : Seen) → r .tries + length es < 2 ^ 64 → seenFrom r es ≡ record { tries = r .tries + triesIn es; locked = r .locked || lockedIn es })
-    → seenFrom (look s e) es ≡ record { tries = s .tries + (pickN (isTry e) 1 0 + triesIn es); locked = s .locked || ((isTry e && lockBit e) || lockedIn es) }
+    → seenFrom (look s e) es ≡ record { tries = s .tries + (cond (isTry e) 1 0 + triesIn es); locked = s .locked || ((isTry e && lockBit e) || lockedIn es) }
 unfolding look
 counted-one s e es true x h rest =
     let small : (s .tries + 1) % 2 ^ 64 ≡ s .tries + 1 = omega arith in

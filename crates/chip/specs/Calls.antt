@@ -2,7 +2,7 @@
 -- the room. Document 01, "Transcript and script", "Refusal numbers".
 -- Assumes nothing.
 use Prim.Native.Nat.{ℕ, _+_, _*_}
-use mathlib.Core.Bool.{Bool, true, false, _&&_, _||_}
+use mathlib.Core.Bool.{Bool, true, false, _&&_, _||_, cond}
 use mathlib.Core.List.{List, [], _∷_}
 use lib.Dec.{eqb, ltb}
 use lib.ListN.{length}
@@ -18,15 +18,11 @@ use Rattle.chip.specs.declared.Went.the-variants.{Going, Refused11}
 use Rattle.chip.specs.Entries.{isTry, lockBit, look, unseen}
 use Rattle.chip.specs.Steps.{Step, Line, Logged, Trace, line, logged, trace}
 
-abbrev pub pickN : Bool → ℕ → ℕ → ℕ
-pickN true a b = a
-pickN false a b = b
-
 -- "8 room, 9 outcomes, 10 replies | lent slice too short": for a call of at most n entries and m replies; 0 where all suffice.
 -- "room is 16 bytes for each of its most entries, plus 8"
 unfoldable pub lentOf : ℕ → ℕ → ℕ → ℕ → ℕ → ℕ
 lentOf n m room outcomes replies =
-    pickN (ltb room (16 * n + 8)) 8 (pickN (ltb outcomes n) 9 (pickN (ltb replies m) 10 0))
+    cond (ltb room (16 * n + 8)) 8 (cond (ltb outcomes n) 9 (cond (ltb replies m) 10 0))
 
 -- document 01's number, value and index of an answer: "A refused call's value is 0; 11 also gives the failing entry's index"
 abbrev pub numberOf : Answer → ℕ
@@ -59,10 +55,6 @@ pub record Called (R : Type 0) : Type 0 where
 abbrev pub called : {R : Type 0} → R → List ℕ → ℕ → Answer → Called R
 called next room count answer = record { next = next; room = room; count = count; answer = answer }
 
-abbrev pub pickCalled : {R : Type 0} → Bool → Called R → Called R → Called R
-pickCalled true a b = a
-pickCalled false a b = b
-
 -- steps were taken: "Each call with steps writes its section at the start of the lent room"; "Bytes past the section stay as they were"
 abbrev pub performed : {R : Type 0} → Answer → (Trace → R) → List ℕ → Trace → Called R
 performed whole keep room t =
@@ -71,7 +63,7 @@ performed whole keep room t =
 -- a call refused by a number before any step, or performed
 unfoldable pub callOf : {R : Type 0} → ℕ → Answer → List ℕ → List Step → Chip → (Trace → R) → R → List ℕ → Called R
 callOf number whole os ss c keep old room =
-    pickCalled (eqb number 0) (performed whole keep room (trace os ss c)) (called old room 0 (Refused number))
+    cond (eqb number 0) (performed whole keep room (trace os ss c)) (called old room 0 (Refused number))
 
 -- the room once the trailer stands behind its entries
 abbrev pub sealed : List ℕ → ℕ → List ℕ
@@ -85,7 +77,7 @@ seenFrom s (e ∷ es) = seenFrom (look s e) es
 -- how many done reads of three bytes there are among entries, and whether one of them has the lock bit
 unfoldable pub triesIn : List Entry → ℕ
 triesIn [] = 0
-triesIn (e ∷ es) = pickN (isTry e) 1 0 + triesIn es
+triesIn (e ∷ es) = cond (isTry e) 1 0 + triesIn es
 
 unfoldable pub lockedIn : List Entry → Bool
 lockedIn [] = false

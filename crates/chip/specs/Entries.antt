@@ -47,10 +47,6 @@ readEntry chip n bytes = record { kind = 3; outcome = 0; target = chip; n = n; a
 abbrev pub wait : ℕ → Entry
 wait ms = record { kind = 9; outcome = 0; target = 0; n = 0; address = ms; bytes = zeros8 }
 
-abbrev pub pickBytes : Bool → List ℕ → List ℕ → List ℕ
-pickBytes true a b = a
-pickBytes false a b = b
-
 -- an entry once it is known how its step went: "zeros if failed" for the two reads
 abbrev pub settled : Entry → Bool → Entry
 settled e ok =
@@ -60,7 +56,7 @@ settled e ok =
       target = e .target;
       n = e .n;
       address = e .address;
-      bytes = pickBytes ((eqb (e .kind) 3 || eqb (e .kind) 8) && not ok) zeros8 (e .bytes);
+      bytes = cond ((eqb (e .kind) 3 || eqb (e .kind) 8) && not ok) zeros8 (e .bytes);
     }
 
 -- the lock bit of a status of three bytes, whose bits are reversed

@@ -1,10 +1,11 @@
 -- The calls of src/demod.rs. Document 01, "Transcript and script": "Other `src/demod.rs` calls need as many entries as they make
 -- interface calls, and no replies"; baseband 45. Assumes nothing.
+use mathlib.Core.Bool.{cond}
 use Prim.Native.Nat.{ℕ}
 use mathlib.Core.List.{List}
 use lib.Dec.{eqb}
 use lib.ListN.{length}
-use Rattle.chip.specs.Calls.{Called, lentOf, pickN}
+use Rattle.chip.specs.Calls.{Called, lentOf}
 use Rattle.chip.specs.Steps.{Step}
 use Rattle.device.specs.Calls.{freeCall}
 use Rattle.demod.specs.Programs.{directSteps, ifSteps, initSteps, lowIfSteps, rateSteps, resetSteps, startSteps, stopSteps, zeroIfSteps}
@@ -37,9 +38,9 @@ stopCall os room = callFor 2 stopSteps os room
 -- "`if_freq_regs` and its demod sister refuse 4 for reference zero"
 unfoldable pub ifCall : ℕ → ℕ → List ℕ → List ℕ → Called (Unit {0})
 ifCall hz xtal os room =
-    freeCall (pickN (eqb xtal 0) 4 (lentOf 3 0 (length room) (length os) 0)) os (ifSteps hz xtal) room
+    freeCall (cond (eqb xtal 0) 4 (lentOf 3 0 (length room) (length os) 0)) os (ifSteps hz xtal) room
 
 -- "so do both resampler calls, after rate": 3, then 4
 unfoldable pub rateCall : ℕ → ℕ → List ℕ → List ℕ → Called (Unit {0})
 rateCall rate xtal os room =
-    freeCall (pickN (eqb rate 0) 3 (pickN (eqb xtal 0) 4 (lentOf 4 0 (length room) (length os) 0))) os (rateSteps rate xtal) room
+    freeCall (cond (eqb rate 0) 3 (cond (eqb xtal 0) 4 (lentOf 4 0 (length room) (length os) 0))) os (rateSteps rate xtal) room

@@ -2,7 +2,7 @@
 -- Assumes nothing.
 use Prim.Native.Nat.{ℕ, _+_, _*_, _≤_, _<_}
 use mathlib.Core.Path.{_≡_, refl, sym, ap, _∙_}
-use mathlib.Core.Bool.{Bool, true, false}
+use mathlib.Core.Bool.{Bool, true, false, cond}
 use mathlib.Core.List.{List, [], _∷_, map}
 use native.Mathlib.Omega.{arith}
 use borrow.Author.Tests.{ltb-false, ne-eqb}
@@ -12,7 +12,7 @@ use Rattle.chip.specs.declared.Answer.{Answer}
 use Rattle.chip.specs.declared.Answer.the-variants.{Done, Refused}
 use Rattle.chip.specs.declared.Flow.{Flow}
 use Rattle.chip.specs.declared.Went.the-variants.{Going}
-use Rattle.chip.specs.Calls.{Called, answerOf, callOf, called, lentOf, pickN, sealed}
+use Rattle.chip.specs.Calls.{Called, answerOf, callOf, called, lentOf, sealed}
 use Rattle.chip.specs.Entries.{unseen}
 use Rattle.chip.specs.Steps.{Step, eight, every, inRoom, line, logged, onRoom, run}
 use Rattle.chip.proofs.Taken.{handed}
@@ -51,21 +51,21 @@ performs number os ss room f mid after answer z h e q p =
     rw z (handed os room ss noChip (λ t. tt) (Done 0) tt f mid after answer h e p q refl)
 
 -- lent slices that suffice
-pick-zero : (b : Bool) (n m : ℕ) → 0 < n → pickN b n m ≡ 0 → (b ≡ false) × (m ≡ 0)
+pick-zero : (b : Bool) (n m : ℕ) → 0 < n → cond b n m ≡ 0 → (b ≡ false) × (m ≡ 0)
 pick-zero true n m h e = absurd (omega arith)
 pick-zero false n m h e = (refl, e)
 
 lent-room : (n m room outcomes replies : ℕ) → lentOf n m room outcomes replies ≡ 0 → 16 * n + 8 ≤ room
 unfolding lentOf
 lent-room n m room outcomes replies h =
-    ltb-false room (16 * n + 8) (pick-zero (ltb room (16 * n + 8)) 8 (pickN (ltb outcomes n) 9 (pickN (ltb replies m) 10 0)) (omega arith) h .0)
+    ltb-false room (16 * n + 8) (pick-zero (ltb room (16 * n + 8)) 8 (cond (ltb outcomes n) 9 (cond (ltb replies m) 10 0)) (omega arith) h .0)
 
 lent-outcomes : (n m room outcomes replies : ℕ) → lentOf n m room outcomes replies ≡ 0 → n ≤ outcomes
 unfolding lentOf
 lent-outcomes n m room outcomes replies h =
-    let rest : pickN (ltb outcomes n) 9 (pickN (ltb replies m) 10 0) ≡ 0 =
-    pick-zero (ltb room (16 * n + 8)) 8 (pickN (ltb outcomes n) 9 (pickN (ltb replies m) 10 0)) (omega arith) h .1 in
-    ltb-false outcomes n (pick-zero (ltb outcomes n) 9 (pickN (ltb replies m) 10 0) (omega arith) rest .0)
+    let rest : _≡_ {A = ℕ} (cond (ltb outcomes n) 9 (cond (ltb replies m) 10 0)) 0 =
+    pick-zero (ltb room (16 * n + 8)) 8 (cond (ltb outcomes n) 9 (cond (ltb replies m) 10 0)) (omega arith) h .1 in
+    ltb-false outcomes n (pick-zero (ltb outcomes n) 9 (cond (ltb replies m) 10 0) (omega arith) rest .0)
 
 pub suffices : (n m room outcomes replies given : ℕ) → given ≡ lentOf n m room outcomes replies → given ≡ 0 → (n ≤ outcomes) × (16 * n + 8 ≤ room)
 suffices n m room outcomes replies given e z =
@@ -74,9 +74,9 @@ suffices n m room outcomes replies given e z =
 -- "Order: arguments (1 to 7, and 2 for hz), then 8, 9, 10, then steps": an argument that is refused, and one that is not. The
 -- program may have been worked out apart
 pub argument-bad : (bad : Bool) (number rest : ℕ) (os : List ℕ) (ss : List Step) (room : List ℕ) → bad ≡ true → (number ≡ 0 → ⊥)
-    → called tt room 0 (Refused number) ≡ freeCall (pickN bad number rest) os ss room
+    → called tt room 0 (Refused number) ≡ freeCall (cond bad number rest) os ss room
 argument-bad bad number rest os ss room h z = rw h (refuses number os ss room number refl z)
 
 pub argument-good : (bad : Bool) (number rest : ℕ) (os : List ℕ) (xs ys : List Step) (room : List ℕ) (v : Called (Unit {0})) → bad ≡ false → xs ≡ ys
-    → v ≡ freeCall rest os xs room → v ≡ freeCall (pickN bad number rest) os ys room
+    → v ≡ freeCall rest os xs room → v ≡ freeCall (cond bad number rest) os ys room
 argument-good bad number rest os xs ys room v h same e = rw h (e ∙ ap (λ (ss : List Step). freeCall rest os ss room) same)

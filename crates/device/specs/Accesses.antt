@@ -1,13 +1,12 @@
 -- The interface's accesses beside I2C, as entries. Document 01, "Transcript and script", the table of kinds.
 -- Assumes nothing.
 use Prim.Native.Nat.{ℕ, _/_, _%_, _^_}
-use mathlib.Core.Bool.{Bool, true, false, _||_}
+use mathlib.Core.Bool.{Bool, true, false, _||_, cond}
 use mathlib.Core.List.{List, [], _∷_}
 use lib.Dec.{eqb}
 use Rattle.transcript.specs.declared.Entry.{Entry}
 use Rattle.transcript.specs.Entries.{entryFits}
-use Rattle.chip.specs.Calls.{pickN}
-use Rattle.chip.specs.Entries.{pickBytes, settled}
+use Rattle.chip.specs.Entries.{settled}
 use Rattle.chip.specs.Steps.{Step, padded}
 use Rattle.chip.specs.Steps.Step.{Open, Close, Send, Mask, Plain}
 use Rattle.device.specs.declared.Access.{Access}
@@ -60,9 +59,9 @@ accessEntry a =
       kind = a .0;
       outcome = 0;
       target = a .1;
-      n = pickN (isTwo (a .0)) 2 (pickN (eqb (a .0) 9) 0 1);
+      n = cond (isTwo (a .0)) 2 (cond (eqb (a .0) 9) 0 1);
       address = a .2;
-      bytes = pickBytes (isTwo (a .0)) (two (a .3)) (one (a .3));
+      bytes = cond (isTwo (a .0)) (two (a .3)) (one (a .3));
     }
 
 unfoldable pub accessStep : Access → Step

@@ -1,12 +1,13 @@
 -- The two GPIO calls. Document 01, "Transcript and script": "GPIO direction 4, 2; GPIO bit 2, 1"; "Refusal numbers": "6 pin | GPIO above 7".
 -- src/device.rs: `set_gpio_output` and `set_gpio_bit` read a register of block SYS and write it back with the pin's bit changed.
 -- Assumes nothing.
+use mathlib.Core.Bool.{cond}
 use Prim.Native.Nat.{ℕ, _-_, _^_}
 use mathlib.Core.List.{List, [], _∷_, map}
 use lib.Bits.{bitAnd, bitOr}
 use lib.Dec.{eqb, ltb}
 use lib.ListN.{length, getD}
-use Rattle.chip.specs.Calls.{Called, lentOf, pickN}
+use Rattle.chip.specs.Calls.{Called, lentOf}
 use Rattle.chip.specs.Steps.{Step}
 use Rattle.device.specs.declared.Access.{Access}
 use Rattle.device.specs.Accesses.{access, accessStep}
@@ -33,7 +34,7 @@ outputSteps pin a b = map accessStep (outputRows pin a b)
 
 -- set, or cleared where the value is 0
 abbrev pub changedOf : ℕ → ℕ → ℕ → ℕ
-changedOf pin value a = pickN (eqb value 0) (withoutBit a pin) (withBit a pin)
+changedOf pin value a = cond (eqb value 0) (withoutBit a pin) (withBit a pin)
 
 -- GPO (0x3001) gets the bit, or loses it
 abbrev pub bitRows : ℕ → ℕ → ℕ → List Access
@@ -45,10 +46,10 @@ bitSteps pin value a = map accessStep (bitRows pin value a)
 -- "Order: arguments (1 to 7, and 2 for hz), then 8, 9, 10, then steps"
 unfoldable pub outputCall : ℕ → List ℕ → List ℕ → List ℕ → Called (Unit {0})
 outputCall pin os rs room =
-    freeCall (pickN (ltb 7 pin) 6 (lentOf 4 2 (length room) (length os) (length rs))) os
+    freeCall (cond (ltb 7 pin) 6 (lentOf 4 2 (length room) (length os) (length rs))) os
     (outputSteps pin (getD rs 0 0) (getD rs 1 0)) room
 
 unfoldable pub bitCall : ℕ → ℕ → List ℕ → List ℕ → List ℕ → Called (Unit {0})
 bitCall pin value os rs room =
-    freeCall (pickN (ltb 7 pin) 6 (lentOf 2 1 (length room) (length os) (length rs))) os
+    freeCall (cond (ltb 7 pin) 6 (lentOf 2 1 (length room) (length os) (length rs))) os
     (bitSteps pin value (getD rs 0 0)) room

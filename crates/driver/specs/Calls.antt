@@ -15,7 +15,7 @@ use Rattle.chip.specs.declared.Answer.{Answer}
 use Rattle.chip.specs.declared.Answer.the-variants.{Done, Refused}
 use Rattle.chip.specs.declared.Chip.{Chip}
 use Rattle.chip.specs.declared.Went.{Went}
-use Rattle.chip.specs.Calls.{Called, callOf, called, lentOf, pickCalled, pickN}
+use Rattle.chip.specs.Calls.{Called, callOf, called, lentOf}
 use Rattle.chip.specs.Steps.{goes}
 use Rattle.r82xx.specs.Calls.{refusalWith}
 use Rattle.r82xx.specs.declared.Tuner.{Tuner}
@@ -31,8 +31,8 @@ xtalAnswer xtal = cond (leb 1 xtal) (Done xtal) (Refused 1)
 -- "Its ppm call, our addition, refuses 4 likewise": the ppm alone is stored
 unfoldable pub driverPpmCall : ℤ → Driver → Called Driver
 driverPpmCall ppm d =
-    pickCalled (soundDriver d)
-    (pickCalled (leb 1 (xtalBy (d .nominal) ppm)) (called (withPpm d ppm) [] 0 (Done 0)) (called d [] 0 (Refused 4)))
+    cond (soundDriver d)
+    (cond (leb 1 (xtalBy (d .nominal) ppm)) (called (withPpm d ppm) [] 0 (Done 0)) (called d [] 0 (Refused 4)))
     (called d [] 0 (Refused 1))
 
 -- both records
@@ -45,7 +45,7 @@ both t d = record { tuner = t; driver = d }
 
 -- "3 rate | rate 0"
 abbrev pub rateRefusal : ℕ → ℕ
-rateRefusal rate = pickN (eqb rate 0) 3 0
+rateRefusal rate = cond (eqb rate 0) 3 0
 
 -- the tuner's record behind it: "IF changes before its writes are tried"
 abbrev pub retuned : Tuner → ℕ → Chip → Tuner

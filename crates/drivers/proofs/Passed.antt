@@ -2,7 +2,7 @@
 -- Assumes nothing.
 use Prim.Native.Nat.{ℕ, _<_, _≤_}
 use mathlib.Core.Path.{_≡_, refl, sym, ap, _∙_}
-use mathlib.Core.Bool.{Bool, true, false, _&&_, _||_}
+use mathlib.Core.Bool.{Bool, true, false, _&&_, _||_, cond}
 use mathlib.Core.List.{List}
 use native.Mathlib.Omega.{arith}
 use borrow.Author.Tests.{eq-eqb, ne-eqb, lt-ltb, le-ltb, ltb-false}
@@ -10,7 +10,7 @@ use lib.Dec.{eqb, ltb}
 use lib.ListN.{length}
 use Rattle.chip.specs.declared.Answer.{Answer}
 use Rattle.chip.specs.declared.Answer.the-variants.{Refused}
-use Rattle.chip.specs.Calls.{Called, called, pickN}
+use Rattle.chip.specs.Calls.{Called, called}
 use Rattle.driver.specs.declared.Driver.{Driver}
 use Rattle.driver.specs.Calls.{Both, both, sampleRateCall}
 use Rattle.r82xx.specs.declared.Tuner.{Tuner}
@@ -47,12 +47,12 @@ module _ (ok : Bool) (rate driver tuner : ℕ) where
   all-there o z h i = rw (o, ne-eqb rate 0 z, le-ltb driver 21 h, le-ltb tuner 105 i)
 
 -- where nothing is refused, both slices have the bytes that are written
-rooms-fit : (x y : Bool) (driver tuner : ℕ) → ltb driver 21 ≡ x → ltb tuner 105 ≡ y → pickN (x || y) 8 0 ≡ 0 → (21 ≤ driver) × (105 ≤ tuner)
+rooms-fit : (x y : Bool) (driver tuner : ℕ) → ltb driver 21 ≡ x → ltb tuner 105 ≡ y → _≡_ {A = ℕ} (cond (x || y) 8 0) 0 → (21 ≤ driver) × (105 ≤ tuner)
 rooms-fit true y driver tuner d t e = absurd (omega (arith, e))
 rooms-fit false true driver tuner d t e = absurd (omega (arith, e))
 rooms-fit false false driver tuner d t e = (ltb-false driver 21 d, ltb-false tuner 105 t)
 
-rate-fits : (b : Bool) (driver tuner : ℕ) → pickN (eqb (pickN b 3 0) 0) (pickN (ltb driver 21 || ltb tuner 105) 8 0) (pickN b 3 0) ≡ 0 → (21 ≤ driver) × (105 ≤ tuner)
+rate-fits : (b : Bool) (driver tuner : ℕ) → _≡_ {A = ℕ} (cond (eqb (cond b 3 0) 0) (cond (ltb driver 21 || ltb tuner 105) 8 0) (cond b 3 0)) 0 → (21 ≤ driver) × (105 ≤ tuner)
 rate-fits true driver tuner e = absurd (omega (arith, e))
 rate-fits false driver tuner e = rooms-fit (ltb driver 21) (ltb tuner 105) driver tuner refl refl e
 

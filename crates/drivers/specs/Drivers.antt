@@ -1,7 +1,7 @@
 -- The driver's calls over bytes. Document 01, "The record": "`set_sample_rate` takes both records"; "with 4 for a bad correction".
 -- Assumes nothing.
 use Prim.Native.Nat.{ℕ}
-use mathlib.Core.Bool.{Bool, _&&_, _||_}
+use mathlib.Core.Bool.{Bool, _&&_, _||_, cond}
 use mathlib.Core.List.{List}
 use lib.Dec.{eqb, ltb}
 use lib.IntN.{ℤ}
@@ -9,7 +9,7 @@ use lib.ListN.{length}
 use Rattle.answers.specs.Lent.{Given, given}
 use Rattle.chip.specs.declared.Answer.{Answer}
 use Rattle.chip.specs.declared.Answer.the-variants.{Refused}
-use Rattle.chip.specs.Calls.{Called, pickN}
+use Rattle.chip.specs.Calls.{Called}
 use Rattle.driver.specs.declared.Driver.{Driver}
 use Rattle.driver.specs.Calls.{Both, driverPpmCall, rateRefusal, sampleRateCall, xtalAnswer}
 use Rattle.driver.specs.Record.{driverOf as madeDriver, xtalOf}
@@ -45,7 +45,7 @@ rates answer room driver tuner = record { answer = answer; room = room; driver =
 -- 1 for either record, 3 for the rate, 8 for either slice; 0 where none is given
 unfoldable pub bothReady : Bool → ℕ → ℕ → ℕ → ℕ
 bothReady ok rate driver tuner =
-    pickN ok (pickN (eqb (rateRefusal rate) 0) (pickN (ltb driver 21 || ltb tuner 105) 8 0) (rateRefusal rate)) 1
+    cond ok (cond (eqb (rateRefusal rate) 0) (cond (ltb driver 21 || ltb tuner 105) 8 0) (rateRefusal rate)) 1
 
 abbrev pub ratesMade : Called Both → List ℕ → List ℕ → Rates
 ratesMade c driver tuner =

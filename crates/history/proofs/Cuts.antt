@@ -2,7 +2,7 @@
 -- Assumes nothing.
 use Prim.Native.Nat.{ℕ, _≤_, _<_}
 use mathlib.Core.Path.{_≡_, refl, sym, ap, subst, _∙_}
-use mathlib.Core.Bool.{Bool, true, false, _&&_, _||_, true≢false, false≢true}
+use mathlib.Core.Bool.{Bool, true, false, _&&_, _||_, true≢false, false≢true, cond}
 use mathlib.Core.List.{List, [], _∷_}
 use native.Mathlib.Omega.{arith}
 use borrow.Author.Tests.{ltb-true, ltb-false}
@@ -15,7 +15,7 @@ use Rattle.attempts.specs.Attempts.{done}
 use Rattle.chip.specs.declared.Chip.{Chip}
 use Rattle.chip.specs.declared.Went.{Went}
 use Rattle.chip.specs.declared.Went.the-variants.{Going, Refused11}
-use Rattle.chip.specs.Entries.{pickBytes, zeros8}
+use Rattle.chip.specs.Entries.{zeros8}
 use Rattle.chip.specs.Steps.{Step, Trace, acts, emit, every, goes, inList, inner, line, okFor, run, step, taken, toldOf, trace, wentFor}
 use Rattle.chip.specs.Steps.Step.{Open, Close, Send, Mask, Plain}
 use Rattle.chip.proofs.Laws.{active, and-left, and-right, idle}
@@ -64,7 +64,7 @@ not-going t i g f = true≢false (ap goes (sym g ∙ f))
 
 -- ---- one step, done and failed
 
-bare-bytes : (a : Bool) (xs : List ℕ) → pickBytes a zeros8 (pickBytes (a && true) zeros8 xs) ≡ pickBytes a zeros8 (pickBytes (a && false) zeros8 xs)
+bare-bytes : (a : Bool) (xs : List ℕ) → cond a zeros8 (cond (a && true) zeros8 xs) ≡ cond a zeros8 (cond (a && false) zeros8 xs)
 bare-bytes true xs = refl
 bare-bytes false xs = refl
 

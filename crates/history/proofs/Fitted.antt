@@ -2,7 +2,7 @@
 -- Assumes nothing.
 use Prim.Native.Nat.{ℕ, suc, _-_, _≤_, _<_}
 use mathlib.Core.Path.{_≡_, refl, sym, ap, _∙_}
-use mathlib.Core.Bool.{Bool, true, false, _&&_, _||_, or-true, false≢true}
+use mathlib.Core.Bool.{Bool, true, false, _&&_, _||_, or-true, false≢true, cond}
 use mathlib.Core.List.{List, [], _∷_, _++_}
 use native.Mathlib.Omega.{arith}
 use borrow.Author.Tests.{eqb-false, leb-true, eq-eqb, le-leb}
@@ -18,7 +18,7 @@ use Rattle.transcript.proofs.Exact.{written-then-read}
 use Rattle.chip.specs.declared.Chip.{Chip}
 use Rattle.chip.specs.declared.Went.the-variants.{Going}
 use Rattle.chip.specs.Chips.{maskedByte, pair}
-use Rattle.chip.specs.Entries.{flagOf, pickBytes, repeater, settled, written, zeros8}
+use Rattle.chip.specs.Entries.{flagOf, repeater, settled, written, zeros8}
 use Rattle.chip.specs.Steps.{Step, Trace, acts, emit, every, inList, line, okFor, taken, trace}
 use Rattle.chip.specs.Steps.Step.{Open, Close, Send, Mask, Plain}
 use Rattle.history.specs.Programs.{beside, fine, finePlain}
@@ -93,7 +93,7 @@ abbrev entry : ℕ → ℕ → ℕ → ℕ → ℕ → List ℕ → Entry
 entry k o t n a bs = record { kind = k; outcome = o; target = t; n = n; address = a; bytes = bs }
 
 fails-as : (k t n a : ℕ) (bs : List ℕ) (read : Bool) → isRead k ≡ read → eqb k 9 ≡ false
-    → entryFits (entry k 0 t n a (pickBytes (read && false) zeros8 bs)) ≡ true → entryFits (entry k 1 t n a (pickBytes (read && true) zeros8 bs)) ≡ true
+    → entryFits (entry k 0 t n a (cond (read && false) zeros8 bs)) ≡ true → entryFits (entry k 1 t n a (cond (read && true) zeros8 bs)) ≡ true
 unfolding entryFits zeros
 fails-as k t n a bs true r w h =
     let p = both (rowFits k 0 t n a (getD bs 0 0) && eqb (length bs) 8) (zeros (drop (keptBy k 0 n) bs)) h in

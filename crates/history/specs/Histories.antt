@@ -18,7 +18,7 @@ use Rattle.chip.specs.declared.Answer.the-variants.{Done, Refused, Stopped}
 use Rattle.chip.specs.declared.Chip.{Chip}
 use Rattle.chip.specs.declared.Went.{Went}
 use Rattle.chip.specs.declared.Went.the-variants.{Going, Refused11}
-use Rattle.chip.specs.Entries.{pickBytes, repeater, zeros8}
+use Rattle.chip.specs.Entries.{repeater, zeros8}
 use Rattle.chip.specs.Steps.{Step, every, trace}
 use Rattle.history.specs.Programs.{beside, fine}
 
@@ -65,7 +65,7 @@ bare e =
       target = e .target;
       n = e .n;
       address = e .address;
-      bytes = pickBytes (isRead (e .kind)) zeros8 (e .bytes);
+      bytes = cond (isRead (e .kind)) zeros8 (e .bytes);
     }
 
 -- "at most the repeater's closing"

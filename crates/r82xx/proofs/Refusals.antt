@@ -1,11 +1,11 @@
 -- The refusals before any step, case by case. Assumes nothing.
 use Prim.Native.Nat.{ℕ, _+_, _*_, _^_, _≤_, _<_}
 use mathlib.Core.Path.{_≡_, refl, sym, ap, _∙_}
-use mathlib.Core.Bool.{Bool, true, false, not, _&&_, _||_}
+use mathlib.Core.Bool.{Bool, true, false, not, _&&_, _||_, cond}
 use native.Mathlib.Omega.{arith}
 use borrow.Author.Tests.{eq-eqb, eqb-false, eqb-true, le-leb, leb-false, lt-leb, ltb-false, ne-eqb}
 use lib.Dec.{eqb, leb, ltb}
-use Rattle.chip.specs.Calls.{lentOf, pickN}
+use Rattle.chip.specs.Calls.{lentOf}
 use Rattle.r82xx.specs.declared.Tuner.{Tuner}
 use Rattle.r82xx.specs.Record.{sound}
 use Rattle.r82xx.specs.Calls.{hzRefusal, refusalOf}
@@ -16,15 +16,15 @@ pub record Enough (n m room outcomes replies : ℕ) : Type 0 where
   pub outs : n ≤ outcomes
   pub back : m ≤ replies
 
-first-zero : (b : Bool) (a k : ℕ) → 0 < a → pickN b a k ≡ 0 → (b ≡ false) × (k ≡ 0)
+first-zero : (b : Bool) (a k : ℕ) → 0 < a → cond b a k ≡ 0 → (b ≡ false) × (k ≡ 0)
 first-zero true a k h e = absurd (omega arith)
 first-zero false a k h e = (refl, e)
 
 pub enough : (n m room outcomes replies : ℕ) → lentOf n m room outcomes replies ≡ 0 → Enough n m room outcomes replies
 unfolding lentOf
 enough n m room outcomes replies e =
-    let a = first-zero (ltb room (16 * n + 8)) 8 (pickN (ltb outcomes n) 9 (pickN (ltb replies m) 10 0)) (omega arith) e in
-    let b = first-zero (ltb outcomes n) 9 (pickN (ltb replies m) 10 0) (omega arith) (a .1) in
+    let a = first-zero (ltb room (16 * n + 8)) 8 (cond (ltb outcomes n) 9 (cond (ltb replies m) 10 0)) (omega arith) e in
+    let b = first-zero (ltb outcomes n) 9 (cond (ltb replies m) 10 0) (omega arith) (a .1) in
     let d = first-zero (ltb replies m) 10 0 (omega arith) (b .1) in
     record {
       rooms = ltb-false room (16 * n + 8) (a .0);

@@ -15,7 +15,7 @@ use Rattle.board.specs.Numbers.{pathOf}
 use Rattle.chip.specs.declared.Answer.{Answer}
 use Rattle.chip.specs.declared.Answer.the-variants.{Done, Refused, Stopped}
 use Rattle.chip.specs.Chips.{maskedByte, shadowed}
-use Rattle.chip.specs.Calls.{Called, callOf, called, lentOf, lockedIn, pickCalled, pickN, triesIn}
+use Rattle.chip.specs.Calls.{Called, callOf, called, lentOf, lockedIn, triesIn}
 use Rattle.chip.specs.declared.Update.{Update}
 use Rattle.chip.specs.Steps.{Trace, behind, updates}
 use Rattle.gain.specs.Product.{gainOf}
@@ -37,7 +37,7 @@ use Rattle.r82xx.specs.Record.{endedBy, lockBy, reloaded, sound, soundBy
 
 -- 1 unless the records given are whole, then an argument's number where it is refused, then 8, 9, 10
 abbrev pub refusalWith : Bool → ℕ → ℕ → ℕ → ℕ → ℕ → ℕ → ℕ
-refusalWith whole argument n m room os rs = pickN whole (pickN (eqb argument 0) (lentOf n m room os rs) argument) 1
+refusalWith whole argument n m room os rs = cond whole (cond (eqb argument 0) (lentOf n m room os rs) argument) 1
 
 -- the same of the tuner's record alone
 abbrev pub refusalOf : Tuner → ℕ → ℕ → ℕ → ℕ → ℕ → ℕ → ℕ
@@ -91,7 +91,7 @@ pathCall os path t room = pathWith (pathOf path) (t .kind) os t room
 
 -- "2 frequency | hz 0; hz + IF over u64"
 abbrev pub hzRefusal : ℕ → ℕ → ℕ
-hzRefusal hz ifreq = pickN (eqb hz 0 || leb (2 ^ 64) (hz + ifreq)) 2 0
+hzRefusal hz ifreq = cond (eqb hz 0 || leb (2 ^ 64) (hz + ifreq)) 2 0
 
 -- what a tuning answers where no step failed: the hz asked, or 2 in the PLL
 abbrev pub wholeOf : Pll → ℕ → Answer
@@ -111,8 +111,8 @@ tuneCall os rs hz t room =
 -- "5 register | `update_shadow` alone, not 0x05..0x1f": the shadow is changed and nothing is attempted
 unfoldable pub shadowCall : ℕ → ℕ → ℕ → Tuner → Called Tuner
 shadowCall register value mask t =
-    pickCalled (sound t)
-    (pickCalled (leb 5 register && leb register 31)
+    cond (sound t)
+    (cond (leb 5 register && leb register 31)
     (called (withChip t (shadowed (t .chip) register (maskedByte (t .chip) register value mask))) [] 0 (Done (maskedByte (t .chip) register value mask)))
     (called t [] 0 (Refused 5)))
     (called t [] 0 (Refused 1))

@@ -12,7 +12,7 @@ use Rattle.chip.specs.declared.Chip.{Chip}
 use Rattle.chip.specs.declared.Went.{Went}
 use Rattle.chip.specs.declared.Went.the-variants.{Going, Refused11}
 use Rattle.chip.specs.Chips.{withLists}
-use Rattle.chip.specs.Calls.{lockedIn, pickN, triesIn}
+use Rattle.chip.specs.Calls.{lockedIn, triesIn}
 use Rattle.chip.specs.Steps.{Trace, goes}
 use Rattle.pll.specs.declared.Kind.{Kind}
 use Rattle.pll.specs.declared.Kind.the-variants.{R820T, R828D}

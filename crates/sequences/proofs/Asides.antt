@@ -2,7 +2,7 @@
 -- cut as the others' are. Assumes nothing.
 use Prim.Native.Nat.{ℕ, _+_, _*_, _≤_, _<_}
 use mathlib.Core.Path.{_≡_, refl, sym, ap}
-use mathlib.Core.Bool.{Bool, true, false}
+use mathlib.Core.Bool.{Bool, true, false, cond}
 use mathlib.Core.List.{List, _++_, append-nil}
 use native.Mathlib.Omega.{arith}
 use borrow.Author.Tests.{leb-true}
@@ -11,7 +11,7 @@ use lib.ListN.{getD, length, set, length-set}
 use Rattle.transcript.specs.declared.Entry.{Entry}
 use Rattle.chip.specs.declared.Answer.the-variants.{Done}
 use Rattle.chip.specs.declared.Chip.{Chip}
-use Rattle.chip.specs.Calls.{lentOf, pickN}
+use Rattle.chip.specs.Calls.{lentOf}
 use Rattle.chip.specs.Steps.{every}
 use Rattle.chip.proofs.Laws.{and-left, and-right}
 use Rattle.device.specs.Calls.{freeCall, noChip}
@@ -90,7 +90,7 @@ aside-free (IfXtal hz xtal) os room = refl
 aside-free (RateXtal rate xtal) os room = refl
 
 -- a number that comes before another: where neither refuses, the other does not
-then-zero : (b : Bool) (a k : ℕ) → 0 < a → pickN b a k ≡ 0 → k ≡ 0
+then-zero : (b : Bool) (a k : ℕ) → 0 < a → cond b a k ≡ 0 → k ≡ 0
 then-zero true a k h e = absurd (omega arith)
 then-zero false a k h e = e
 
@@ -111,7 +111,7 @@ aside-room (IfXtal hz xtal) os room e =
 aside-room (RateXtal rate xtal) os room e =
     lent-room 4 0 (length room) (length os) 0
     (then-zero (eqb xtal 0) 4 (lentOf 4 0 (length room) (length os) 0) (omega arith)
-    (then-zero (eqb rate 0) 3 (pickN (eqb xtal 0) 4 (lentOf 4 0 (length room) (length os) 0)) (omega arith) e))
+    (then-zero (eqb rate 0) 3 (cond (eqb xtal 0) 4 (lentOf 4 0 (length room) (length os) 0)) (omega arith) e))
 
 pub aside-stepping : (o : Other) (os room : List ℕ) → asideGiven o ≡ true
     → Stepping (Unit {0}) noChip tt (asideResult o os room) (asideAsked o os room) os room

@@ -19,7 +19,7 @@ use Rattle.chip.specs.declared.Chip.{Chip}
 use Rattle.chip.specs.declared.Update.{Update}
 use Rattle.chip.specs.declared.Went.{Went}
 use Rattle.chip.specs.declared.Went.the-variants.{Going, Refused11}
-use Rattle.chip.specs.Calls.{Called, callOf, called, lentOf, lockedIn, performed, pickCalled, pickN, triesIn}
+use Rattle.chip.specs.Calls.{Called, callOf, called, lentOf, lockedIn, performed, triesIn}
 use Rattle.chip.specs.Chips.{maskedByte, shadowed}
 use Rattle.chip.specs.Steps.{Step, Trace, allIn, behind, every, trace, updateStep, updates}
 use Rattle.chip.specs.Steps.Step.{Close}
@@ -89,7 +89,7 @@ suffices : (whole : Bool) (argument n m : ℕ) (os rs room : List ℕ) (ss : Lis
 suffices whole argument n m os rs room ss l e =
     omega (arith, l, lent-room n m (length room) (length os) (length rs) (go whole (eqb argument 0) refl e))
   where
-    go : (w z : Bool) → eqb argument 0 ≡ z → pickN w (pickN z (lentOf n m (length room) (length os) (length rs)) argument) 1 ≡ 0
+    go : (w z : Bool) → eqb argument 0 ≡ z → cond w (cond z (lentOf n m (length room) (length os) (length rs)) argument) 1 ≡ 0
         → lentOf n m (length room) (length os) (length rs) ≡ 0
     go true true q h = h
     go true false q h = absurd (eqb-false argument 0 q h)
@@ -187,8 +187,8 @@ module _ (t : Tuner) (os room : List ℕ) where
   tuner-part number whole ss keep d = go (eqb number 0)
     where
       go : (b : Bool)
-          → tunerOf (pickCalled b (performed whole keep room (trace os ss (t .chip))) (called (both t d) room 0 (Refused number)))
-          ≡ pickCalled b (performed whole (λ tr. keep tr .tuner) room (trace os ss (t .chip))) (called t room 0 (Refused number))
+          → tunerOf (cond b (performed whole keep room (trace os ss (t .chip))) (called (both t d) room 0 (Refused number)))
+          ≡ cond b (performed whole (λ tr. keep tr .tuner) room (trace os ss (t .chip))) (called t room 0 (Refused number))
       go true = refl
       go false = refl
 
@@ -252,8 +252,8 @@ shadow-silent register value mask t = go (sound t) (leb 5 register && leb regist
   where
     go : (s r : Bool)
         → Silent t
-        (pickCalled s
-        (pickCalled r (called (withChip t (shadowed (t .chip) register (maskedByte (t .chip) register value mask))) [] 0 (Done (maskedByte (t .chip) register value mask)))
+        (cond s
+        (cond r (called (withChip t (shadowed (t .chip) register (maskedByte (t .chip) register value mask))) [] 0 (Done (maskedByte (t .chip) register value mask)))
         (called t [] 0 (Refused 5)))
         (called t [] 0 (Refused 1))) none
     go true true = record { nothing = refl; count = refl; named = refl; alike = record { chip = refl; attempted = refl; doubtful = refl } }

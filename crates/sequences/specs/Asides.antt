@@ -1,12 +1,12 @@
 -- The calls that touch no tuner record: GPIO and src/demod.rs. They may stand between the others. Each is a `freeCall` of crate `device`, over a chip
 -- of zeros that nobody is handed. Assumes nothing.
 use Prim.Native.Nat.{ℕ}
-use mathlib.Core.Bool.{Bool, true, _&&_}
+use mathlib.Core.Bool.{Bool, true, _&&_, cond}
 use mathlib.Core.List.{List}
 use lib.Dec.{eqb, leb, ltb}
 use lib.ListN.{getD, length, set}
 use Rattle.transcript.specs.declared.Entry.{Entry}
-use Rattle.chip.specs.Calls.{Called, lentOf, pickN}
+use Rattle.chip.specs.Calls.{Called, lentOf}
 use Rattle.chip.specs.Steps.{Step}
 use Rattle.device.specs.Calls.{noChip}
 use Rattle.device.specs.Gpio.{bitCall, bitSteps, outputCall, outputSteps}
@@ -57,9 +57,9 @@ plainly n ss os room = ask (lentOf n 0 (length room) (length os) 0) ss
 
 abbrev pub asideAsked : Other → List ℕ → List ℕ → Asked
 asideAsked (Output pin rs) os room =
-    ask (pickN (ltb 7 pin) 6 (lentOf 4 2 (length room) (length os) (length rs))) (outputSteps pin (getD rs 0 0) (getD rs 1 0))
+    ask (cond (ltb 7 pin) 6 (lentOf 4 2 (length room) (length os) (length rs))) (outputSteps pin (getD rs 0 0) (getD rs 1 0))
 asideAsked (Bit pin value rs) os room =
-    ask (pickN (ltb 7 pin) 6 (lentOf 2 1 (length room) (length os) (length rs))) (bitSteps pin value (getD rs 0 0))
+    ask (cond (ltb 7 pin) 6 (lentOf 2 1 (length room) (length os) (length rs))) (bitSteps pin value (getD rs 0 0))
 asideAsked Baseband os room = plainly 45 demod.initSteps os room
 asideAsked LowIf os room = plainly 2 demod.lowIfSteps os room
 asideAsked ZeroIf os room = plainly 2 demod.zeroIfSteps os room
@@ -68,9 +68,9 @@ asideAsked (Direct page register value) os room = plainly 1 (demod.directSteps p
 asideAsked Start os room = plainly 2 demod.startSteps os room
 asideAsked Stop os room = plainly 2 demod.stopSteps os room
 asideAsked (IfXtal hz xtal) os room =
-    ask (pickN (eqb xtal 0) 4 (lentOf 3 0 (length room) (length os) 0)) (demod.ifSteps hz xtal)
+    ask (cond (eqb xtal 0) 4 (lentOf 3 0 (length room) (length os) 0)) (demod.ifSteps hz xtal)
 asideAsked (RateXtal rate xtal) os room =
-    ask (pickN (eqb rate 0) 3 (pickN (eqb xtal 0) 4 (lentOf 4 0 (length room) (length os) 0))) (demod.rateSteps rate xtal)
+    ask (cond (eqb rate 0) 3 (cond (eqb xtal 0) 4 (lentOf 4 0 (length room) (length os) 0))) (demod.rateSteps rate xtal)
 
 abbrev pub asideEntriesOf : Asked → List ℕ → List Entry
 asideEntriesOf a os = callEntries (a .number) os (a .steps) noChip

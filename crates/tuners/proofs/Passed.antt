@@ -2,7 +2,7 @@
 -- Assumes nothing.
 use Prim.Native.Nat.{ℕ, _<_, _≤_, _^_}
 use mathlib.Core.Path.{_≡_, refl, sym, ap, _∙_}
-use mathlib.Core.Bool.{Bool, true, false}
+use mathlib.Core.Bool.{Bool, true, false, cond}
 use mathlib.Core.List.{List}
 use native.Mathlib.Omega.{arith}
 use borrow.Author.Tests.{eq-eqb, eqb-true, ne-eqb, lt-ltb, le-ltb, ltb-false}
@@ -11,7 +11,7 @@ use lib.ListN.{length}
 use lib.Seq.{sets}
 use Rattle.chip.specs.declared.Answer.{Answer}
 use Rattle.chip.specs.declared.Answer.the-variants.{Refused}
-use Rattle.chip.specs.Calls.{Called, called, pickN}
+use Rattle.chip.specs.Calls.{Called, called}
 use Rattle.r82xx.specs.declared.Tuner.{Tuner}
 use Rattle.records.specs.declared.TunerRead.{TunerRead}
 use Rattle.records.specs.Tuners.{tunerBytes, tunerOf}
@@ -20,11 +20,11 @@ use Rattle.replies.specs.Replies.{replyOf}
 use Rattle.tuners.specs.Over.{After, after, handed, keptOf, nextOf, overTuner, pathRefusal, readyOf, refusal, unlessRefused}
 
 -- where nothing is refused, the slice has the bytes that are written
-room-fits : (b : Bool) (next need : ℕ) → ltb next need ≡ b → pickN b 8 0 ≡ 0 → need ≤ next
+room-fits : (b : Bool) (next need : ℕ) → ltb next need ≡ b → _≡_ {A = ℕ} (cond b 8 0) 0 → need ≤ next
 room-fits true next need t e = absurd (omega (arith, e))
 room-fits false next need t e = ltb-false next need t
 
-then-fits : (b : Bool) (argument next need : ℕ) → eqb argument 0 ≡ b → pickN b (pickN (ltb next need) 8 0) argument ≡ 0 → need ≤ next
+then-fits : (b : Bool) (argument next need : ℕ) → eqb argument 0 ≡ b → cond b (cond (ltb next need) 8 0) argument ≡ 0 → need ≤ next
 then-fits true argument next need t e = room-fits (ltb next need) next need refl e
 then-fits false argument next need t e =
     let differ : _≡_ {A = Bool} true false = sym (eq-eqb argument 0 e) ∙ t in
@@ -37,11 +37,11 @@ fits false argument next need e = absurd (omega (arith, e))
 fits true argument next need e = then-fits (eqb argument 0) argument next need refl e
 
 -- where nothing is refused, a path's number is a byte
-then-none : (b : Bool) (argument next need : ℕ) → eqb argument 0 ≡ b → pickN b (pickN (ltb next need) 8 0) argument ≡ 0 → argument ≡ 0
+then-none : (b : Bool) (argument next need : ℕ) → eqb argument 0 ≡ b → cond b (cond (ltb next need) 8 0) argument ≡ 0 → argument ≡ 0
 then-none true argument next need t e = eqb-true argument 0 t
 then-none false argument next need t e = e
 
-path-named : (b : Bool) (path : ℕ) → ltb 2 path ≡ b → pickN b 1 0 ≡ 0 → path < 2 ^ 8
+path-named : (b : Bool) (path : ℕ) → ltb 2 path ≡ b → _≡_ {A = ℕ} (cond b 1 0) 0 → path < 2 ^ 8
 path-named true path t e = absurd (omega (arith, e))
 path-named false path t e = omega (arith, ltb-false 2 path t)
 

@@ -9,7 +9,7 @@ use lib.ListN.{length}
 use lib.Seq.{sets}
 use Rattle.chip.specs.declared.Answer.{Answer}
 use Rattle.chip.specs.declared.Answer.the-variants.{Done, Refused, Stopped}
-use Rattle.chip.specs.Calls.{Called, pickN}
+use Rattle.chip.specs.Calls.{Called}
 use Rattle.r82xx.specs.declared.Tuner.{Tuner}
 use Rattle.records.specs.Tuners.{tunerBytes, tunerOf}
 use Rattle.replies.specs.declared.Reply.{Reply}
@@ -26,7 +26,7 @@ after answer room next = record { answer = answer; room = room; next = next }
 
 -- "Order: arguments (1 to 7, and 2 for hz), then 8": the record, the argument, then the slice for the next record, of which `need` bytes are written
 unfoldable pub readyOf : Bool → ℕ → ℕ → ℕ → ℕ
-readyOf ok argument next need = pickN ok (pickN (eqb argument 0) (pickN (ltb next need) 8 0) argument) 1
+readyOf ok argument next need = cond ok (cond (eqb argument 0) (cond (ltb next need) 8 0) argument) 1
 
 -- the next record is written once steps were taken or the call is done
 abbrev pub keptOf : Answer → ℕ → Bool
@@ -62,4 +62,4 @@ anyArgument t = 0
 
 -- a path's number above 2 names none
 abbrev pub pathRefusal : ℕ → ℕ
-pathRefusal path = pickN (ltb 2 path) 1 0
+pathRefusal path = cond (ltb 2 path) 1 0
