@@ -1,4 +1,4 @@
-use crate::{Answer, Error, InputPath, Script, Tuner, in_room, raw};
+use crate::{Answer, Error, InputPath, Need, Script, Tuner, in_room, raw};
 use core::fmt;
 
 /// The board that the tuner is on.
@@ -112,7 +112,7 @@ impl Driver {
         let (mut next_driver, mut next_tuner) = (self.record, *tuner.as_bytes());
         let (d, t, o) = (&self.record, tuner.as_bytes(), script.outcomes());
         // SAFETY: see raw.rs.
-        let (reply, transcript) = in_room(17, |room| unsafe {
+        let (reply, transcript) = in_room(Need::SAMPLE_RATE.outcomes, |room| unsafe {
             #[rustfmt::skip]
             let reply = raw::pasetone_set_sample_rate(d.as_ptr(), d.len(), t.as_ptr(), t.len(), rate, o.as_ptr(), o.len(),
                 room.as_mut_ptr(), room.len(), next_driver.as_mut_ptr(), next_driver.len(), next_tuner.as_mut_ptr(), next_tuner.len());

@@ -78,6 +78,7 @@ pub mod demod;
 mod driver;
 mod error;
 pub mod gpio;
+mod need;
 mod raw;
 mod registers;
 mod script;
@@ -86,6 +87,7 @@ mod tuner;
 
 pub use driver::{Board, Driver, Plan};
 pub use error::Error;
+pub use need::Need;
 pub use registers::{if_freq_regs, pack_fir, resample_regs, unpack_fir};
 pub use script::Script;
 pub use transcript::{Entries, Entry, EntryKind, Transcript};

@@ -72,7 +72,20 @@ pub struct Entry<'a> {
 }
 
 impl Entry<'_> {
-    /// What the step does, in words.
+    /// What the step does, in words, without how it ended.
+    ///
+    /// ```
+    /// use pasetone::{Script, Tuner, TunerKind};
+    ///
+    /// let answer = Tuner::new(TunerKind::R828d, 0x74, 28_800_000)?.set_bandwidth(2_048_000, &Script::all_done());
+    /// assert_eq!(answer.transcript.get(1).unwrap().words(), "I2C write 0x74: 0x0a <- d8");
+    /// # Ok::<(), pasetone::Error>(())
+    /// ```
+    pub fn words(&self) -> String {
+        // Nothing here fails: a String takes every text.
+        self.what().unwrap_or_default()
+    }
+
     fn what(&self) -> Result<String, fmt::Error> {
         let mut line = String::new();
         let (target, address) = (self.target, self.address);
@@ -158,14 +171,29 @@ impl Transcript {
     ///
     /// - [`Error::Section`] (12): the bytes end in no section.
     pub fn read(bytes: &[u8]) -> Result<(&[u8], Transcript), Error> {
+        let (before, rest) = bytes.split_at(Transcript::start(bytes)?);
+        Ok((before, Transcript { section: rest.to_vec() }))
+    }
+
+    /// Where the section in which `bytes` end begins: how many bytes stand before it. So a file of sections end to end is walked from its end
+    /// without a copy.
+    ///
+    /// ```
+    /// let two_of_no_entries = [0; 16];
+    /// assert_eq!(pasetone::Transcript::start(&two_of_no_entries), Ok(8));
+    /// assert_eq!(pasetone::Transcript::start(&two_of_no_entries[..8]), Ok(0));
+    /// assert_eq!(pasetone::Transcript::start(&[]).unwrap_err().number(), 12);
+    /// ```
+    ///
+    /// # Errors
+    ///
+    /// - [`Error::Section`] (12): the bytes end in no section.
+    pub fn start(bytes: &[u8]) -> Result<usize, Error> {
         // SAFETY: see raw.rs; the slice is only read.
         let section = unsafe { raw::pasetone_read_section(bytes.as_ptr(), bytes.len()) };
         match Error::of(section.refusal, 0) {
             Some(error) => Err(error),
-            None => {
-                let (before, rest) = bytes.split_at(section.start as usize);
-                Ok((before, Transcript { section: rest.to_vec() }))
-            }
+            None => Ok(section.start as usize),
         }
     }
 

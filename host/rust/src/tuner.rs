@@ -1,5 +1,5 @@
 use crate::raw::{self, Reply};
-use crate::{Answer, Error, Script, in_room};
+use crate::{Answer, Error, Need, Script, in_room};
 use core::fmt;
 
 /// The tuner's chip.
@@ -73,9 +73,9 @@ impl Tuner {
     }
 
     /// A call with steps: the next record takes the place of this one whenever the call wrote it.
-    fn operate(&mut self, entries: usize, call: impl FnOnce(&[u8], &mut [u8], &mut [u8]) -> Reply) -> Answer<u64> {
+    fn operate(&mut self, need: Need, call: impl FnOnce(&[u8], &mut [u8], &mut [u8]) -> Reply) -> Answer<u64> {
         let mut next = self.record;
-        let (reply, transcript) = in_room(entries, |room| call(&self.record, room, &mut next));
+        let (reply, transcript) = in_room(need.outcomes, |room| call(&self.record, room, &mut next));
         if reply.stands() {
             self.record = next;
         }
@@ -91,7 +91,7 @@ impl Tuner {
     pub fn initialize(&mut self, script: &Script) -> Answer<()> {
         let o = script.outcomes();
         // SAFETY: see raw.rs.
-        unit(self.operate(19, |t, room, next| unsafe {
+        unit(self.operate(Need::INITIALIZE, |t, room, next| unsafe {
             raw::pasetone_initialize(t.as_ptr(), t.len(), o.as_ptr(), o.len(), room.as_mut_ptr(), room.len(), next.as_mut_ptr(), next.len())
         }))
     }
@@ -108,7 +108,7 @@ impl Tuner {
     pub fn set_frequency(&mut self, hz: u64, script: &Script) -> Answer<u64> {
         let (o, p) = (script.outcomes(), script.replies());
         // SAFETY: see raw.rs.
-        self.operate(53, |t, room, next| unsafe {
+        self.operate(Need::TUNE, |t, room, next| unsafe {
             #[rustfmt::skip]
             let reply = raw::pasetone_set_frequency(t.as_ptr(), t.len(), hz, o.as_ptr(), o.len(), p.as_ptr(), p.len(),
                 room.as_mut_ptr(), room.len(), next.as_mut_ptr(), next.len());
@@ -128,7 +128,7 @@ impl Tuner {
     pub fn set_gain(&mut self, db: f32, script: &Script) -> Answer<f32> {
         let o = script.outcomes();
         // SAFETY: see raw.rs.
-        decibels(self.operate(7, |t, room, next| unsafe {
+        decibels(self.operate(Need::GAIN, |t, room, next| unsafe {
             raw::pasetone_set_gain(
                 t.as_ptr(),
                 t.len(),
@@ -152,7 +152,7 @@ impl Tuner {
     pub fn set_gain_by_index(&mut self, index: usize, script: &Script) -> Answer<f32> {
         let (o, k) = (script.outcomes(), index as u64);
         // SAFETY: see raw.rs.
-        decibels(self.operate(7, |t, room, next| unsafe {
+        decibels(self.operate(Need::GAIN, |t, room, next| unsafe {
             #[rustfmt::skip]
             let reply = raw::pasetone_set_gain_by_index(t.as_ptr(), t.len(), k, o.as_ptr(), o.len(),
                 room.as_mut_ptr(), room.len(), next.as_mut_ptr(), next.len());
@@ -169,7 +169,7 @@ impl Tuner {
     pub fn set_bandwidth(&mut self, hz: u32, script: &Script) -> Answer<()> {
         let o = script.outcomes();
         // SAFETY: see raw.rs.
-        unit(self.operate(3, |t, room, next| unsafe {
+        unit(self.operate(Need::BANDWIDTH, |t, room, next| unsafe {
             #[rustfmt::skip]
             let reply = raw::pasetone_set_bandwidth(t.as_ptr(), t.len(), hz, o.as_ptr(), o.len(),
                 room.as_mut_ptr(), room.len(), next.as_mut_ptr(), next.len());
@@ -186,7 +186,7 @@ impl Tuner {
     pub fn set_if_freq(&mut self, hz: u64, script: &Script) -> Answer<()> {
         let o = script.outcomes();
         // SAFETY: see raw.rs.
-        unit(self.operate(4, |t, room, next| unsafe {
+        unit(self.operate(Need::IF_FREQ, |t, room, next| unsafe {
             #[rustfmt::skip]
             let reply = raw::pasetone_set_if_freq(t.as_ptr(), t.len(), hz, o.as_ptr(), o.len(),
                 room.as_mut_ptr(), room.len(), next.as_mut_ptr(), next.len());
@@ -203,7 +203,7 @@ impl Tuner {
     pub fn set_input_path(&mut self, path: InputPath, script: &Script) -> Answer<()> {
         let o = script.outcomes();
         // SAFETY: see raw.rs.
-        unit(self.operate(4, |t, room, next| unsafe {
+        unit(self.operate(Need::INPUT_PATH, |t, room, next| unsafe {
             #[rustfmt::skip]
             let reply = raw::pasetone_set_input_path(t.as_ptr(), t.len(), path as u64, o.as_ptr(), o.len(),
                 room.as_mut_ptr(), room.len(), next.as_mut_ptr(), next.len());
@@ -221,7 +221,7 @@ impl Tuner {
     pub fn apply_input_path(&mut self, path: InputPath, script: &Script) -> Answer<()> {
         let (o, p) = (script.outcomes(), script.replies());
         // SAFETY: see raw.rs.
-        unit(self.operate(10, |t, room, next| unsafe {
+        unit(self.operate(Need::BOARD_PATH, |t, room, next| unsafe {
             #[rustfmt::skip]
             let reply = raw::pasetone_apply_input_path(t.as_ptr(), t.len(), path as u64, o.as_ptr(), o.len(), p.as_ptr(), p.len(),
                 room.as_mut_ptr(), room.len(), next.as_mut_ptr(), next.len());
@@ -239,7 +239,7 @@ impl Tuner {
     pub fn reload(&mut self, script: &Script) -> Answer<()> {
         let o = script.outcomes();
         // SAFETY: see raw.rs.
-        unit(self.operate(9, |t, room, next| unsafe {
+        unit(self.operate(Need::RELOAD, |t, room, next| unsafe {
             raw::pasetone_reload(t.as_ptr(), t.len(), o.as_ptr(), o.len(), room.as_mut_ptr(), room.len(), next.as_mut_ptr(), next.len())
         }))
     }
@@ -337,10 +337,19 @@ impl Tuner {
         self.register(ATTEMPTED, register)
     }
 
+    /// The registers that the record keeps, ascending: 0x05..=0x1f.
+    pub fn registers() -> impl Iterator<Item = u8> {
+        (FIRST..).take(REGISTERS)
+    }
+
+    /// Whether the chip may hold another byte in a register than the one last attempted; false out of 0x05..=0x1f, of which nothing is kept.
+    pub fn is_doubtful(&self, register: u8) -> bool {
+        self.register(DOUBTFUL, register).is_some_and(|mark| mark != 0)
+    }
+
     /// The registers of which the chip may hold another byte than the one last attempted.
     pub fn doubtful(&self) -> impl Iterator<Item = u8> + '_ {
-        let marks = &self.record[DOUBTFUL..DOUBTFUL + REGISTERS];
-        (FIRST..).zip(marks).filter(|(_, mark)| **mark != 0).map(|(register, _)| register)
+        Tuner::registers().filter(|register| self.is_doubtful(*register))
     }
 
     fn register(&self, field: usize, register: u8) -> Option<u8> {

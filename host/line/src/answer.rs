@@ -1,0 +1,116 @@
+//! The answer that a run ends with: its number, its words, and what to do about a refusal.
+use crate::json;
+use crate::reach;
+use crate::run::{Made, Run};
+use pasetone::{Error, Plan};
+
+pub struct Told {
+    pub number: u32,
+    pub word: &'static str,
+    /// What follows the number on the line `answer: ..`.
+    pub text: String,
+    pub to_do: Option<String>,
+    /// The failing step in the run, and in its call.
+    pub step: Option<(usize, usize)>,
+}
+
+/// The answer of the run's last call; `hz` is what was asked for.
+pub fn of(run: &Run, plan: &Plan, hz: u64) -> Told {
+    match run.made.last() {
+        Some(made) => match made.result {
+            Ok(()) => done(run, plan),
+            Err(error) => refused(run, made, error, hz),
+        },
+        // A run makes the notch's call at least.
+        None => done(run, plan),
+    }
+}
+
+fn done(run: &Run, plan: &Plan) -> Told {
+    let locked = run.records.as_ref().is_some_and(|(tuner, _)| tuner.has_lock());
+    let text = format!("done: {} steps, tuner at {} Hz, {}", run.steps, plan.hz, if locked { "locked" } else { "NOT locked" });
+    Told { number: 0, word: "done", text, to_do: None, step: None }
+}
+
+fn refused(run: &Run, made: &Made, error: Error, hz: u64) -> Told {
+    let call = made.call.name();
+    let (text, step) = match error {
+        Error::Step { index } => {
+            let whole = made.first + index;
+            (format!("{}, step {whole} of the run; {call} stopped at its own step {index}", words(error)), Some((whole, index)))
+        }
+        _ => (format!("{}; refused by {call}", words(error)), None),
+    };
+    Told { number: error.number(), word: error.word(), text, to_do: Some(to_do(run, made, error, hz)), step }
+}
+
+fn words(error: Error) -> &'static str {
+    match error {
+        Error::Setup => "setup: a record, kind or reference is out of its range",
+        Error::Frequency => "frequency: 0, or one that the PLL does not reach",
+        Error::Rate => "rate: 0",
+        Error::Correction => "correction: the corrected reference is out of its range",
+        Error::Outcomes => "outcomes: fewer bytes are left than the call may need",
+        Error::Replies => "replies: fewer bytes are left than the call may need",
+        Error::Step { .. } => "step: a step failed",
+        // No call of a run is refused by another number: what they are asked is in its range, and the room is the host's own.
+        other => other.word(),
+    }
+}
+
+fn to_do(run: &Run, made: &Made, error: Error, hz: u64) -> String {
+    let (call, need, left) = (made.call.name(), made.call.need(), made.left);
+    match error {
+        Error::Setup => String::from("give --reference from 1 to 4294967295 Hz"),
+        Error::Frequency => frequencies(run, hz),
+        Error::Rate => String::from("give --rate from 1 to 4294967295"),
+        Error::Correction => corrections(run),
+        Error::Outcomes => format!(
+            "{call} may need {} outcomes, {} are left: give --outcomes a file that is {} bytes longer",
+            need.outcomes,
+            left.outcomes,
+            need.outcomes.saturating_sub(left.outcomes)
+        ),
+        Error::Replies => format!(
+            "{call} may need {} replies, {} are left: give --replies a file that is {} bytes longer",
+            need.replies,
+            left.replies,
+            need.replies.saturating_sub(left.replies)
+        ),
+        Error::Step { .. } => String::from("keep the record (--keep FILE); then --record FILE --initialise sends every register again"),
+        other => other.to_string(),
+    }
+}
+
+/// The frequencies next to the one asked for, below and above it, that can be reached.
+fn frequencies(run: &Run, hz: u64) -> String {
+    let Some((tuner, driver)) = &run.records else { return String::new() };
+    let all = reach::reached(tuner, driver.board());
+    let below = all.iter().rev().find(|stretch| *stretch.end() < hz);
+    let above = all.iter().find(|stretch| *stretch.start() > hz);
+    let next: Vec<String> = below.into_iter().chain(above).map(|stretch| format!("{} to {}", stretch.start(), stretch.end())).collect();
+    if next.is_empty() {
+        return format!("no frequency can be reached with a reference of {} Hz: give another by --reference", tuner.corrected());
+    }
+    format!("ask for {} Hz", next.join(", or "))
+}
+
+fn corrections(run: &Run) -> String {
+    let Some((tuner, _)) = &run.records else { return String::new() };
+    let (low, high) = reach::corrections(tuner);
+    format!("give --ppm from {low} to {high}")
+}
+
+impl Told {
+    pub fn json(&self, run: &Run) -> String {
+        json::object(&[
+            ("number", self.number.to_string()),
+            ("word", json::string(self.word)),
+            ("text", json::string(&self.text)),
+            ("to_do", json::maybe(self.to_do.as_deref().map(json::string))),
+            ("call", json::maybe(run.made.last().map(|made| json::string(made.call.name())))),
+            ("step", json::maybe(self.step.map(|(whole, _)| whole))),
+            ("own_step", json::maybe(self.step.map(|(_, own)| own))),
+        ])
+    }
+}

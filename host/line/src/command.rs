@@ -1,0 +1,254 @@
+//! The two tables, of commands and of options, and the words that are read by them. All help is made from these tables too (help.rs).
+//!
+//! A new command is a file with its `run`, a row in `COMMANDS`, and a row in `OPTIONS` for an option that none has yet.
+use crate::files::{is_standard, shown};
+use crate::out::Out;
+use crate::{help, hop, show};
+use std::ffi::{OsStr, OsString};
+use std::os::unix::ffi::OsStrExt;
+
+pub struct Command {
+    pub name: &'static str,
+    /// What stands behind the name, as help has it.
+    pub operands: &'static str,
+    /// One line.
+    pub about: &'static str,
+    /// The lines of its own page.
+    pub more: &'static [&'static str],
+    pub options: &'static [Key],
+    pub run: fn(&Given, &mut Out),
+}
+
+pub const COMMANDS: &[Command] = &[
+    Command {
+        name: "hop",
+        operands: "HZ",
+        about: "the calls that lead to a frequency, in words",
+        more: hop::MORE,
+        options: hop::OPTIONS,
+        run: hop::run,
+    },
+    Command {
+        name: "show",
+        operands: "FILE..",
+        about: "sections of transcripts, in words",
+        more: show::MORE,
+        options: &[Key::Json, Key::Quiet],
+        run: show::run,
+    },
+    Command {
+        name: "help",
+        operands: "[COMMAND]",
+        about: "this page, or a command's",
+        more: &["The same as `./pasetone --help` and `./pasetone COMMAND --help`."],
+        options: &[],
+        run: help::run,
+    },
+];
+
+#[derive(Clone, Copy, PartialEq, Eq)]
+pub enum Key {
+    Kind,
+    Address,
+    Board,
+    Reference,
+    Ppm,
+    Rate,
+    Gain,
+    Initialise,
+    Fail,
+    Outcomes,
+    Replies,
+    Section,
+    Record,
+    Keep,
+    Json,
+    Quiet,
+}
+
+pub struct Opt {
+    pub key: Key,
+    pub name: &'static str,
+    /// What its value is called; `None` where it has none.
+    pub value: Option<&'static str>,
+    /// What its value has to be, as a mistake says it.
+    pub wants: &'static str,
+    pub about: &'static str,
+    /// What holds where it is not given.
+    pub default: &'static str,
+}
+
+/// One row of the table below: key, name, value, wants, about, default.
+const fn row(
+    key: Key,
+    name: &'static str,
+    value: Option<&'static str>,
+    wants: &'static str,
+    about: &'static str,
+    default: &'static str,
+) -> Opt {
+    Opt { key, name, value, wants, about, default }
+}
+
+const A_FILE: &str = "a file's name";
+const A_SCRIPT: &str = "a file's name, or - for standard input";
+
+#[rustfmt::skip]
+pub const OPTIONS: &[Opt] = &[
+    row(Key::Kind, "--kind", Some("r828d|r820t"), "r828d or r820t", "the tuner's kind", "r828d"),
+    row(Key::Address, "--address", Some("N"), "a number to 255 (0xff)", "its address on the bus", "0x74; r820t: 0x34"),
+    row(Key::Board, "--board", Some("v4|generic"), "v4 or generic", "the board", "v4"),
+    row(Key::Reference, "--reference", Some("HZ"), "a whole number of Hz to 4294967295, as 28800000 or 28.8M", "the reference", "28.8M"),
+    row(Key::Ppm, "--ppm", Some("N"), "a number from -2147483648 to 2147483647", "the reference's correction, parts per million", "not called"),
+    row(Key::Rate, "--rate", Some("N"), "a whole number to 4294967295, as 2048000 or 2.4M", "samples a second", "2.048M; --record: not called"),
+    row(Key::Gain, "--gain", Some("DB"), "dB from -6553.5 to 6553.5, as 29.7", "at most one digit behind the point", "29.7; --record: not called"),
+    row(Key::Initialise, "--initialise", None, "", "initialise is called over the record of --record too", ""),
+    row(Key::Fail, "--fail", Some("N"), "a step's number, to 4095", "step N fails, counted from 0 over the whole run", "none"),
+    row(Key::Outcomes, "--outcomes", Some("FILE"), A_SCRIPT, "a byte for each step: 0 done, any other failed", "all done"),
+    row(Key::Replies, "--replies", Some("FILE"), A_SCRIPT, "what is read: 3 bytes for the board's path, 35 for the tuning", "a lock"),
+    row(Key::Record, "--record", Some("FILE"), A_SCRIPT, "the record to start from, as --keep has left it", "a fresh one"),
+    row(Key::Keep, "--keep", Some("FILE"), A_FILE, "the record is written there at the end, also of a stopped run", "none"),
+    row(Key::Section, "--section", Some("FILE"), A_FILE, "the sections, end to end, are written there; a file there is lost", "none"),
+    row(Key::Json, "--json", None, "", "the same as JSON in place of the table", ""),
+    row(Key::Quiet, "--quiet", None, "", "print nothing but what went wrong; the exit status tells the rest", ""),
+];
+
+pub fn option(key: Key) -> &'static Opt {
+    // Every key has a row: the test below.
+    OPTIONS.iter().find(|row| row.key == key).unwrap_or(&OPTIONS[0])
+}
+
+/// What the words ask for.
+pub enum Asked {
+    /// The page of all commands, or of one.
+    Help(Option<&'static Command>),
+    Version,
+    Run(&'static Command, Given),
+}
+
+/// The words behind a command: operands, and options with their values. Of an option that is given twice the last counts.
+pub struct Given {
+    pub operands: Vec<OsString>,
+    options: Vec<(Key, OsString)>,
+}
+
+impl Given {
+    pub fn has(&self, key: Key) -> bool {
+        self.word(key).is_some()
+    }
+
+    pub fn word(&self, key: Key) -> Option<&OsStr> {
+        self.options.iter().rev().find(|(given, _)| *given == key).map(|(_, value)| value.as_os_str())
+    }
+
+    /// An option's value as `read` takes it; told as a mistake where it does not.
+    pub fn value<T>(&self, key: Key, out: &mut Out, read: impl Fn(&str) -> Option<T>) -> Option<T> {
+        let word = self.word(key)?;
+        let value = word.to_str().and_then(read);
+        if value.is_none() {
+            let row = option(key);
+            out.mistake(&format!("{} wants {}, not `{}`", row.name, row.wants, shown(word)));
+        }
+        value
+    }
+
+    /// The name of a file to be written.
+    pub fn target(&self, key: Key, out: &mut Out) -> Option<&OsStr> {
+        let word = self.word(key)?;
+        if !is_standard(word) {
+            return Some(word);
+        }
+        out.mistake(&format!("{} wants {}: - is standard input, which is only read", option(key).name, A_FILE));
+        None
+    }
+}
+
+/// Reads the words. `None` where they are at fault, which has then been told, one line for each mistake.
+pub fn asked(words: Vec<OsString>, out: &mut Out) -> Option<Asked> {
+    let mut words = words.into_iter();
+    let Some(first) = words.next() else {
+        out.mistake("there is no command: give one of those that `./pasetone --help` lists");
+        return None;
+    };
+    match first.to_str() {
+        Some("-h" | "--help") => return Some(Asked::Help(None)),
+        Some("--version") => return Some(Asked::Version),
+        _ => {}
+    }
+    let Some(command) = named(&first) else {
+        out.mistake(&format!("there is no command `{}`: give one of those that `./pasetone --help` lists", shown(&first)));
+        return None;
+    };
+    behind(command, words.collect(), out)
+}
+
+/// The command of a name.
+pub fn named(name: &OsStr) -> Option<&'static Command> {
+    COMMANDS.iter().find(|command| name == command.name)
+}
+
+/// The words behind a command. Help and version come before any mistake in other words.
+fn behind(command: &'static Command, words: Vec<OsString>, out: &mut Out) -> Option<Asked> {
+    let options = || words.iter().take_while(|word| *word != "--");
+    if options().any(|word| word == "-h" || word == "--help") {
+        return Some(Asked::Help(Some(command)));
+    }
+    if options().any(|word| word == "--version") {
+        return Some(Asked::Version);
+    }
+    let mut given = Given { operands: Vec::new(), options: Vec::new() };
+    let mut words = words.into_iter();
+    while let Some(word) = words.next() {
+        if word == "--" {
+            given.operands.extend(words.by_ref());
+        } else if is_standard(&word) || !word.as_bytes().starts_with(b"-") {
+            given.operands.push(word);
+        } else if let Some(read) = one(command, &word, &mut words, out) {
+            given.options.push(read);
+        }
+    }
+    (!out.is_mistaken()).then_some(Asked::Run(command, given))
+}
+
+/// An option: `--name value`, `--name=value`, or `--name` where it has no value.
+fn one(command: &Command, word: &OsStr, words: &mut impl Iterator<Item = OsString>, out: &mut Out) -> Option<(Key, OsString)> {
+    // A file's name behind the `=` may be no text.
+    let bytes = word.as_bytes();
+    let (name, inside) = match bytes.iter().position(|byte| *byte == b'=') {
+        Some(at) => (OsStr::from_bytes(&bytes[..at]), Some(OsStr::from_bytes(&bytes[at + 1..]).to_os_string())),
+        None => (word, None),
+    };
+    let Some(row) = command.options.iter().map(|key| option(*key)).find(|row| name == row.name) else {
+        out.mistake(&format!("{} has no option `{}`: `./pasetone {0} --help` lists what it has", command.name, shown(name)));
+        return None;
+    };
+    let name = row.name;
+    let value = match (row.value, inside) {
+        (None, None) => OsString::new(),
+        (None, Some(_)) => {
+            out.mistake(&format!("{name} has no value: give it alone"));
+            return None;
+        }
+        (Some(_), inside) => inside.or_else(|| words.next()).filter(|value| !value.is_empty()).or_else(|| {
+            out.mistake(&format!("{name} has no value: it wants {}", row.wants));
+            None
+        })?,
+    };
+    Some((row.key, value))
+}
+
+#[cfg(test)]
+mod tests {
+    use super::*;
+
+    #[test]
+    fn every_option_has_its_row() {
+        for (at, row) in OPTIONS.iter().enumerate() {
+            assert!(option(row.key).name == row.name && OPTIONS[..at].iter().all(|other| other.name != row.name), "{}", row.name);
+            assert!(COMMANDS.iter().any(|command| command.options.contains(&row.key)), "no command has {}", row.name);
+        }
+        for key in COMMANDS.iter().flat_map(|command| command.options) {
+            assert!(option(*key).key == *key);
+        }
+    }
+}

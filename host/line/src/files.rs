@@ -1,0 +1,122 @@
+//! Files: read whole, from standard input too, and written so that a name never holds half of something. What goes wrong comes back as one line that
+//! says what would be right.
+use std::ffi::{OsStr, OsString};
+use std::fs::{self, File, OpenOptions};
+use std::io::{self, ErrorKind, Read, Write};
+use std::path::{Path, PathBuf};
+use std::process;
+
+/// A name as it is printed: what would move a terminal's cursor, and bytes that are no text, show as `?`.
+pub fn shown(name: &OsStr) -> String {
+    name.to_string_lossy().chars().map(|c| if c.is_control() || c == char::REPLACEMENT_CHARACTER { '?' } else { c }).collect()
+}
+
+pub fn is_standard(name: &OsStr) -> bool {
+    name == "-"
+}
+
+/// All bytes of a file, or of standard input where the name is `-`.
+pub fn read(name: &OsStr) -> Result<Vec<u8>, String> {
+    let got = if is_standard(name) {
+        let mut bytes = Vec::new();
+        io::stdin().lock().read_to_end(&mut bytes).map(|_| bytes)
+    } else {
+        fs::read(name)
+    };
+    got.map_err(|error| unread(name, &error))
+}
+
+fn unread(name: &OsStr, error: &io::Error) -> String {
+    let name = if is_standard(name) { String::from("standard input") } else { shown(name) };
+    match error.kind() {
+        ErrorKind::NotFound => format!("{name}: there is no such file: name one that is there, or - for standard input"),
+        ErrorKind::IsADirectory => format!("{name}: this is a folder: name a file in it"),
+        ErrorKind::PermissionDenied => format!("{name}: you may not read it: have its owner allow it, or name another file"),
+        kind => format!("{name}: it cannot be read ({kind}): name another file"),
+    }
+}
+
+fn unwritten(name: &OsStr, error: &io::Error) -> String {
+    let (file, folder) = (shown(name), shown(folder_of(Path::new(name)).as_os_str()));
+    match error.kind() {
+        ErrorKind::NotFound => format!("{file}: there is no folder {folder}: make it, or name a file in another"),
+        ErrorKind::NotADirectory => format!("{file}: {folder} is no folder: name a file in a folder"),
+        ErrorKind::IsADirectory => format!("{file}: this is a folder: name a file in it"),
+        ErrorKind::PermissionDenied => {
+            format!("{file}: you may not write in {folder}: have its owner allow it, or name a file in another folder")
+        }
+        ErrorKind::StorageFull => format!("{file}: the disk is full: make room, or name a file on another"),
+        kind => format!("{file}: it cannot be written ({kind}): name another file"),
+    }
+}
+
+fn folder_of(path: &Path) -> &Path {
+    path.parent().filter(|folder| !folder.as_os_str().is_empty()).unwrap_or(Path::new("."))
+}
+
+/// A file to be written: what is to stand there is first written beside it, and takes its place at once when it is whole. A device or a pipe has no
+/// place to be taken, and is written as it is. It is opened before a run, so that a name that cannot be written is told before anything is done.
+pub struct Sink {
+    name: OsString,
+    file: File,
+    place: Option<Place>,
+}
+
+struct Place {
+    beside: PathBuf,
+    real: PathBuf,
+}
+
+impl Sink {
+    pub fn open(name: &OsStr) -> Result<Sink, String> {
+        Sink::opened(name).map_err(|error| unwritten(name, &error))
+    }
+
+    fn opened(name: &OsStr) -> io::Result<Sink> {
+        let owned = name.to_os_string();
+        match fs::metadata(name) {
+            Ok(is) if is.is_dir() => Err(ErrorKind::IsADirectory.into()),
+            Ok(is) if is.is_file() => {
+                // The file that a link leads to is the one to be replaced, and it keeps who may read it.
+                let real = fs::canonicalize(name)?;
+                let sink = Sink::beside(owned, real)?;
+                sink.file.set_permissions(is.permissions())?;
+                Ok(sink)
+            }
+            Ok(_) => Ok(Sink { name: owned, file: OpenOptions::new().write(true).open(name)?, place: None }),
+            Err(_) => Sink::beside(owned, PathBuf::from(name)),
+        }
+    }
+
+    fn beside(name: OsString, real: PathBuf) -> io::Result<Sink> {
+        let end = real.file_name().ok_or(ErrorKind::IsADirectory)?;
+        let mut own = OsString::from(".");
+        own.push(end);
+        own.push(format!(".{}", process::id()));
+        let beside = folder_of(&real).join(own);
+        let file = OpenOptions::new().write(true).create_new(true).open(&beside)?;
+        Ok(Sink { name, file, place: Some(Place { beside, real }) })
+    }
+
+    /// Writes all of it and puts it into its place.
+    pub fn keep(mut self, bytes: &[u8]) -> Result<(), String> {
+        let kept = self.file.write_all(bytes).and_then(|()| match &self.place {
+            Some(place) => fs::rename(&place.beside, &place.real),
+            None => Ok(()),
+        });
+        if kept.is_ok() {
+            self.place = None;
+        }
+        kept.map_err(|error| unwritten(&self.name, &error))
+    }
+}
+
+/// What was not put into its place is not left beside it.
+impl Drop for Sink {
+    fn drop(&mut self) {
+        if let Some(place) = &self.place {
+            // It was made by this run; where it cannot be removed there is nothing better to do.
+            let _ = fs::remove_file(&place.beside);
+        }
+    }
+}

@@ -1,0 +1,33 @@
+//! The command line of Pasetone, over the Rust host. `../../pasetone` builds and runs it. Exit status: 0 done; 1 refused, stopped or damaged; 2 bad words
+//! or files. A new command is one file here and one row in command.rs.
+#![forbid(unsafe_code)]
+
+mod answer;
+mod command;
+mod files;
+mod help;
+mod hop;
+mod json;
+mod numbers;
+mod out;
+mod reach;
+mod record;
+mod rows;
+mod run;
+mod sections;
+mod show;
+
+use command::Asked;
+use out::Out;
+use std::process::ExitCode;
+
+fn main() -> ExitCode {
+    let mut out = Out::standard();
+    match command::asked(std::env::args_os().skip(1).collect(), &mut out) {
+        Some(Asked::Help(page)) => help::page(page, &mut out),
+        Some(Asked::Version) => help::version(&mut out),
+        Some(Asked::Run(command, given)) => (command.run)(&given, &mut out),
+        None => {}
+    }
+    out.finish()
+}

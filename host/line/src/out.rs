@@ -1,0 +1,95 @@
+//! The one place that prints: standard output, mistakes, colours, and the exit status that they lead to.
+use std::env;
+use std::io::{self, BufWriter, ErrorKind, IsTerminal, Stdout, Write};
+use std::process::ExitCode;
+
+/// How the program ends, the worst last.
+#[derive(Clone, Copy, PartialEq, Eq, PartialOrd, Ord)]
+pub enum End {
+    Done = 0,
+    /// A call was refused or stopped, or a section is damaged.
+    Refused = 1,
+    /// Words or files are at fault.
+    Mistaken = 2,
+}
+
+pub struct Out {
+    to: BufWriter<Stdout>,
+    /// The first failure of standard output; behind it nothing more is written there.
+    fault: Option<ErrorKind>,
+    colour: bool,
+    end: End,
+}
+
+impl Out {
+    pub fn standard() -> Out {
+        let plain =
+            env::var_os("NO_COLOR").is_some_and(|value| !value.is_empty()) || env::var_os("TERM").is_some_and(|term| term == "dumb");
+        let colour = !plain && io::stdout().is_terminal();
+        Out { to: BufWriter::with_capacity(1 << 16, io::stdout()), fault: None, colour, end: End::Done }
+    }
+
+    /// A failure to write is kept for the end, so that a run goes on to its files whatever becomes of what it prints.
+    pub fn text(&mut self, text: &str) {
+        if self.fault.is_none() {
+            self.fault = self.to.write_all(text.as_bytes()).err().map(|error| error.kind());
+        }
+    }
+
+    pub fn line(&mut self, text: &str) {
+        self.text(text);
+        self.text("\n");
+    }
+
+    /// Whether nobody takes what is printed any more: a long listing may end then.
+    pub fn is_closed(&self) -> bool {
+        self.fault.is_some()
+    }
+
+    /// A word that stands out on a terminal. It is a word all the same, so nothing is told by the colour alone.
+    pub fn loud(&self, word: &str) -> String {
+        if self.colour { format!("\x1b[1;31m{word}\x1b[0m") } else { word.to_string() }
+    }
+
+    /// One line to standard error, behind what was printed so far.
+    pub fn tell(&mut self, end: End, text: &str) {
+        if self.fault.is_none() {
+            self.fault = self.to.flush().err().map(|error| error.kind());
+        }
+        self.end = self.end.max(end);
+        // Where standard error cannot be written either, the exit status is all that is left to tell it.
+        let _ = writeln!(io::stderr(), "pasetone: {text}");
+    }
+
+    pub fn mistake(&mut self, text: &str) {
+        self.tell(End::Mistaken, text);
+    }
+
+    /// The exit status, without a line.
+    pub fn ends(&mut self, end: End) {
+        self.end = self.end.max(end);
+    }
+
+    pub fn is_mistaken(&self) -> bool {
+        self.end == End::Mistaken
+    }
+
+    /// A reader that has gone, as `head` does, is no mistake.
+    pub fn finish(mut self) -> ExitCode {
+        let fault = self.fault.or_else(|| self.to.flush().err().map(|error| error.kind()));
+        self.fault = fault;
+        match fault {
+            None | Some(ErrorKind::BrokenPipe) => {}
+            Some(ErrorKind::StorageFull) => {
+                self.mistake("the disk is full, and what was printed is not whole: make room, or print elsewhere")
+            }
+            Some(kind) => {
+                self.mistake(&format!("standard output cannot be written ({kind}), and what was printed is not whole: print elsewhere"))
+            }
+        }
+        let end = self.end;
+        // What is left in the buffer cannot be written: dropped with the buffer it would be tried again.
+        let _ = self.to.into_parts();
+        ExitCode::from(end as u8)
+    }
+}

@@ -1,0 +1,166 @@
+//! Which frequencies a tuner reaches, by the library's own answers.
+//!
+//! The divider of the oscillator changes at lo = 1,770,000,000 / m, m from 64 down to 2, and none is left from 1,800,000,000 on; lo is the tuner's Hz plus
+//! the IF. Between two such borders N grows with lo, and a bound on N cuts off one end of the stretch at most (both ends at once would want a reference
+//! above and below the same Hz). So where the two ends answer alike the stretch does, and where they do not, halving finds the one border.
+use pasetone::{Board, Error, Script, Tuner};
+use std::ops::RangeInclusive;
+
+const OSCILLATOR: u64 = 1_770_000_000;
+const PAST: u64 = 1_800_000_000;
+/// Where the V4 changes from its upconverter to its tuner alone.
+const UPCONVERTED: u64 = 28_800_000;
+
+type Stretch = RangeInclusive<u64>;
+
+/// The frequencies that this board reaches with this tuner, ascending, none touching the next.
+pub fn reached(tuner: &Tuner, board: Board) -> Vec<Stretch> {
+    let lo: Vec<u64> = [64, 32, 16, 8, 4, 2].iter().map(|m| OSCILLATOR.div_ceil(*m)).chain([PAST]).collect();
+    let mut found = Vec::new();
+    for first in [0, UPCONVERTED] {
+        let last = if first == 0 { UPCONVERTED - 1 } else { u64::MAX };
+        let shift = board.plan_tuning(first).hz - first;
+        for border in lo.windows(2) {
+            // In Hz as they are asked for. An IF above lo leaves nothing, and 0 Hz for the tuner is none.
+            let asked = |lo: u64| lo.checked_sub(tuner.if_freq()).and_then(|hz| hz.checked_sub(shift));
+            let low = asked(border[0]).unwrap_or(0).max(first).max(u64::from(shift == 0));
+            let high = asked(border[1] - 1).unwrap_or(0).min(last);
+            if asked(border[1] - 1).is_some() && low <= high {
+                found.extend(stretch(low, high, |hz| is_reached(tuner, board, hz)));
+            }
+        }
+    }
+    joined(found)
+}
+
+/// The reached frequencies between two, of which one end at most is cut off.
+fn stretch(low: u64, high: u64, reached: impl Fn(u64) -> bool) -> Option<Stretch> {
+    match (reached(low), reached(high)) {
+        (true, true) => Some(low..=high),
+        (false, false) => None,
+        (true, false) => Some(low..=border(low, high, reached)),
+        (false, true) => Some(border(high, low, reached)..=high),
+    }
+}
+
+/// The last reached one on the way from `inside`, which is, to `outside`, which is not.
+fn border(mut inside: u64, mut outside: u64, reached: impl Fn(u64) -> bool) -> u64 {
+    while inside.abs_diff(outside) > 1 {
+        let middle = inside.midpoint(outside);
+        if reached(middle) {
+            inside = middle;
+        } else {
+            outside = middle;
+        }
+    }
+    inside
+}
+
+pub fn is_reached(tuner: &Tuner, board: Board, hz: u64) -> bool {
+    tuner.clone().set_frequency(board.plan_tuning(hz).hz, &Script::all_done()).result != Err(Error::Frequency)
+}
+
+fn joined(mut found: Vec<Stretch>) -> Vec<Stretch> {
+    found.sort_by_key(|stretch| *stretch.start());
+    let mut whole: Vec<Stretch> = Vec::new();
+    for next in found {
+        match whole.last_mut() {
+            Some(last) if next.start() - last.end() <= 1 => *last = *last.start()..=*next.end(),
+            _ => whole.push(next),
+        }
+    }
+    whole
+}
+
+/// The corrections that a tuner takes, by the library's own answers: no correction is one of them.
+pub fn corrections(tuner: &Tuner) -> (i32, i32) {
+    let is_taken = |ppm: i64| i32::try_from(ppm).is_ok_and(|ppm| tuner.clone().set_ppm(ppm).is_ok());
+    let last = |far: i64| {
+        let (mut inside, mut outside) = (0, far);
+        while (outside - inside).abs() > 1 {
+            let middle = (inside + outside) / 2;
+            if is_taken(middle) { inside = middle } else { outside = middle }
+        }
+        inside as i32
+    };
+    (last(i64::from(i32::MIN) - 1), last(i64::from(i32::MAX) + 1))
+}
+
+#[cfg(test)]
+mod tests {
+    use super::*;
+    use pasetone::TunerKind;
+
+    fn tuner(kind: TunerKind, reference: u32) -> Tuner {
+        Tuner::new(kind, 0x74, reference).unwrap()
+    }
+
+    /// The borders by document 01's rule: lo from 27,656,250 below 1,800,000,000, here with the IF of a fresh record.
+    #[test]
+    fn usual_reference() {
+        for kind in [TunerKind::R828d, TunerKind::R820t] {
+            assert_eq!(reached(&tuner(kind, 28_800_000), Board::Generic), [25_356_250..=1_797_699_999]);
+            assert_eq!(reached(&tuner(kind, 28_800_000), Board::V4), [0..=1_797_699_999]);
+        }
+    }
+
+    #[test]
+    fn another_if() {
+        let mut tuner = tuner(TunerKind::R828d, 28_800_000);
+        tuner.set_if_freq(0, &Script::all_done()).result.unwrap();
+        assert_eq!(reached(&tuner, Board::Generic), [27_656_250..=1_799_999_999]);
+        tuner.set_if_freq(27_656_250, &Script::all_done()).result.unwrap();
+        assert_eq!(reached(&tuner, Board::Generic), [1..=1_772_343_749]);
+        tuner.set_if_freq(1_800_000_000, &Script::all_done()).result.unwrap();
+        assert_eq!(reached(&tuner, Board::Generic), []);
+        tuner.set_if_freq(u64::MAX, &Script::all_done()).result.unwrap();
+        assert_eq!(reached(&tuner, Board::V4), []);
+    }
+
+    /// N = lo * m / 2R to 63: at 14,400,000 Hz lo * m is below 64 * 28,800,000 = 1,843,200,000, so each divider keeps the low end of its stretch.
+    #[test]
+    fn low_reference() {
+        let tuner = tuner(TunerKind::R820t, 14_400_000);
+        let wanted: Vec<Stretch> =
+            [64, 32, 16, 8, 4, 2].iter().map(|m| OSCILLATOR.div_ceil(*m) - 2_300_000..=(1_843_200_000 - 1) / m - 2_300_000).collect();
+        assert_eq!(reached(&tuner, Board::Generic), wanted);
+        assert_eq!(wanted[0], 25_356_250..=26_499_999);
+        assert_eq!(reached(&super::tests::tuner(TunerKind::R820t, 1), Board::V4), []);
+    }
+
+    /// Each border holds: the library takes it, and refuses what stands beside it.
+    #[test]
+    fn borders_hold() {
+        for (kind, reference) in
+            [(TunerKind::R820t, 14_400_000), (TunerKind::R828d, 7_000_000), (TunerKind::R828d, 13_950_000), (TunerKind::R820t, 28_800_000)]
+        {
+            for board in [Board::Generic, Board::V4] {
+                let tuner = tuner(kind, reference);
+                for stretch in reached(&tuner, board) {
+                    let (low, high) = (*stretch.start(), *stretch.end());
+                    assert!(is_reached(&tuner, board, low) && is_reached(&tuner, board, high) && !is_reached(&tuner, board, high + 1));
+                    assert!(low == 0 || !is_reached(&tuner, board, low - 1), "{low}");
+                }
+            }
+        }
+    }
+
+    /// What is not in a stretch is refused: one frequency in each 9,973 is asked.
+    #[test]
+    fn nothing_else_is_reached() {
+        for (kind, reference, board) in [(TunerKind::R820t, 14_400_000, Board::V4), (TunerKind::R828d, 7_000_000, Board::Generic)] {
+            let tuner = tuner(kind, reference);
+            let stretches = reached(&tuner, board);
+            for hz in (0..1_900_000_000).step_by(9_973) {
+                assert_eq!(is_reached(&tuner, board, hz), stretches.iter().any(|stretch| stretch.contains(&hz)), "{hz}");
+            }
+        }
+    }
+
+    #[test]
+    fn corrections_to_the_last() {
+        assert_eq!(corrections(&tuner(TunerKind::R828d, 28_800_000)), (-999_999, 148_130_808));
+        assert_eq!(corrections(&tuner(TunerKind::R828d, 1)), (-999_999, i32::MAX));
+        assert_eq!(corrections(&tuner(TunerKind::R828d, u32::MAX)), (-999_999, 0));
+    }
+}

@@ -1,0 +1,47 @@
+//! A kept record: the bytes of the tuner's record, then those of the driver's, and nothing else. Both sizes are the library's.
+use pasetone::{Driver, Tuner};
+
+pub const SIZE: usize = Tuner::SIZE + Driver::SIZE;
+
+/// Reads a kept record; what is wrong with the bytes comes back in words.
+pub fn read(bytes: &[u8]) -> Result<(Tuner, Driver), String> {
+    if bytes.len() != SIZE {
+        let (tuner, driver) = (Tuner::SIZE, Driver::SIZE);
+        return Err(format!(
+            "a record has {SIZE} bytes ({tuner} of the tuner, then {driver} of the driver), and here are {}: give a file that --keep has written",
+            bytes.len()
+        ));
+    }
+    let (tuner, driver) = bytes.split_at(Tuner::SIZE);
+    let none = |whose: &str| format!("its bytes for the {whose} are no record (refusal 1): give a file that --keep has written");
+    Ok((Tuner::from_bytes(tuner).map_err(|_| none("tuner"))?, Driver::from_bytes(driver).map_err(|_| none("driver"))?))
+}
+
+pub fn write(tuner: &Tuner, driver: &Driver) -> Vec<u8> {
+    [&tuner.as_bytes()[..], &driver.as_bytes()[..]].concat()
+}
+
+#[cfg(test)]
+mod tests {
+    use super::*;
+    use pasetone::{Board, TunerKind};
+
+    #[test]
+    fn there_and_back() {
+        let tuner = Tuner::new(TunerKind::R820t, 0x34, 28_800_000).unwrap();
+        let driver = Driver::new(Board::Generic, 28_800_000, -5, 7, 9).unwrap();
+        let bytes = write(&tuner, &driver);
+        assert_eq!(bytes.len(), SIZE);
+        assert_eq!(read(&bytes), Ok((tuner, driver)));
+        for length in [0, 1, Tuner::SIZE, SIZE - 1] {
+            assert!(read(&bytes[..length]).unwrap_err().ends_with(&format!("here are {length}: give a file that --keep has written")));
+        }
+        let spoiled = |at: usize| {
+            let mut bytes = bytes.clone();
+            bytes[at] = 9;
+            read(&bytes).unwrap_err()
+        };
+        assert!(spoiled(0).starts_with("its bytes for the tuner"));
+        assert!(spoiled(Tuner::SIZE).starts_with("its bytes for the driver"));
+    }
+}

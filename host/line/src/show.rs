@@ -1,0 +1,217 @@
+//! `show`: sections of files, in words. A file is read whole, then walked from its end (sections.rs), then printed from its start.
+use crate::command::{Given, Key};
+use crate::files::{self, is_standard, shown};
+use crate::json;
+use crate::out::{End, Out};
+use crate::rows;
+use crate::sections::{Damage, ENTRY, Flaw, Part, TRAILER, Walk, alone};
+use pasetone::Transcript;
+
+pub const MORE: &[&str] = &[
+    "A file holds sections end to end, as --section of hop writes them, and has any size; - is",
+    "standard input. A damaged section is told by its number and bytes, with those of its entries",
+    "that are whole; sections behind it keep their own numbers, and the exit status is 1.",
+];
+
+pub fn run(given: &Given, out: &mut Out) {
+    if given.operands.is_empty() {
+        out.mistake("show wants files of sections, or - for standard input");
+    }
+    if given.operands.iter().filter(|name| is_standard(name)).count() > 1 {
+        out.mistake("standard input can be read once: give - once");
+    }
+    if given.has(Key::Json) && given.has(Key::Quiet) {
+        out.mistake("--json prints and --quiet does not: give one of the two");
+    }
+    if out.is_mistaken() {
+        return;
+    }
+    let mut shown_before = 0;
+    for name in &given.operands {
+        match files::read(name) {
+            Ok(bytes) => {
+                let file = File { name: if is_standard(name) { String::from("standard input") } else { shown(name) }, bytes };
+                file.show(given, shown_before, out);
+                shown_before += 1;
+            }
+            Err(why) => out.mistake(&format!("show {why}")),
+        }
+    }
+    if given.has(Key::Json) {
+        out.line(if shown_before == 0 { "[]" } else { "\n]" });
+    }
+}
+
+struct File {
+    name: String,
+    bytes: Vec<u8>,
+}
+
+/// How far a file has been shown.
+#[derive(Default)]
+struct Count {
+    sections: usize,
+    /// The next step's number; those of damaged entries are passed over.
+    next: usize,
+    steps: usize,
+}
+
+impl File {
+    fn show(&self, given: &Given, before: usize, out: &mut Out) {
+        let walk = Walk::of(&self.bytes);
+        let mut count = Count::default();
+        if given.has(Key::Quiet) {
+            self.parts(&walk, &mut count, &mut |_, _, _, _| {}, out);
+            return;
+        }
+        if given.has(Key::Json) {
+            self.json(&walk, before, out);
+            return;
+        }
+        if given.operands.len() > 1 {
+            out.line(&format!("{}{}:", if before > 0 { "\n" } else { "" }, self.name));
+        }
+        rows::head(out);
+        self.parts(&walk, &mut count, &mut |part, number, count, out| self.rows(part, number, count, out), out);
+        let damaged = if walk.damages() == 0 { String::new() } else { format!("; {} {}", out.loud("DAMAGED:"), walk.damages()) };
+        out.line(&format!("shown: {} sections, {} steps{damaged}", count.sections, count.steps));
+    }
+
+    /// Each part with its number, 0 where it counts as no section, to `each`. Damage is told to standard error as it is met.
+    fn parts(&self, walk: &Walk, count: &mut Count, each: &mut dyn FnMut(&Part, usize, &mut Count, &mut Out), out: &mut Out) {
+        for part in walk.parts() {
+            let counts = !matches!(part, Part::Damaged(Damage { flaw: Flaw::Shapeless { counts: false }, .. }));
+            count.sections += usize::from(counts);
+            let number = if counts { count.sections } else { 0 };
+            if !out.is_closed() {
+                each(&part, number, count, out);
+            }
+            if let Part::Damaged(damage) = part {
+                out.tell(End::Refused, &self.told(damage, number));
+            }
+        }
+    }
+
+    fn rows(&self, part: &Part, number: usize, count: &mut Count, out: &mut Out) {
+        match part {
+            Part::Good { start, end } => self.good_rows(*start, *end, number, count, out),
+            Part::Damaged(damage) => self.damaged_rows(damage, number, count, out),
+        }
+    }
+
+    fn good_rows(&self, start: usize, end: usize, number: usize, count: &mut Count, out: &mut Out) {
+        let label = format!("section {number}");
+        let Ok((_, transcript)) = Transcript::read(&self.bytes[start..end]) else { return };
+        if transcript.is_empty() {
+            rows::other(&label, "no steps", "", out);
+        }
+        for entry in &transcript {
+            rows::step(count.next, &label, &entry, out);
+            count.next += 1;
+        }
+        count.steps += transcript.len();
+    }
+
+    /// The entries that are whole, and what is not, by its bytes.
+    fn damaged_rows(&self, damage: &Damage, number: usize, count: &mut Count, out: &mut Out) {
+        let label = if number == 0 { String::from("no section") } else { format!("section {number}") };
+        for at in 0..damage.entries {
+            let place = damage.start + ENTRY * at;
+            match self.entry(place) {
+                Some(transcript) => {
+                    transcript.iter().for_each(|entry| rows::step(count.next, &label, &entry, out));
+                    count.steps += 1;
+                }
+                None => rows::other(&label, &hex(&self.bytes[place..place + ENTRY]), "DAMAGED", out),
+            }
+            count.next += 1;
+        }
+        let rest = damage.start + ENTRY * damage.entries;
+        match damage.flaw {
+            Flaw::Entry(_) => {}
+            Flaw::Trailer => rows::other(&label, &format!("trailer {}", hex(&self.bytes[rest..damage.end])), "DAMAGED", out),
+            Flaw::Shapeless { .. } => rows::other(&label, &span(rest, damage.end), "DAMAGED", out),
+        }
+    }
+
+    fn entry(&self, at: usize) -> Option<Transcript> {
+        let section = alone(self.bytes.get(at..at + ENTRY)?);
+        Transcript::read(&section).ok().map(|(_, transcript)| transcript)
+    }
+
+    /// What is wrong with a damaged part, and what would be right.
+    fn told(&self, damage: &Damage, number: usize) -> String {
+        let (name, bytes, entries) = (&self.name, span(damage.start, damage.end), damage.entries);
+        let named = format!("{name}: section {number} ({bytes}) is damaged");
+        match damage.flaw {
+            Flaw::Entry(at) => {
+                let place = damage.start + ENTRY * at;
+                format!("{named}: its entry {at}, at byte {place}, is none that include/pasetone.h allows")
+            }
+            Flaw::Trailer => {
+                let place = damage.end - TRAILER;
+                format!("{named}: its trailer, at byte {place}, must be {entries} and {} for its {entries} entries", ENTRY * entries)
+            }
+            Flaw::Shapeless { counts: true } if damage.end == self.bytes.len() => {
+                format!("{named}: {entries} entries are whole, and no trailer ends it")
+            }
+            Flaw::Shapeless { counts: true } => {
+                format!("{named}: no section has so many bytes; it counts as one of {entries} steps, so later numbers may be too low")
+            }
+            Flaw::Shapeless { counts: false } => {
+                let verb = if damage.end - damage.start == 1 { "is" } else { "are" };
+                format!("{name}: {bytes} {verb} of no section, which has 16 bytes for each entry and 8 behind them")
+            }
+        }
+    }
+
+    fn json(&self, walk: &Walk, before: usize, out: &mut Out) {
+        let mut count = Count::default();
+        let mut first = true;
+        let open = if before == 0 { "[\n" } else { ",\n" };
+        out.text(&format!("{open}{{\"file\": {}, \"damaged\": {}, \"sections\": [", json::string(&self.name), walk.damages()));
+        let mut each = |part: &Part, number: usize, count: &mut Count, out: &mut Out| {
+            out.text(if first { "\n" } else { ",\n" });
+            first = false;
+            out.text(&self.part_json(part, number, count));
+        };
+        self.parts(walk, &mut count, &mut each, out);
+        out.text(if first { "]}" } else { "\n]}" });
+    }
+
+    fn part_json(&self, part: &Part, number: usize, count: &mut Count) -> String {
+        let (start, end, entries, flaw) = match part {
+            Part::Good { start, end } => (*start, *end, (end - start - TRAILER) / ENTRY, None),
+            Part::Damaged(damage) => (damage.start, damage.end, damage.entries, Some(self.told(damage, number))),
+        };
+        let mut steps = Vec::new();
+        for at in 0..entries {
+            let place = start + ENTRY * at;
+            let whole = self.entry(place);
+            steps.extend(whole.iter().flat_map(|one| one.iter().map(|entry| rows::step_json(count.next, &entry)).collect::<Vec<_>>()));
+            count.steps += usize::from(whole.is_some());
+            count.next += 1;
+        }
+        let steps = if steps.is_empty() { String::from("[]") } else { format!("[\n{}\n]", steps.join(",\n")) };
+        json::object(&[
+            ("section", json::maybe((number > 0).then_some(number))),
+            ("start", start.to_string()),
+            ("end", end.to_string()),
+            ("damage", json::maybe(flaw.as_deref().map(json::string))),
+            ("steps", steps),
+        ])
+    }
+}
+
+/// From the first to the last byte of a part; one that has none has no last.
+fn span(start: usize, end: usize) -> String {
+    match end - start {
+        0 => format!("no trailer at byte {start}"),
+        1 => format!("byte {start}"),
+        _ => format!("bytes {start} to {}", end - 1),
+    }
+}
+
+fn hex(bytes: &[u8]) -> String {
+    bytes.iter().map(|byte| format!("{byte:02x}")).collect::<Vec<_>>().join(" ")
+}
