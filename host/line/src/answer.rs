@@ -65,21 +65,18 @@ fn to_do(run: &Run, made: &Made, error: Error, hz: u64) -> String {
         Error::Frequency => frequencies(run, hz),
         Error::Rate => String::from("give --rate from 1 to 4294967295"),
         Error::Correction => corrections(run),
-        Error::Outcomes => format!(
-            "{call} may need {} outcomes, {} are left: give --outcomes a file that is {} bytes longer",
-            need.outcomes,
-            left.outcomes,
-            need.outcomes.saturating_sub(left.outcomes)
-        ),
-        Error::Replies => format!(
-            "{call} may need {} replies, {} are left: give --replies a file that is {} bytes longer",
-            need.replies,
-            left.replies,
-            need.replies.saturating_sub(left.replies)
-        ),
+        Error::Outcomes => longer(call, "outcomes", need.outcomes, left.outcomes),
+        Error::Replies => longer(call, "replies", need.replies, left.replies),
         Error::Step { .. } => String::from("keep the record (--keep FILE); then --record FILE --initialise sends every register again"),
         other => other.to_string(),
     }
+}
+
+/// A script that is too short for a call.
+fn longer(call: &str, what: &str, need: usize, left: usize) -> String {
+    let short = need.saturating_sub(left);
+    let bytes = if short == 1 { "byte" } else { "bytes" };
+    format!("{call} may need {need} {what}, {left} are left: give --{what} a file that is {short} {bytes} longer")
 }
 
 /// The frequencies next to the one asked for, below and above it, that can be reached.

@@ -16,6 +16,7 @@ pub struct Command {
     /// The lines of its own page.
     pub more: &'static [&'static str],
     pub options: &'static [Key],
+    /// Does nothing where `out` is mistaken already, but for reading its words.
     pub run: fn(&Given, &mut Out),
 }
 
@@ -108,7 +109,7 @@ pub const OPTIONS: &[Opt] = &[
     row(Key::Replies, "--replies", Some("FILE"), A_SCRIPT, "what is read: 3 bytes for the board's path, 35 for the tuning", "a lock"),
     row(Key::Record, "--record", Some("FILE"), A_SCRIPT, "the record to start from, as --keep has left it", "a fresh one"),
     row(Key::Keep, "--keep", Some("FILE"), A_FILE, "the record is written there at the end, also of a stopped run", "none"),
-    row(Key::Section, "--section", Some("FILE"), A_FILE, "the sections, end to end, are written there; a file there is lost", "none"),
+    row(Key::Section, "--section", Some("FILE"), A_FILE, "the sections, end to end, are written there; a file there is replaced", "none"),
     row(Key::Json, "--json", None, "", "the same as JSON in place of the table", ""),
     row(Key::Quiet, "--quiet", None, "", "print nothing but what went wrong; the exit status tells the rest", ""),
 ];
@@ -163,7 +164,7 @@ impl Given {
     }
 }
 
-/// Reads the words. `None` where they are at fault, which has then been told, one line for each mistake.
+/// Reads the words. `None` where there is no command, which has then been told.
 pub fn asked(words: Vec<OsString>, out: &mut Out) -> Option<Asked> {
     let mut words = words.into_iter();
     let Some(first) = words.next() else {
@@ -179,7 +180,7 @@ pub fn asked(words: Vec<OsString>, out: &mut Out) -> Option<Asked> {
         out.mistake(&format!("there is no command `{}`: give one of those that `./pasetone --help` lists", shown(&first)));
         return None;
     };
-    behind(command, words.collect(), out)
+    Some(behind(command, words.collect(), out))
 }
 
 /// The command of a name.
@@ -187,14 +188,15 @@ pub fn named(name: &OsStr) -> Option<&'static Command> {
     COMMANDS.iter().find(|command| name == command.name)
 }
 
-/// The words behind a command. Help and version come before any mistake in other words.
-fn behind(command: &'static Command, words: Vec<OsString>, out: &mut Out) -> Option<Asked> {
+/// The words behind a command. Help and version come before any mistake in other words. Where an option is at fault the command still reads its own words,
+/// so that each mistake is told, and does no more.
+fn behind(command: &'static Command, words: Vec<OsString>, out: &mut Out) -> Asked {
     let options = || words.iter().take_while(|word| *word != "--");
     if options().any(|word| word == "-h" || word == "--help") {
-        return Some(Asked::Help(Some(command)));
+        return Asked::Help(Some(command));
     }
     if options().any(|word| word == "--version") {
-        return Some(Asked::Version);
+        return Asked::Version;
     }
     let mut given = Given { operands: Vec::new(), options: Vec::new() };
     let mut words = words.into_iter();
@@ -207,7 +209,7 @@ fn behind(command: &'static Command, words: Vec<OsString>, out: &mut Out) -> Opt
             given.options.push(read);
         }
     }
-    (!out.is_mistaken()).then_some(Asked::Run(command, given))
+    Asked::Run(command, given)
 }
 
 /// An option: `--name value`, `--name=value`, or `--name` where it has no value.

@@ -32,7 +32,7 @@ fn unread(name: &OsStr, error: &io::Error) -> String {
         ErrorKind::NotFound => format!("{name}: there is no such file: name one that is there, or - for standard input"),
         ErrorKind::IsADirectory => format!("{name}: this is a folder: name a file in it"),
         ErrorKind::PermissionDenied => format!("{name}: you may not read it: have its owner allow it, or name another file"),
-        kind => format!("{name}: it cannot be read ({kind}): name another file"),
+        _ => format!("{name}: it cannot be read ({error}): name another file"),
     }
 }
 
@@ -46,7 +46,7 @@ fn unwritten(name: &OsStr, error: &io::Error) -> String {
             format!("{file}: you may not write in {folder}: have its owner allow it, or name a file in another folder")
         }
         ErrorKind::StorageFull => format!("{file}: the disk is full: make room, or name a file on another"),
-        kind => format!("{file}: it cannot be written ({kind}): name another file"),
+        _ => format!("{file}: it cannot be written ({error}): name another file"),
     }
 }
 

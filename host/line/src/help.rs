@@ -6,6 +6,7 @@ use crate::out::Out;
 /// `help` and `help COMMAND`.
 pub fn run(given: &Given, out: &mut Out) {
     match given.operands.as_slice() {
+        _ if out.is_mistaken() => {}
         [] => page(None, out),
         [name] => match named(name) {
             Some(command) => page(Some(command), out),

@@ -36,7 +36,7 @@ pub const OPTIONS: &[Key] = &[
     Key::Quiet,
 ];
 
-/// A script is as long as today's longest file of one, where none is given: longer than any run.
+/// Where no file of the script is given: more than any run takes.
 const SCRIPT: usize = 4096;
 
 /// The words, read: everything that can be wrong with them has been told.
@@ -53,12 +53,12 @@ struct Request {
 pub fn run(given: &Given, out: &mut Out) {
     let Some(request) = request(given, out).filter(|_| !out.is_mistaken()) else { return };
     let Request { asked, start, outcomes, replies, fail, section, keep } = request;
-    let head = Head::of(&start, &asked);
+    let head = Head::of(&start);
     let plan = head.board.plan_tuning(asked.hz);
     let run = Run::of(start, &asked, &plan, outcomes, replies);
     let told = answer::of(&run, &plan, asked.hz);
-    let report = Report { head, asked, plan, run, told, unreached: None };
-    let report = Report { unreached: fail.filter(|step| report.run.steps <= *step), ..report };
+    let unreached = fail.filter(|step| run.steps <= *step);
+    let report = Report { head, asked, plan, run, told, unreached };
     if given.has(Key::Json) {
         report.json(out);
     } else if !given.has(Key::Quiet) {
@@ -208,7 +208,7 @@ struct Head {
 }
 
 impl Head {
-    fn of(start: &Start, _asked: &Asked) -> Head {
+    fn of(start: &Start) -> Head {
         match start {
             Start::Fresh { kind, address, board, reference } => {
                 Head { kind: *kind, address: *address, board: *board, reference: *reference, kept: None }

@@ -2,7 +2,8 @@
 //!
 //! - Where no section ends, the next good one with entries is looked for byte by byte towards the start. A section of no entries is 8 zero bytes, which
 //!   entries hold too, so none is taken for one there.
-//! - What lies between is damaged. A trailer that is one (a count, and 16 times it) with room for its entries says where a damaged section begins.
+//! - What lies between is damaged. A trailer that is one (a count, and 16 times it) with room for its entries says where a damaged section begins: it is
+//!   looked for at the end of the damaged bytes, then behind their start, as far as that entries before it are as many as it says.
 //!   Without it, bytes that have a section's length and begin with an entry are one section whose trailer is damaged. Others are told by their bytes:
 //!   counted as one section if one with entries could stand there, and as none if not.
 use pasetone::Transcript;
@@ -70,13 +71,20 @@ impl Walk {
         }
         while let Some(entries) = told(bytes, from, end) {
             let start = end - TRAILER - ENTRY * entries;
-            let first = (0..entries).find(|at| !is_entry(bytes, start + ENTRY * at)).unwrap_or(0);
-            self.push(Damage { start, end, entries, flaw: Flaw::Entry(first) });
+            self.push(told_damage(bytes, start, end, entries));
             end = start;
         }
-        if from < end {
-            self.push(untold(bytes, from, end));
+        let mut front = Vec::new();
+        let mut start = from;
+        while let Some(entries) = told_from_its_start(bytes, start, end) {
+            let next = start + ENTRY * entries + TRAILER;
+            front.push(told_damage(bytes, start, next, entries));
+            start = next;
         }
+        if start < end {
+            self.push(untold(bytes, start, end));
+        }
+        front.into_iter().rev().for_each(|damage| self.push(damage));
         from
     }
 
@@ -122,6 +130,20 @@ fn told(bytes: &[u8], from: usize, end: usize) -> Option<usize> {
     (count > 0 && count <= MOST && distance == ENTRY * count && distance <= room).then_some(count)
 }
 
+/// How many entries stand from `from` on before a trailer that tells just these, where it ends before `end`.
+fn told_from_its_start(bytes: &[u8], from: usize, end: usize) -> Option<usize> {
+    (1..=MOST).take_while(|entries| from + ENTRY * entries + TRAILER <= end).find(|entries| {
+        let end = from + ENTRY * entries + TRAILER;
+        told(bytes, from, end) == Some(*entries)
+    })
+}
+
+/// A damaged section whose trailer is whole.
+fn told_damage(bytes: &[u8], start: usize, end: usize, entries: usize) -> Damage {
+    let first = (0..entries).find(|at| !is_entry(bytes, start + ENTRY * at)).unwrap_or(0);
+    Damage { start, end, entries, flaw: Flaw::Entry(first) }
+}
+
 /// Whether a good section with entries ends there.
 fn is_good(bytes: &[u8], end: usize) -> bool {
     told(bytes, 0, end).is_some() && Transcript::start(&bytes[..end]).is_ok()
@@ -146,5 +168,7 @@ fn untold(bytes: &[u8], start: usize, end: usize) -> Damage {
         return Damage { start, end, entries, flaw: Flaw::Trailer };
     }
     let fitting = (0..length / ENTRY).take_while(|at| is_entry(bytes, start + ENTRY * at)).count();
-    Damage { start, end, entries: fitting, flaw: Flaw::Shapeless { counts: length >= ENTRY + TRAILER } }
+    // A whole file without one entry is no file of sections.
+    let is_other = fitting == 0 && length == bytes.len();
+    Damage { start, end, entries: fitting, flaw: Flaw::Shapeless { counts: length >= ENTRY + TRAILER && !is_other } }
 }

@@ -149,14 +149,17 @@ impl File {
                 format!("{named}: its entry {at}, at byte {place}, is none that include/pasetone.h allows")
             }
             Flaw::Trailer => {
-                let place = damage.end - TRAILER;
-                format!("{named}: its trailer, at byte {place}, must be {entries} and {} for its {entries} entries", ENTRY * entries)
+                let (place, distance) = (damage.end - TRAILER, ENTRY * entries);
+                format!("{named}: its last 8 bytes, at byte {place}, are no trailer ({entries} and {distance} would be one)")
             }
             Flaw::Shapeless { counts: true } if damage.end == self.bytes.len() => {
                 format!("{named}: {entries} entries are whole, and no trailer ends it")
             }
             Flaw::Shapeless { counts: true } => {
                 format!("{named}: no section has so many bytes; it counts as one of {entries} steps, so later numbers may be too low")
+            }
+            Flaw::Shapeless { counts: false } if damage.end - damage.start == self.bytes.len() => {
+                format!("{name}: it holds no section: give a file that --section of hop has written")
             }
             Flaw::Shapeless { counts: false } => {
                 let verb = if damage.end - damage.start == 1 { "is" } else { "are" };
