@@ -14,12 +14,19 @@ pub struct Told {
     pub step: Option<(usize, usize)>,
 }
 
-/// The answer of the run's last call; `hz` is what was asked for.
-pub fn of(run: &Run, plan: &Plan, hz: u64) -> Told {
+/// What the words have asked for, as far as an advice hangs on it.
+pub struct Wish {
+    pub hz: u64,
+    /// The file of --keep.
+    pub keep: Option<String>,
+}
+
+/// The answer of the run's last call.
+pub fn of(run: &Run, plan: &Plan, wish: &Wish) -> Told {
     match run.made.last() {
         Some(made) => match made.result {
             Ok(()) => done(run, plan),
-            Err(error) => refused(run, made, error, hz),
+            Err(error) => refused(run, made, error, wish),
         },
         // A run makes the notch's call at least.
         None => done(run, plan),
@@ -32,7 +39,7 @@ fn done(run: &Run, plan: &Plan) -> Told {
     Told { number: 0, word: "done", text, to_do: None, step: None }
 }
 
-fn refused(run: &Run, made: &Made, error: Error, hz: u64) -> Told {
+fn refused(run: &Run, made: &Made, error: Error, wish: &Wish) -> Told {
     let call = made.call.name();
     let (text, step) = match error {
         Error::Step { index } => {
@@ -41,7 +48,7 @@ fn refused(run: &Run, made: &Made, error: Error, hz: u64) -> Told {
         }
         _ => (format!("{}; refused by {call}", words(error)), None),
     };
-    Told { number: error.number(), word: error.word(), text, to_do: Some(to_do(run, made, error, hz)), step }
+    Told { number: error.number(), word: error.word(), text, to_do: Some(to_do(run, made, error, wish)), step }
 }
 
 fn words(error: Error) -> &'static str {
@@ -58,16 +65,19 @@ fn words(error: Error) -> &'static str {
     }
 }
 
-fn to_do(run: &Run, made: &Made, error: Error, hz: u64) -> String {
+fn to_do(run: &Run, made: &Made, error: Error, wish: &Wish) -> String {
     let (call, need, left) = (made.call.name(), made.call.need(), made.left);
     match error {
         Error::Setup => String::from("give --reference from 1 to 4294967295 Hz"),
-        Error::Frequency => frequencies(run, hz),
+        Error::Frequency => frequencies(run, wish.hz),
         Error::Rate => String::from("give --rate from 1 to 4294967295"),
         Error::Correction => corrections(run),
         Error::Outcomes => longer(call, "outcomes", need.outcomes, left.outcomes),
         Error::Replies => longer(call, "replies", need.replies, left.replies),
-        Error::Step { .. } => String::from("keep the record (--keep FILE); then --record FILE --initialise sends every register again"),
+        Error::Step { .. } => match &wish.keep {
+            Some(file) => format!("--record {file} --initialise starts from the kept record, and sends every register again"),
+            None => String::from("keep the record (--keep FILE); then --record FILE --initialise sends every register again"),
+        },
         other => other.to_string(),
     }
 }

@@ -1,5 +1,5 @@
 //! `hop`: the calls that lead to a frequency, over a fresh record or a kept one, with a script in place of a receiver.
-use crate::answer::{self, Told};
+use crate::answer::{self, Told, Wish};
 use crate::command::{Given, Key};
 use crate::files::{self, Sink, is_standard, shown};
 use crate::out::{End, Out};
@@ -56,7 +56,8 @@ pub fn run(given: &Given, out: &mut Out) {
     let head = Head::of(&start);
     let plan = head.board.plan_tuning(asked.hz);
     let run = Run::of(start, &asked, &plan, outcomes, replies);
-    let told = answer::of(&run, &plan, asked.hz);
+    let wish = Wish { hz: asked.hz, keep: given.word(Key::Keep).map(shown) };
+    let told = answer::of(&run, &plan, &wish);
     let unreached = fail.filter(|step| run.steps <= *step);
     let report = Report { head, asked, plan, run, told, unreached };
     if given.has(Key::Json) {

@@ -1,5 +1,5 @@
 //! What this crate adds to the archive: texts, scripts, records as values. On good, bad and empty input.
-use pasetone::{Board, Driver, Entry, EntryKind, Error, InputPath, Script, Transcript, Tuner, TunerKind, gpio};
+use pasetone::{Answer, Board, Driver, Entry, EntryKind, Error, InputPath, Need, Script, Transcript, Tuner, TunerKind, gpio};
 
 fn r828d() -> Tuner {
     Tuner::new(TunerKind::R828d, 0x74, 28_800_000).unwrap()
@@ -30,6 +30,53 @@ fn script_with_a_reply() {
     assert_eq!(Script::new([], []).replying(0, 0), Err(Error::Replies));
     let answer = gpio::set_bit(0, true, &done().replying(0, 0x80).unwrap());
     assert_eq!(answer.transcript.get(1).unwrap().bytes, [0x81]);
+}
+
+/// A call with just what it may need is not refused for want of it; with a byte less it is.
+fn needs<T>(need: Need, call: impl Fn(&Script) -> Answer<T>) {
+    let script = |outcomes, replies| Script::new(vec![0; outcomes], vec![0; replies]);
+    let refused = |script: Script| call(&script).result.err();
+    assert_eq!(refused(script(need.outcomes, need.replies)), None);
+    assert_eq!(refused(script(need.outcomes - 1, need.replies)), Some(Error::Outcomes));
+    if let Some(fewer) = need.replies.checked_sub(1) {
+        assert_eq!(refused(script(need.outcomes, fewer)), Some(Error::Replies));
+    }
+}
+
+#[test]
+fn needs_are_the_librarys() {
+    needs(Need::INITIALIZE, |script| r828d().initialize(script));
+    needs(Need::TUNE, |script| r828d().set_frequency(100_000_000, script));
+    needs(Need::GAIN, |script| r828d().set_gain(29.7, script));
+    needs(Need::GAIN, |script| r828d().set_gain_by_index(3, script));
+    needs(Need::BANDWIDTH, |script| r828d().set_bandwidth(2_048_000, script));
+    needs(Need::IF_FREQ, |script| r828d().set_if_freq(2_300_000, script));
+    needs(Need::INPUT_PATH, |script| r828d().set_input_path(InputPath::Uhf, script));
+    needs(Need::BOARD_PATH, |script| r828d().apply_input_path(InputPath::Uhf, script));
+    needs(Need::RELOAD, |script| r828d().reload(script));
+    let driver = || Driver::new(Board::V4, 28_800_000, 0, 0, 0).unwrap();
+    needs(Need::SAMPLE_RATE, |script| driver().set_sample_rate(&mut r828d(), 2_048_000, script));
+}
+
+#[test]
+fn registers_are_told_one_by_one() {
+    let mut tuner = r828d();
+    tuner.initialize(&done()).result.unwrap();
+    let _ = tuner.set_bandwidth(0, &done().failing(1).unwrap());
+    let all: Vec<u8> = Tuner::registers().collect();
+    assert_eq!((all.len(), all[0], all[26]), (27, 0x05, 0x1f));
+    assert!(all.iter().all(|register| tuner.is_doubtful(*register) == (*register == 0x0a) && tuner.shadow(*register).is_some()));
+    assert!(!tuner.is_doubtful(0x04) && !tuner.is_doubtful(0x20) && tuner.shadow(0x20).is_none());
+}
+
+#[test]
+fn sections_end_to_end_are_walked_from_the_end() {
+    let answer = r828d().set_bandwidth(2_048_000, &done());
+    let two = [answer.transcript.bytes(), answer.transcript.bytes()].concat();
+    assert_eq!((Transcript::start(&two), Transcript::start(&two[..56])), (Ok(56), Ok(0)));
+    assert_eq!(Transcript::start(&two[..111]), Err(Error::Section));
+    assert_eq!(Transcript::read(&two).unwrap().1, answer.transcript);
+    assert_eq!(answer.transcript.get(1).unwrap().words(), "I2C write 0x74: 0x0a <- d8");
 }
 
 #[test]
@@ -147,9 +194,9 @@ fn told<T>(answer: pasetone::Answer<T>) -> (bool, Transcript) {
 
 #[test]
 fn entries_print_as_the_command_line_does() {
-    as_printed(include_str!("../../../crates/hop/tests/expected/default"), None);
-    as_printed(include_str!("../../../crates/hop/tests/expected/fail-write"), Some(60));
-    as_printed(include_str!("../../../crates/hop/tests/expected/fail-open"), Some(0));
+    as_printed(include_str!("../../line/tests/expected/default"), None);
+    as_printed(include_str!("../../line/tests/expected/fail-write"), Some(60));
+    as_printed(include_str!("../../line/tests/expected/fail-open"), Some(0));
 }
 
 #[test]
