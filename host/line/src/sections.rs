@@ -61,21 +61,33 @@ impl Walk {
         walk
     }
 
-    /// No section ends at `end`. Answers where the next good one does.
+    /// No section ends at `end`. Answers where the next good one with entries does.
     fn past_damage(&mut self, bytes: &[u8], end: usize) -> usize {
-        let from = (ENTRY + TRAILER..end).rev().find(|end| is_good(bytes, *end)).unwrap_or(0);
+        let (behind, count) = self.empty_behind(end);
+        // A section that ends within what was read as sections of no entries: these were other zeros.
+        let within = (end + 1..behind).rev().find(|end| is_good(bytes, *end));
+        let from = within.or_else(|| (ENTRY + TRAILER..end).rev().find(|end| is_good(bytes, *end))).unwrap_or(0);
+        // No entry begins with zeros, so behind a section's end they are sections of no entries.
+        let zeros = bytes[from..within.unwrap_or(end)].chunks_exact(TRAILER).take_while(|chunk| *chunk == [0; TRAILER]).count();
+        let start = from + TRAILER * zeros;
         let mut end = end;
-        if told(bytes, from, end).is_none() {
-            // What was read behind as sections of no entries is the zeros of an entry, or of nothing that can be told.
-            end = self.without_empty(end);
+        if within.is_some() || (told(bytes, start, end).is_none() && self.were_zeros(bytes, start, end, behind)) {
+            self.starts.truncate(self.starts.len() - count);
+            end = behind;
         }
-        while let Some(entries) = told(bytes, from, end) {
-            let start = end - TRAILER - ENTRY * entries;
-            self.push(told_damage(bytes, start, end, entries));
-            end = start;
+        self.damaged(bytes, start, end);
+        self.starts.extend((from..start).step_by(TRAILER).rev());
+        from
+    }
+
+    /// The damaged bytes between two good sections, as parts.
+    fn damaged(&mut self, bytes: &[u8], start: usize, mut end: usize) {
+        while let Some(entries) = told(bytes, start, end) {
+            let begin = end - TRAILER - ENTRY * entries;
+            self.push(told_damage(bytes, begin, end, entries));
+            end = begin;
         }
-        let mut front = Vec::new();
-        let mut start = from;
+        let (mut front, mut start) = (Vec::new(), start);
         while let Some(entries) = told_from_its_start(bytes, start, end) {
             let next = start + ENTRY * entries + TRAILER;
             front.push(told_damage(bytes, start, next, entries));
@@ -85,7 +97,6 @@ impl Walk {
             self.push(untold(bytes, start, end));
         }
         front.into_iter().rev().for_each(|damage| self.push(damage));
-        from
     }
 
     fn push(&mut self, damage: Damage) {
@@ -93,17 +104,26 @@ impl Walk {
         self.damages.push(damage);
     }
 
-    /// Takes back the sections of no entries that begin at `end`, one behind the other. Answers where the last of them ends.
-    fn without_empty(&mut self, mut end: usize) -> usize {
-        while self.starts.last() == Some(&end) && self.damages.last().is_none_or(|damage| damage.start != end) {
-            let next = self.starts.iter().rev().nth(1).copied().unwrap_or(self.length);
-            if next - end != TRAILER {
+    /// Where the sections of no entries end that were read from `end` on, one behind the other, and how many they are.
+    fn empty_behind(&self, end: usize) -> (usize, usize) {
+        let (mut behind, mut count) = (end, 0);
+        let mut starts = self.starts.iter().rev().copied().peekable();
+        while starts.next_if_eq(&behind).is_some() && self.damages.last().is_none_or(|damage| damage.start != behind) {
+            let next = starts.peek().copied().unwrap_or(self.length);
+            if next - behind != TRAILER {
                 break;
             }
-            self.starts.pop();
-            end = next;
+            (behind, count) = (next, count + 1);
         }
-        end
+        (behind, count)
+    }
+
+    /// Whether what was read behind damage as sections of no entries is rather the zeros of an entry: the damaged bytes have no section's shape, or the file
+    /// was cut behind an entry that ends in zeros.
+    fn were_zeros(&self, bytes: &[u8], start: usize, end: usize, behind: usize) -> bool {
+        let length = behind - start;
+        let is_cut = behind == self.length && length.is_multiple_of(ENTRY) && fitting(bytes, start, behind) == length / ENTRY;
+        is_cut || !has_shape(bytes, start, end)
     }
 
     pub fn damages(&self) -> usize {
@@ -160,15 +180,121 @@ pub fn alone(entry: &[u8]) -> Vec<u8> {
     [entry, &1u32.to_le_bytes(), &(ENTRY as u32).to_le_bytes()].concat()
 }
 
+/// Whether the bytes are as many as a section has, and begin with an entry.
+fn has_shape(bytes: &[u8], start: usize, end: usize) -> bool {
+    let entries = (end - start).saturating_sub(TRAILER) / ENTRY;
+    entries > 0 && entries <= MOST && end - start == ENTRY * entries + TRAILER && is_entry(bytes, start)
+}
+
+/// How many entries stand one behind the other from `start` on.
+fn fitting(bytes: &[u8], start: usize, end: usize) -> usize {
+    (0..(end - start) / ENTRY).take_while(|at| is_entry(bytes, start + ENTRY * at)).count()
+}
+
 /// Damaged bytes without a trailer that tells where they begin.
 fn untold(bytes: &[u8], start: usize, end: usize) -> Damage {
     let length = end - start;
-    let entries = length.saturating_sub(TRAILER) / ENTRY;
-    if entries > 0 && entries <= MOST && length == ENTRY * entries + TRAILER && is_entry(bytes, start) {
-        return Damage { start, end, entries, flaw: Flaw::Trailer };
+    if has_shape(bytes, start, end) {
+        return Damage { start, end, entries: (length - TRAILER) / ENTRY, flaw: Flaw::Trailer };
     }
-    let fitting = (0..length / ENTRY).take_while(|at| is_entry(bytes, start + ENTRY * at)).count();
+    let entries = fitting(bytes, start, end);
     // A whole file without one entry is no file of sections.
-    let is_other = fitting == 0 && length == bytes.len();
-    Damage { start, end, entries: fitting, flaw: Flaw::Shapeless { counts: length >= ENTRY + TRAILER && !is_other } }
+    let is_other = entries == 0 && length == bytes.len();
+    Damage { start, end, entries, flaw: Flaw::Shapeless { counts: length >= ENTRY + TRAILER && !is_other } }
+}
+
+#[cfg(test)]
+mod tests {
+    use super::*;
+    use pasetone::{Script, Tuner, TunerKind};
+
+    /// The sections of a bandwidth (3 entries), an initialisation (19) and a gain (7), twice, with one of no entries between.
+    fn file() -> Vec<u8> {
+        let (mut tuner, done) = (Tuner::new(TunerKind::R828d, 0x74, 28_800_000).unwrap(), Script::all_done());
+        let three =
+            [tuner.set_bandwidth(2_048_000, &done).transcript, tuner.initialize(&done).transcript, tuner.set_gain(29.7, &done).transcript];
+        let once: Vec<u8> = three.iter().flat_map(|one| one.bytes()).copied().collect();
+        [&once[..], &[0; TRAILER], &once].concat()
+    }
+
+    /// Start and end of each part, whether it counts as a section, and whether it is good. The parts lie one behind the other, from the first byte to the last.
+    fn parts(bytes: &[u8]) -> Vec<(usize, usize, bool, bool)> {
+        let walk = Walk::of(bytes);
+        let mut all = Vec::new();
+        let mut at = 0;
+        for part in walk.parts() {
+            let (start, end, counts, good) = match part {
+                Part::Good { start, end } => (start, end, true, true),
+                Part::Damaged(damage) => (damage.start, damage.end, damage.flaw != Flaw::Shapeless { counts: false }, false),
+            };
+            assert!(start == at && start < end, "{start} {at}");
+            at = end;
+            all.push((start, end, counts, good));
+        }
+        assert_eq!(at, bytes.len());
+        assert_eq!(all.iter().filter(|(.., good)| !good).count(), walk.damages());
+        all
+    }
+
+    #[test]
+    fn whole_file() {
+        let good: Vec<bool> = parts(&file()).iter().map(|part| part.3).collect();
+        assert_eq!(good, [true; 7]);
+        assert_eq!(parts(&[]), []);
+    }
+
+    /// Whatever one byte becomes, every section stands where it stood, and all but its own are good. Only the trailer of no entries can be no section's.
+    #[test]
+    fn one_changed_byte() {
+        let file = file();
+        let whole = parts(&file);
+        let empty = whole.iter().find(|part| part.1 - part.0 == TRAILER).copied().unwrap();
+        for at in (0..file.len()).filter(|at| !(empty.0..empty.1).contains(at)) {
+            for bit in 0..8 {
+                let mut bytes = file.clone();
+                bytes[at] ^= 1 << bit;
+                for (part, was) in parts(&bytes).iter().zip(&whole) {
+                    assert_eq!(part.0..part.1, was.0..was.1, "byte {at}, bit {bit}");
+                    assert!(part.2 && (part.3 || (was.0..was.1).contains(&at)), "byte {at}, bit {bit}");
+                }
+            }
+        }
+    }
+
+    /// A file that was cut has the sections before the cut, and one damaged part at most behind them.
+    #[test]
+    fn every_cut() {
+        let file = file();
+        let whole = parts(&file);
+        for length in 0..file.len() {
+            let before = whole.iter().take_while(|part| part.1 <= length).count();
+            let cut = parts(&file[..length]);
+            assert_eq!(cut[..before], whole[..before], "{length}");
+            assert!(cut.len() == before + usize::from(cut[..before].last().map_or(0, |part| part.1) < length), "{length}");
+            assert!(cut[before..].iter().all(|part| !part.3), "{length}");
+        }
+    }
+
+    /// Bytes changed, lost and added anywhere: the parts still lie one behind the other.
+    #[test]
+    fn any_damage() {
+        let mut seed = 1u64;
+        let mut below = |n: usize| {
+            seed = seed.wrapping_mul(6_364_136_223_846_793_005).wrapping_add(1_442_695_040_888_963_407);
+            (seed >> 33) as usize % n
+        };
+        for _ in 0..20_000 {
+            let mut bytes = file();
+            for _ in 0..1 + below(6) {
+                let at = below(bytes.len());
+                match below(4).min(if bytes.len() > 1 { 3 } else { 0 }) {
+                    0 => bytes[at] = below(256) as u8,
+                    1 => drop(bytes.remove(at)),
+                    2 => bytes.insert(at, below(256) as u8),
+                    _ => bytes.truncate(at + 1),
+                }
+            }
+            parts(&bytes);
+        }
+    }
 }
