@@ -15,15 +15,41 @@ pub fn is_standard(name: &OsStr) -> bool {
     name == "-"
 }
 
-/// All bytes of a file, or of standard input where the name is `-`.
+/// A stream says nothing of its length, and may have no end; a file's bytes are as many as they are.
+const STREAM: u64 = 1 << 30;
+
+/// All bytes of a file, or of standard input where the name is `-`. Of a stream no more than fit in memory without a doubt.
 pub fn read(name: &OsStr) -> Result<Vec<u8>, String> {
-    let got = if is_standard(name) {
+    let (bytes, is_stream) = opened(name, STREAM + 1).map_err(|error| unread(name, &error))?;
+    if is_stream && bytes.len() as u64 > STREAM {
+        let name = if is_standard(name) { String::from("standard input") } else { shown(name) };
+        return Err(format!("{name}: a stream of more than {STREAM} bytes: put it into a file, which may have any size"));
+    }
+    Ok(bytes)
+}
+
+/// The first bytes of a file or of standard input, `most` at most.
+pub fn start(name: &OsStr, most: usize) -> Result<Vec<u8>, String> {
+    let read = |mut from: Box<dyn Read>| {
         let mut bytes = Vec::new();
-        io::stdin().lock().read_to_end(&mut bytes).map(|_| bytes)
-    } else {
-        fs::read(name)
+        from.by_ref().take(most as u64).read_to_end(&mut bytes).map(|_| bytes)
     };
-    got.map_err(|error| unread(name, &error))
+    let from: io::Result<Box<dyn Read>> =
+        if is_standard(name) { Ok(Box::new(io::stdin())) } else { File::open(name).map(|file| Box::new(file) as Box<dyn Read>) };
+    from.and_then(read).map_err(|error| unread(name, &error))
+}
+
+/// A whole file, or as much of a stream; and whether it is one.
+fn opened(name: &OsStr, most: u64) -> io::Result<(Vec<u8>, bool)> {
+    let mut bytes = Vec::new();
+    if is_standard(name) {
+        return io::stdin().lock().take(most).read_to_end(&mut bytes).map(|_| (bytes, true));
+    }
+    let mut file = File::open(name)?;
+    if file.metadata()?.is_file() {
+        return file.read_to_end(&mut bytes).map(|_| (bytes, false));
+    }
+    file.take(most).read_to_end(&mut bytes).map(|_| (bytes, true))
 }
 
 fn unread(name: &OsStr, error: &io::Error) -> String {

@@ -12,6 +12,7 @@ mod numbers;
 mod out;
 mod reach;
 mod record;
+mod report;
 mod rows;
 mod run;
 mod sections;

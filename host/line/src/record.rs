@@ -3,13 +3,13 @@ use pasetone::{Driver, Tuner};
 
 pub const SIZE: usize = Tuner::SIZE + Driver::SIZE;
 
-/// Reads a kept record; what is wrong with the bytes comes back in words.
+/// Reads a kept record, of whose file one byte more was read at most; what is wrong with the bytes comes back in words.
 pub fn read(bytes: &[u8]) -> Result<(Tuner, Driver), String> {
     if bytes.len() != SIZE {
         let (tuner, driver) = (Tuner::SIZE, Driver::SIZE);
+        let here = if bytes.len() > SIZE { String::from("more") } else { bytes.len().to_string() };
         return Err(format!(
-            "a record has {SIZE} bytes ({tuner} of the tuner, then {driver} of the driver), and here are {}: give a file that --keep has written",
-            bytes.len()
+            "a record has {SIZE} bytes ({tuner} of the tuner, then {driver} of the driver), and here are {here}: give a file that --keep has written"
         ));
     }
     let (tuner, driver) = bytes.split_at(Tuner::SIZE);
