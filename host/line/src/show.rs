@@ -9,8 +9,8 @@ use pasetone::Transcript;
 
 pub const MORE: &[&str] = &[
     "A file holds sections end to end, as --section of hop writes them, and has any size; - is",
-    "standard input, to 1 GiB. A damaged section is told by its number and bytes, with those of its entries",
-    "that are whole; sections behind it keep their own numbers, and the exit status is 1.",
+    "standard input, to 1 GiB. A damaged section is told by its number and bytes, with those of its",
+    "entries that are whole; sections behind it keep their own numbers, and the exit status is 1.",
 ];
 
 pub fn run(given: &Given, out: &mut Out) {
