@@ -1,11 +1,12 @@
 //! A file of sections end to end, walked from its end, where each section says how long it is. Damage is walked past:
 //!
 //! - Where no section ends, the next good one with entries is looked for byte by byte towards the start. A section of no entries is 8 zero bytes, which
-//!   entries hold too, so none is taken for one there.
+//!   entries hold too, so none is taken for one there, unless it stands right behind a section's end, where no entry begins with zeros.
 //! - What lies between is damaged. A trailer that is one (a count, and 16 times it) with room for its entries says where a damaged section begins: it is
-//!   looked for at the end of the damaged bytes, then behind their start, as far as that entries before it are as many as it says.
-//!   Without it, bytes that have a section's length and begin with an entry are one section whose trailer is damaged. Others are told by their bytes:
+//!   looked for at the end of the damaged bytes, then behind their start, with as many entries before it as it says.
+//! - Without it, bytes that have a section's length and begin with an entry are one section whose trailer is damaged. Others are told by their bytes:
 //!   counted as one section if one with entries could stand there, and as none if not.
+//! - What was read behind damage as sections of no entries is looked at again: it may be the zeros in which a cut entry ends.
 use pasetone::Transcript;
 
 pub const ENTRY: usize = 16;

@@ -1,10 +1,10 @@
 //! The demodulator's calls. They have steps and no record. A call hands back its result and transcript; what it is refused for stands under "Errors".
-use crate::{Answer, Script, in_room, raw};
+use crate::{Answer, Need, Script, in_room, raw};
 
-fn plain(entries: usize, script: &Script, call: raw::Plain) -> Answer<()> {
+fn plain(need: Need, script: &Script, call: raw::Plain) -> Answer<()> {
     let o = script.outcomes();
     // SAFETY: see raw.rs.
-    let (reply, transcript) = in_room(entries, |room| unsafe { call(o.as_ptr(), o.len(), room.as_mut_ptr(), room.len()) });
+    let (reply, transcript) = in_room(need.outcomes, |room| unsafe { call(o.as_ptr(), o.len(), room.as_mut_ptr(), room.len()) });
     Answer::of(reply, transcript, drop)
 }
 
@@ -15,7 +15,7 @@ fn plain(entries: usize, script: &Script, call: raw::Plain) -> Answer<()> {
 /// - [`Error::Outcomes`](crate::Error::Outcomes) (9): fewer than 45 outcomes.
 /// - [`Error::Step`](crate::Error::Step) (11): a step failed, and the steps before it stand.
 pub fn init_baseband(script: &Script) -> Answer<()> {
-    plain(45, script, raw::pasetone_init_baseband)
+    plain(Need::BASEBAND, script, raw::pasetone_init_baseband)
 }
 
 /// The same as [`init_baseband`]: 45 outcomes.
@@ -25,7 +25,7 @@ pub fn init_baseband(script: &Script) -> Answer<()> {
 /// - [`Error::Outcomes`](crate::Error::Outcomes) (9): fewer than 45 outcomes.
 /// - [`Error::Step`](crate::Error::Step) (11): a step failed, and the steps before it stand.
 pub fn power_on(script: &Script) -> Answer<()> {
-    plain(45, script, raw::pasetone_power_on)
+    plain(Need::BASEBAND, script, raw::pasetone_power_on)
 }
 
 /// Soft reset, on and off: 2 outcomes.
@@ -35,7 +35,7 @@ pub fn power_on(script: &Script) -> Answer<()> {
 /// - [`Error::Outcomes`](crate::Error::Outcomes) (9): fewer than 2 outcomes.
 /// - [`Error::Step`](crate::Error::Step) (11): a step failed, and the steps before it stand.
 pub fn reset_demod(script: &Script) -> Answer<()> {
-    plain(2, script, raw::pasetone_reset_demod)
+    plain(Need::DEMOD_PAIR, script, raw::pasetone_reset_demod)
 }
 
 /// For a tuner with an IF: 2 outcomes.
@@ -45,7 +45,7 @@ pub fn reset_demod(script: &Script) -> Answer<()> {
 /// - [`Error::Outcomes`](crate::Error::Outcomes) (9): fewer than 2 outcomes.
 /// - [`Error::Step`](crate::Error::Step) (11): a step failed, and the steps before it stand.
 pub fn set_tuner_low_if(script: &Script) -> Answer<()> {
-    plain(2, script, raw::pasetone_set_tuner_low_if)
+    plain(Need::DEMOD_PAIR, script, raw::pasetone_set_tuner_low_if)
 }
 
 /// For a tuner without an IF: 2 outcomes.
@@ -55,7 +55,7 @@ pub fn set_tuner_low_if(script: &Script) -> Answer<()> {
 /// - [`Error::Outcomes`](crate::Error::Outcomes) (9): fewer than 2 outcomes.
 /// - [`Error::Step`](crate::Error::Step) (11): a step failed, and the steps before it stand.
 pub fn set_tuner_zero_if(script: &Script) -> Answer<()> {
-    plain(2, script, raw::pasetone_set_tuner_zero_if)
+    plain(Need::DEMOD_PAIR, script, raw::pasetone_set_tuner_zero_if)
 }
 
 /// Samples are to come: 2 outcomes.
@@ -65,7 +65,7 @@ pub fn set_tuner_zero_if(script: &Script) -> Answer<()> {
 /// - [`Error::Outcomes`](crate::Error::Outcomes) (9): fewer than 2 outcomes.
 /// - [`Error::Step`](crate::Error::Step) (11): a step failed, and the steps before it stand.
 pub fn start_streaming(script: &Script) -> Answer<()> {
-    plain(2, script, raw::pasetone_start_streaming)
+    plain(Need::DEMOD_PAIR, script, raw::pasetone_start_streaming)
 }
 
 /// No more samples, power off: 2 outcomes.
@@ -75,7 +75,7 @@ pub fn start_streaming(script: &Script) -> Answer<()> {
 /// - [`Error::Outcomes`](crate::Error::Outcomes) (9): fewer than 2 outcomes.
 /// - [`Error::Step`](crate::Error::Step) (11): a step failed, and the steps before it stand.
 pub fn stop_streaming(script: &Script) -> Answer<()> {
-    plain(2, script, raw::pasetone_stop_streaming)
+    plain(Need::DEMOD_PAIR, script, raw::pasetone_stop_streaming)
 }
 
 /// One byte into a register, any page and address: 1 outcome.
@@ -87,7 +87,7 @@ pub fn stop_streaming(script: &Script) -> Answer<()> {
 pub fn write_reg_direct(page: u8, address: u16, value: u8, script: &Script) -> Answer<()> {
     let o = script.outcomes();
     // SAFETY: see raw.rs.
-    let (reply, transcript) = in_room(1, |room| unsafe {
+    let (reply, transcript) = in_room(Need::DIRECT.outcomes, |room| unsafe {
         raw::pasetone_write_reg_direct(page, address, value, o.as_ptr(), o.len(), room.as_mut_ptr(), room.len())
     });
     Answer::of(reply, transcript, drop)
@@ -103,8 +103,9 @@ pub fn write_reg_direct(page: u8, address: u16, value: u8, script: &Script) -> A
 pub fn set_if_freq_xtal(hz: u32, xtal: u32, script: &Script) -> Answer<()> {
     let o = script.outcomes();
     // SAFETY: see raw.rs.
-    let (reply, transcript) =
-        in_room(3, |room| unsafe { raw::pasetone_set_if_freq_xtal(hz, xtal, o.as_ptr(), o.len(), room.as_mut_ptr(), room.len()) });
+    let (reply, transcript) = in_room(Need::IF_XTAL.outcomes, |room| unsafe {
+        raw::pasetone_set_if_freq_xtal(hz, xtal, o.as_ptr(), o.len(), room.as_mut_ptr(), room.len())
+    });
     Answer::of(reply, transcript, drop)
 }
 
@@ -119,7 +120,8 @@ pub fn set_if_freq_xtal(hz: u32, xtal: u32, script: &Script) -> Answer<()> {
 pub fn set_sample_rate_xtal(rate: u32, xtal: u32, script: &Script) -> Answer<()> {
     let o = script.outcomes();
     // SAFETY: see raw.rs.
-    let (reply, transcript) =
-        in_room(4, |room| unsafe { raw::pasetone_set_sample_rate_xtal(rate, xtal, o.as_ptr(), o.len(), room.as_mut_ptr(), room.len()) });
+    let (reply, transcript) = in_room(Need::RATE_XTAL.outcomes, |room| unsafe {
+        raw::pasetone_set_sample_rate_xtal(rate, xtal, o.as_ptr(), o.len(), room.as_mut_ptr(), room.len())
+    });
     Answer::of(reply, transcript, drop)
 }

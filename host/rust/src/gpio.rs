@@ -1,5 +1,5 @@
 //! The GPIO calls. They have steps and no record.
-use crate::{Answer, Script, in_room, raw};
+use crate::{Answer, Need, Script, in_room, raw};
 
 /// Makes a GPIO (0..=7) an output: 4 outcomes, 2 replies.
 ///
@@ -12,7 +12,7 @@ use crate::{Answer, Script, in_room, raw};
 pub fn set_output(gpio: u8, script: &Script) -> Answer<()> {
     let (o, p) = (script.outcomes(), script.replies());
     // SAFETY: see raw.rs.
-    let (reply, transcript) = in_room(4, |room| unsafe {
+    let (reply, transcript) = in_room(Need::GPIO_OUTPUT.outcomes, |room| unsafe {
         raw::pasetone_set_gpio_output(gpio, o.as_ptr(), o.len(), p.as_ptr(), p.len(), room.as_mut_ptr(), room.len())
     });
     Answer::of(reply, transcript, drop)
@@ -29,7 +29,7 @@ pub fn set_output(gpio: u8, script: &Script) -> Answer<()> {
 pub fn set_bit(gpio: u8, high: bool, script: &Script) -> Answer<()> {
     let (o, p, value) = (script.outcomes(), script.replies(), high.into());
     // SAFETY: see raw.rs.
-    let (reply, transcript) = in_room(2, |room| unsafe {
+    let (reply, transcript) = in_room(Need::GPIO_BIT.outcomes, |room| unsafe {
         raw::pasetone_set_gpio_bit(gpio, value, o.as_ptr(), o.len(), p.as_ptr(), p.len(), room.as_mut_ptr(), room.len())
     });
     Answer::of(reply, transcript, drop)

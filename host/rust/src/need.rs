@@ -41,4 +41,18 @@ impl Need {
     pub const RELOAD: Need = Need::of(9, 0);
     /// [`Driver::set_sample_rate`](crate::Driver::set_sample_rate).
     pub const SAMPLE_RATE: Need = Need::of(17, 0);
+    /// [`demod::init_baseband`](crate::demod::init_baseband) and [`demod::power_on`](crate::demod::power_on).
+    pub const BASEBAND: Need = Need::of(45, 0);
+    /// Reset, low IF, zero IF, start and stop streaming of [`demod`](crate::demod).
+    pub const DEMOD_PAIR: Need = Need::of(2, 0);
+    /// [`demod::write_reg_direct`](crate::demod::write_reg_direct).
+    pub const DIRECT: Need = Need::of(1, 0);
+    /// [`demod::set_if_freq_xtal`](crate::demod::set_if_freq_xtal).
+    pub const IF_XTAL: Need = Need::of(3, 0);
+    /// [`demod::set_sample_rate_xtal`](crate::demod::set_sample_rate_xtal).
+    pub const RATE_XTAL: Need = Need::of(4, 0);
+    /// [`gpio::set_output`](crate::gpio::set_output).
+    pub const GPIO_OUTPUT: Need = Need::of(4, 2);
+    /// [`gpio::set_bit`](crate::gpio::set_bit).
+    pub const GPIO_BIT: Need = Need::of(2, 1);
 }

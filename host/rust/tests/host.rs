@@ -1,5 +1,5 @@
 //! What this crate adds to the archive: texts, scripts, records as values. On good, bad and empty input.
-use pasetone::{Answer, Board, Driver, Entry, EntryKind, Error, InputPath, Need, Script, Transcript, Tuner, TunerKind, gpio};
+use pasetone::{Answer, Board, Driver, Entry, EntryKind, Error, InputPath, Need, Script, Transcript, Tuner, TunerKind, demod, gpio};
 
 fn r828d() -> Tuner {
     Tuner::new(TunerKind::R828d, 0x74, 28_800_000).unwrap()
@@ -56,6 +56,16 @@ fn needs_are_the_librarys() {
     needs(Need::RELOAD, |script| r828d().reload(script));
     let driver = || Driver::new(Board::V4, 28_800_000, 0, 0, 0).unwrap();
     needs(Need::SAMPLE_RATE, |script| driver().set_sample_rate(&mut r828d(), 2_048_000, script));
+    needs(Need::BASEBAND, demod::init_baseband);
+    needs(Need::BASEBAND, demod::power_on);
+    for call in [demod::reset_demod, demod::set_tuner_low_if, demod::set_tuner_zero_if, demod::start_streaming, demod::stop_streaming] {
+        needs(Need::DEMOD_PAIR, call);
+    }
+    needs(Need::DIRECT, |script| demod::write_reg_direct(1, 0x15, 1, script));
+    needs(Need::IF_XTAL, |script| demod::set_if_freq_xtal(2_300_000, 28_800_000, script));
+    needs(Need::RATE_XTAL, |script| demod::set_sample_rate_xtal(2_048_000, 28_800_000, script));
+    needs(Need::GPIO_OUTPUT, |script| gpio::set_output(5, script));
+    needs(Need::GPIO_BIT, |script| gpio::set_bit(5, true, script));
 }
 
 #[test]
