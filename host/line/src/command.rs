@@ -209,6 +209,9 @@ fn behind(command: &'static Command, words: Vec<OsString>, out: &mut Out) -> Ask
             given.options.push(read);
         }
     }
+    if given.has(Key::Json) && given.has(Key::Quiet) {
+        out.mistake("--json prints and --quiet does not: give one of the two");
+    }
     Asked::Run(command, given)
 }
 

@@ -153,9 +153,6 @@ fn together(given: &Given, out: &mut Out) {
     if given.has(Key::Initialise) && !given.has(Key::Record) {
         out.mistake("--initialise goes with --record: a fresh record is initialised anyway");
     }
-    if given.has(Key::Json) && given.has(Key::Quiet) {
-        out.mistake("--json prints and --quiet does not: give one of the two");
-    }
     let read = [Key::Outcomes, Key::Replies, Key::Record];
     if read.iter().filter(|key| given.word(**key).is_some_and(is_standard)).count() > 1 {
         out.mistake("standard input can be read once: give - to one of --outcomes, --replies and --record");

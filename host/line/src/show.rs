@@ -20,9 +20,6 @@ pub fn run(given: &Given, out: &mut Out) {
     if given.operands.iter().filter(|name| is_standard(name)).count() > 1 {
         out.mistake("standard input can be read once: give - once");
     }
-    if given.has(Key::Json) && given.has(Key::Quiet) {
-        out.mistake("--json prints and --quiet does not: give one of the two");
-    }
     if out.is_mistaken() {
         return;
     }
