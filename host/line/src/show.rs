@@ -147,7 +147,8 @@ impl File {
             }
             Flaw::Trailer => {
                 let (place, distance) = (damage.end - TRAILER, ENTRY * entries);
-                format!("{named}: its last 8 bytes, at byte {place}, are no trailer ({entries} and {distance} would be one)")
+                let cut = if damage.end == self.bytes.len() { ", or the file was cut there" } else { "" };
+                format!("{named}: its last 8 bytes, at byte {place}, are no trailer ({entries} and {distance} would be one){cut}")
             }
             Flaw::Shapeless { counts: true } if damage.end == self.bytes.len() => {
                 format!("{named}: {entries} entries are whole, and no trailer ends it")
