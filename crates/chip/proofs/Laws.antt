@@ -32,6 +32,15 @@ due-one false = omega arith
 pub due-held : (held : Bool) → held ≡ true → due held ≡ 1
 due-held held e = ap due e
 
+-- no step moves the chip to another address
+pub after-address : (s : Step) (c : Chip) (ok : Bool) → after s c ok .address ≡ c .address
+unfolding attemptedBy
+after-address Open c ok = refl
+after-address Close c ok = refl
+after-address (Send n bytes) c ok = refl
+after-address (Mask r v m) c ok = refl
+after-address (Plain e) c ok = refl
+
 module _ {L : Type 0} (put : L → ℕ → Entry → L) (os : List ℕ) where
   -- a step that is not taken leaves the line as it was
   pub idle : (s : Step) (w : Line L) → acts s (w .went) (w .held) ≡ false → w ≡ step put os s w
@@ -202,6 +211,29 @@ module _ {L : Type 0} (put : L → ℕ → Entry → L) (os : List ℕ) where
       → y ≡ step put os Close x → y ≡ run put os (Open ∷ (ss ++ (Close ∷ []))) w
   unopened ss w x y p h i q =
       q ∙ ap (step put os Close) (idle-run ss x i h) ∙ sym (close-closing (run put os ss x)) ∙ bracketed ss w x (closing put os (run put os ss x)) p refl
+
+  -- no step moves the chip to another address
+  pub step-address : (s : Step) (w : Line L) → step put os s w .chip .address ≡ w .chip .address
+  step-address s w = go (acts s (w .went) (w .held)) refl
+    where
+      go : (a : Bool) → acts s (w .went) (w .held) ≡ a → step put os s w .chip .address ≡ w .chip .address
+      go true e = sym (ap (λ (x : Line L). x .chip .address) (active s w e)) ∙ after-address s (w .chip) (okFor os (w .count) s)
+      go false e = sym (ap (λ (x : Line L). x .chip .address) (idle s w e))
+
+  pub run-address : (ss : List Step) (w : Line L) → run put os ss w .chip .address ≡ w .chip .address
+  unfolding run
+  run-address [] w = refl
+  run-address (s ∷ ss) w = run-address ss (step put os s w) ∙ step-address s w
+
+  closing-address : (w : Line L) → closing put os w .chip .address ≡ w .chip .address
+  closing-address w = go (goes (w .went)) refl
+    where
+      go : (g : Bool) → goes (w .went) ≡ g → closing put os w .chip .address ≡ w .chip .address
+      go true e = ap (λ (x : Line L). x .chip .address) (closing-going w e)
+      go false e = ap (λ (x : Line L). x .chip .address) (closing-stopped w e) ∙ step-address Close w
+
+  pub part-address : (ss : List Step) (w v : Line L) → v ≡ closing put os (run put os ss w) → v .chip .address ≡ w .chip .address
+  part-address ss w v e = ap (λ (x : Line L). x .chip .address) e ∙ closing-address (run put os ss w) ∙ run-address ss w
 
   -- a write whose bytes were worked out apart
   pub by-bytes : (n : ℕ) (xs ys : List ℕ) (w v : Line L) → xs ≡ ys → v ≡ step put os (Send n xs) w → v ≡ step put os (Send n ys) w

@@ -13,8 +13,9 @@ use lib.ListN.{length, getD, take, drop, drop-of-length-le, length-take, replica
 use lib.Seq.{drop-cons, getD-take, length-take-le, take-at}
 use Rattle.transcript.specs.declared.Entry.{Entry}
 use Rattle.chip.specs.declared.Update.{Update}
+use Rattle.chip.specs.declared.Updates.{Updates}
 use Rattle.chip.specs.Chips.{pair}
-use Rattle.chip.specs.Steps.{Step, Line, allIn, every, filler, inRange, inner, padded, run, sixteen, step, updateStep}
+use Rattle.chip.specs.Steps.{Step, Line, allIn, every, filler, inRange, inner, listed, meantOf, padded, run, step, updateStep}
 use Rattle.chip.specs.Steps.Step.{Send, Mask, Plain}
 use Rattle.chip.proofs.Laws.{and-left, and-right}
 
@@ -37,8 +38,23 @@ every-take p l n i d h k e =
 pub meant : {A : Type 0} (xs : List A) (m n : ℕ) (a : A) (r : List A) → length xs ≡ n → r ≡ padded m a xs → take n r ≡ xs
 meant xs m n a r l e = ap (take n) e ∙ take-at xs (replicate (m - length xs) a) n l
 
-pub meant-in : (us : List Update) (n : ℕ) (r : List Update) → length us ≡ n → allIn us ≡ true → r ≡ sixteen us → allIn (take n r) ≡ true
-meant-in us n r l h e = ap allIn (meant us 16 n filler r l e) ∙ h
+-- the same of updates as the code hands them on
+module _ (us : List Update) (r : Updates) (e : r ≡ listed us) where
+  pub meant-all : meantOf r ≡ us
+  meant-all = ap meantOf e ∙ take-at us (replicate (16 - length us) filler) (length us) refl
+
+  pub meant-in : allIn us ≡ true → allIn (meantOf r) ≡ true
+  meant-in h = ap allIn meant-all ∙ h
+
+  pub meant-count : r .n ≡ length us
+  meant-count = ap (λ (x : Updates). x .n) e
+
+-- updates whose parts were worked out apart
+pub one-made : (u v : Update) (r : Updates) → r ≡ listed (u ∷ []) → u ≡ v → r ≡ listed (v ∷ [])
+one-made u v r e p = e ∙ ap (λ (x : Update). listed (x ∷ [])) p
+
+pub two-made : (t u v w : Update) (r : Updates) → r ≡ listed (t ∷ u ∷ []) → t ≡ v → u ≡ w → r ≡ listed (v ∷ w ∷ [])
+two-made t u v w r e p q = e ∙ (λ i. listed (p i ∷ q i ∷ []))
 
 -- steps of one kind, none of them a closing
 pub every-inner : {A : Type 0} (f : A → Step) → ((a : A) → inner (f a) ≡ true) → (l : List A) → every inner (map f l) ≡ true
@@ -88,3 +104,8 @@ module _ {L : Type 0} (put : L → ℕ → Entry → L) (os : List ℕ) where
 
   pub by-mask : (u : Update) (w v : Line L) → u .past ≡ false → v ≡ step put os (Mask (u .register) (u .value) (u .mask)) w → v ≡ step put os (updateStep u) w
   by-mask u w v e h = h ∙ ap (λ (s : Step). step put os s w) (mask-step u e)
+
+  -- a masked write by an update that was worked out apart
+  pub by-masked : (u d : Update) (w v : Line L) → u ≡ d → v ≡ step put os (Mask (u .register) (u .value) (u .mask)) w
+      → v ≡ step put os (Mask (d .register) (d .value) (d .mask)) w
+  by-masked u d w v e h = h ∙ ap (λ (x : Update). step put os (Mask (x .register) (x .value) (x .mask)) w) e

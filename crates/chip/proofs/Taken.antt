@@ -130,15 +130,15 @@ module _ (os : List ℕ) where
     pub handed : {R : Type 0} (ss : List Step) (c : Chip) (keep : Trace → R) (whole : Answer) (r : R) (f : Flow) (mid after : List ℕ) (answer : Answer)
         → every eight ss ≡ true
         → onRoom f mid ≡ run inRoom os ss (line c (logged room unseen) 0 Going false)
-        → after ≡ sealed mid (f .count) → answer ≡ answerOf whole (f .went)
+        → after ≡ sealed mid (f .log .count) → answer ≡ answerOf whole (f .log .went)
         → r ≡ keep (trace os ss c)
-        → called r after (f .count) answer ≡ performed whole keep room (trace os ss c)
+        → called r after (f .log .count) answer ≡ performed whole keep room (trace os ss c)
     handed ss c keep whole r f mid after answer h e p q same =
         let t : Trace = trace os ss c in
         let all : onRoom f mid ≡ laidOut room t = stands ss c f mid h e in
-        let count : f .count ≡ length (t .log) = ap (λ (w : Line Logged). w .count) all in
+        let count : f .log .count ≡ length (t .log) = ap (λ (w : Line Logged). w .count) all in
         let out : mid ≡ sets room 0 (entriesBytes (t .log)) = ap (λ (w : Line Logged). w .log .room) all in
-        let went : f .went ≡ t .went = ap (λ (w : Line Logged). w .went) all in
+        let went : f .log .went ≡ t .went = ap (λ (w : Line Logged). w .went) all in
         let full : after ≡ sets room 0 (sectionBytes (t .log)) =
         p ∙ (λ i. sealed (out i) (count i)) ∙ section-laid room (t .log) (kept-trace ss c h .eights) in
         let told : answer ≡ answerOf whole (t .went) = q ∙ ap (answerOf whole) went in
@@ -156,23 +156,23 @@ unfolding callOf
 performs number whole os ss c keep old room h = rw (eq-eqb number 0 h)
 
 -- one entry of the count below: it is a try or not
-counted-one : (s : Seen) (e : Entry) (es : List Entry) (b : Bool) → isTry e ≡ b → s .tries + suc (length es) < 2 ^ 64
-    → ((r : Seen) → r .tries + length es < 2 ^ 64 → seenFrom r es ≡ record { tries = r .tries + triesIn es; locked = r .locked || lockedIn es })
+counted-one : (s : Seen) (e : Entry) (es : List Entry) (b : Bool) → isTry e ≡ b → s .tries + suc (length es) < 2 ^ 16
+    → ((r : Seen) → r .tries + length es < 2 ^ 16 → seenFrom r es ≡ record { tries = r .tries + triesIn es; locked = r .locked || lockedIn es })
     → seenFrom (look s e) es ≡ record { tries = s .tries + (cond (isTry e) 1 0 + triesIn es); locked = s .locked || ((isTry e && lockBit e) || lockedIn es) }
 unfolding look
 counted-one s e es true x h rest =
-    let small : (s .tries + 1) % 2 ^ 64 ≡ s .tries + 1 = omega arith in
-    let fits : (s .tries + 1) % 2 ^ 64 + length es < 2 ^ 64 = omega arith in
-    let sum : (s .tries + 1) % 2 ^ 64 + triesIn es ≡ s .tries + (1 + triesIn es) = omega arith in
-    rw x (rest (record { tries = (s .tries + 1) % 2 ^ 64; locked = s .locked || lockBit e }) fits
+    let small : (s .tries + 1) % 2 ^ 16 ≡ s .tries + 1 = omega arith in
+    let fits : (s .tries + 1) % 2 ^ 16 + length es < 2 ^ 16 = omega arith in
+    let sum : (s .tries + 1) % 2 ^ 16 + triesIn es ≡ s .tries + (1 + triesIn es) = omega arith in
+    rw x (rest (record { tries = (s .tries + 1) % 2 ^ 16; locked = s .locked || lockBit e }) fits
     ∙ (λ i. record { tries = sum i; locked = or-assoc (s .locked) (lockBit e) (lockedIn es) i }))
 counted-one s e es false x h rest =
-    let fits : s .tries + length es < 2 ^ 64 = omega arith in
+    let fits : s .tries + length es < 2 ^ 16 = omega arith in
     let sum : s .tries + triesIn es ≡ s .tries + (0 + triesIn es) = omega arith in
     rw x (rest s fits ∙ (λ i. record { tries = sum i; locked = s .locked || lockedIn es }))
 
--- what the tries have said, counted: a room's entries never reach 2 ^ 64
-pub seen-counted : (s : Seen) (es : List Entry) → s .tries + length es < 2 ^ 64
+-- what the tries have said, counted: a room's entries never reach 2 ^ 16
+pub seen-counted : (s : Seen) (es : List Entry) → s .tries + length es < 2 ^ 16
     → seenFrom s es ≡ record { tries = s .tries + triesIn es; locked = s .locked || lockedIn es }
 unfolding seenFrom triesIn lockedIn
 seen-counted s [] h =

@@ -70,9 +70,9 @@ lockBit e = lockedBy (getD (e .bytes) 2 0)
 abbrev pub isTry : Entry → Bool
 isTry e = eqb (e .kind) 3 && eqb (e .n) 3 && eqb (e .outcome) 0
 
--- what the tries have said, one entry later. The count is kept in 64 bits, which no room's entries reach
+-- what the tries have said, one entry later. The count is kept in 16 bits, which no room's 4,096 entries reach
 unfoldable pub look : Seen → Entry → Seen
-look s e = cond (isTry e) (record { tries = (s .tries + 1) % 2 ^ 64; locked = s .locked || lockBit e }) s
+look s e = cond (isTry e) (record { tries = (s .tries + 1) % 2 ^ 16; locked = s .locked || lockBit e }) s
 
 abbrev pub unseen : Seen
 unseen = record { tries = 0; locked = false }

@@ -16,6 +16,7 @@ use Rattle.chip.specs.declared.Flow.{Flow}
 use Rattle.chip.specs.declared.Log.{Log}
 use Rattle.chip.specs.declared.Seen.{Seen}
 use Rattle.chip.specs.declared.Update.{Update}
+use Rattle.chip.specs.declared.Updates.{Updates}
 use Rattle.chip.specs.declared.Went.{Went}
 use Rattle.chip.specs.declared.Went.the-variants.{Going, Refused11}
 use Rattle.chip.specs.Chips.{attemptedBy, chipOf, maskedByte, pair, shadowed}
@@ -136,24 +137,16 @@ logged room seen = record { room = room; seen = seen }
 unfoldable pub inRoom : Logged → ℕ → Entry → Logged
 inRoom l k e = logged (sets (l .room) (16 * k) (entryBytes e)) (look (l .seen) e)
 
--- where the code stands
-abbrev pub onRoom : Flow → List ℕ → Line Logged
-onRoom f room = line (f .chip) (logged room (f .seen)) (f .count) (f .went) (f .held)
-
--- the same, of a step that leaves the chip alone: with whatever chip
+-- where the code stands; of a step that leaves the chip alone: with whatever chip
 abbrev pub onLog : Chip → Log → List ℕ → Line Logged
 onLog chip l room = line chip (logged room (l .seen)) (l .count) (l .went) (l .held)
+
+abbrev pub onRoom : Flow → List ℕ → Line Logged
+onRoom f room = onLog (f .chip) (f .log) room
 
 -- the same, with the chip's lists where they lie
 abbrev pub onLists : ℕ → List ℕ → List ℕ → List Bool → Log → List ℕ → Line Logged
 onLists address shadow attempted doubtful l room = onLog (chipOf address shadow attempted doubtful) l room
-
--- a flow's log, and the flow of a log with a chip
-abbrev pub logOf : Flow → Log
-logOf f = record { count = f .count; went = f .went; held = f .held; seen = f .seen }
-
-abbrev pub flowOf : Log → Chip → Flow
-flowOf l chip = record { chip = chip; count = l .count; went = l .went; held = l .held; seen = l .seen }
 
 abbrev pub Trace : Type 0
 Trace = Line (List Entry)
@@ -165,6 +158,13 @@ trace os ss c = run inList os ss (line c [] 0 Going false)
 -- steps behind an open repeater
 abbrev pub behind : List Step → List Step
 behind ss = Open ∷ (ss ++ (Close ∷ []))
+
+-- a masked write; a write past the shadow: "0x14, 0x15, 0x16 are written past it"
+abbrev pub masked : ℕ → ℕ → ℕ → Update
+masked register value mask = record { register = register; value = value; mask = mask; past = false }
+
+abbrev pub past : ℕ → ℕ → Update
+past register value = record { register = register; value = value; mask = 0xff; past = true }
 
 -- a register's update: through the shadow, or past it as a write of two bytes
 abbrev pub updateStep : Update → Step
@@ -183,6 +183,13 @@ filler = record { register = 0; value = 0; mask = 0; past = false }
 
 abbrev pub sixteen : List Update → List Update
 sixteen us = padded 16 filler us
+
+-- updates as the code hands them on: an array, and how many of it are meant
+abbrev pub listed : List Update → Updates
+listed us = record { list = sixteen us; n = length us }
+
+abbrev pub meantOf : Updates → List Update
+meantOf us = take (us .n) (us .list)
 
 -- all of a list pass a test
 unfoldable pub every : {A : Type 0} → (A → Bool) → List A → Bool

@@ -2,7 +2,7 @@
 // `read_status_raw`'s transfers of src/tuners/r82xx.rs and `i2c_write_tuner` of src/device.rs, over a script of outcomes and
 // a room for the entries. Document 01, "Transcript and script", "Refusal numbers", "The record", "Forms that change".
 // A step is taken only while none has failed; a closing only while the repeater is open. `run` of specs/Steps.antt says it once.
-ghost use mathlib.Core.List.{List, map};
+ghost use mathlib.Core.List.{List, [], _∷_, map};
 ghost use mathlib.Core.Path.{_≡_};
 ghost use mathlib.Core.Bool.{true, not};
 ghost use Prim.Native.Nat.{ℕ, _+_, _-_, _*_, _≤_, _<_};
@@ -11,7 +11,7 @@ ghost use lib.Seq.{sets};
 ghost use Rattle.chip.specs.declared.Chip.{Chip};
 ghost use Rattle.chip.specs.Chips.{maskOf};
 ghost use Rattle.chip.specs.Entries.{flagOf, look, settled};
-ghost use Rattle.chip.specs.Steps.{due, toldOf, step, run, closing, inRoom, onLists, onLog, onRoom, line, logOf, flowOf, logged, updates, updateStep, allIn, inRange, behind, chunkBytes, chunkStep, chunkTable, within, tunerWrite};
+ghost use Rattle.chip.specs.Steps.{due, toldOf, step, run, closing, inRoom, onLists, onLog, onRoom, line, logged, masked, past, listed, meantOf, updates, updateStep, allIn, inRange, behind, chunkBytes, chunkStep, chunkTable, within, tunerWrite};
 ghost use Rattle.chip.specs.Calls.{lentOf, answerOf, sealed};
 ghost use Rattle.chip.specs.Steps.Step.{Open, Close, Send, Mask, Plain};
 use transcript::Entry;
@@ -39,6 +39,10 @@ pub const OUTCOMES: u8 = 9;
 
 pub const REPLIES: u8 = 10;
 
+pub const STEP: u8 = 11;
+
+pub const SECTION: u8 = 12;
+
 // What the record says of the chip's registers 0x05 to 0x1f: the shadow, and our attempt record.
 pub struct Chip {
     pub address: u8,
@@ -63,33 +67,55 @@ pub const FILLER: Update = Update {
     past: false,
 };
 
+// Updates of registers, the first n of them meant; fillers stand behind them.
+pub struct Updates {
+    pub list: [Update; 16],
+    pub n: usize,
+}
+
+// No updates at all.
+pub const NO_UPDATES: Updates = Updates {
+    list: [FILLER; 16],
+    n: 0,
+};
+
 // How the steps have gone: on, or to refusal 11, with the failing step's entry by its index.
 pub enum Went {
     Going,
     Refused11(usize),
 }
 
-// What the done three-byte reads of the status have said.
+// What the done three-byte reads of the status have said. 16 bits hold the count, since a room has 4,096 entries at most, and leave the log little padding, which
+// each copy of it would carry along.
 pub struct Seen {
-    pub tries: u64,
+    pub tries: u16,
     pub locked: bool,
 }
 
-// What is carried from step to step.
-pub struct Flow {
-    pub chip: Chip,
-    pub count: usize,
-    pub went: Went,
-    pub held: bool,
-    pub seen: Seen,
-}
-
-// The flow but for the chip: small, so that steps carry the chip nowhere. One that writes a register takes the chip's lists beside it, where they lie.
+// What is carried from step to step but for the chip: small, so that steps carry the chip nowhere. One that writes a register takes the chip's lists beside
+// it, where they lie.
 pub struct Log {
     pub count: usize,
     pub went: Went,
     pub held: bool,
     pub seen: Seen,
+}
+
+// The log of a call that has taken no step yet.
+pub const START: Log = Log {
+    count: 0,
+    went: Went::Going,
+    held: false,
+    seen: Seen {
+        tries: 0,
+        locked: false,
+    },
+};
+
+// What parts of a call hand on.
+pub struct Flow {
+    pub chip: Chip,
+    pub log: Log,
 }
 
 // A call's answer: its value, a refusal's number, or refusal 11 with the failing entry's index.
@@ -117,6 +143,47 @@ fn told(ok: bool, k: usize) -> Went
     if ok { Went::Going } else { Went::Refused11(k) }
 }
 
+// An update of the bits under a mask; one of a whole register, past the shadow.
+pub fn masked(register: u8, value: u8, mask: u8) -> Update
+    ensures { λ r. ⌜ r ≡ masked register value mask ⌝ }
+{
+    Update {
+        register: register,
+        value: value,
+        mask: mask,
+        past: false,
+    }
+}
+
+pub fn past(register: u8, value: u8) -> Update
+    ensures { λ r. ⌜ r ≡ past register value ⌝ }
+{
+    Update {
+        register: register,
+        value: value,
+        mask: 0xff,
+        past: true,
+    }
+}
+
+// Lists of one and of two updates.
+pub fn one(u: Update) -> Updates
+    ensures { λ r. ⌜ r ≡ listed (u ∷ []) ⌝ }
+{
+    let mut list = [FILLER; 16];
+    list[0] = u;
+    Updates { list: list, n: 1 }
+}
+
+pub fn two(u: Update, v: Update) -> Updates
+    ensures { λ r. ⌜ r ≡ listed (u ∷ v ∷ []) ⌝ }
+{
+    let mut list = [FILLER; 16];
+    list[0] = u;
+    list[1] = v;
+    Updates { list: list, n: 2 }
+}
+
 // The byte that a masked write stores and sends.
 pub fn mask_into(old: u8, value: u8, mask: u8) -> u8
     ensures { λ r. ⌜ r ≡ maskOf old value mask ⌝ }
@@ -130,7 +197,7 @@ fn settle(e: Entry, ok: bool) -> Entry
 {
     let kind = e.kind;
     let outcome = flag(ok);
-    if ((kind == 3) | (kind == 8)) & !ok {
+    if ((kind == transcript::I2C_READ) | (kind == transcript::READ)) & !ok {
         return Entry {
             kind: kind,
             outcome: outcome,
@@ -154,41 +221,13 @@ fn settle(e: Entry, ok: bool) -> Entry
 fn looked(s: Seen, e: Entry) -> Seen
     ensures { λ r. ⌜ r ≡ look s e ⌝ }
 {
-    if (e.kind == 3) & (e.n == 3) & (e.outcome == 0) {
+    if (e.kind == transcript::I2C_READ) & (e.n == 3) & (e.outcome == 0) {
         return Seen {
-            tries: std::num::wrapping_add_u64(s.tries, 1),
+            tries: std::num::wrapping_add_u16(s.tries, 1),
             locked: s.locked | (status::bit_reverse(e.bytes[2]) & 0x40 != 0),
         };
     }
     s
-}
-
-// A flow taken apart, and put together again behind steps that went over the log alone.
-pub fn log_of(f: Flow) -> Log
-    ensures { λ r. ⌜ r ≡ logOf f ⌝ }
-{
-    let went = f.went;
-    let seen = f.seen;
-    Log {
-        count: f.count,
-        went: went,
-        held: f.held,
-        seen: seen,
-    }
-}
-
-pub fn flow_of(l: Log, chip: Chip) -> Flow
-    ensures { λ r. ⌜ r ≡ flowOf l chip ⌝ }
-{
-    let went = l.went;
-    let seen = l.seen;
-    Flow {
-        chip: chip,
-        count: l.count,
-        went: went,
-        held: l.held,
-        seen: seen,
-    }
 }
 
 // A step's entry behind those laid out so far, and what is carried on.
@@ -239,7 +278,7 @@ pub fn log_open(l: Log, outcomes: &[u8], room: &mut [u8]) -> Log
     let k = l.count;
     let ok = outcomes[k] == 0;
     let e = Entry {
-        kind: 1,
+        kind: transcript::REPEATER,
         outcome: 0,
         target: 0,
         n: 1,
@@ -250,13 +289,16 @@ pub fn log_open(l: Log, outcomes: &[u8], room: &mut [u8]) -> Log
 }
 
 pub fn open_repeater(f: Flow, outcomes: &[u8], room: &mut [u8]) -> Flow
-    requires { ⌜ (f .count < length (now outcomes)) × (16 * f .count + 16 ≤ length (now room)) ⌝ }
+    requires { ⌜ (f .log .count < length (now outcomes)) × (16 * f .log .count + 16 ≤ length (now room)) ⌝ }
     ensures { λ r. ⌜ onRoom r (now (room .exit)) ≡ step inRoom (now (outcomes .entry)) Open (onRoom f (now (room .entry))) ⌝ }
-    ensures bounds { λ r. ⌜ r .count + due (r .held) ≤ f .count + 2 ⌝ }
+    ensures bounds { λ r. ⌜ r .log .count + due (r .log .held) ≤ f .log .count + 2 ⌝ }
 {
-    let l = log_of(f);
-    let next = log_open(l, outcomes, room);
-    flow_of(next, f.chip)
+    let chip = f.chip;
+    let log = log_open(f.log, outcomes, room);
+    Flow {
+        chip: chip,
+        log: log,
+    }
 }
 
 // "A failed closing is recorded and otherwise ignored": its outcome is told by its entry alone.
@@ -273,7 +315,7 @@ pub fn log_close(l: Log, outcomes: &[u8], room: &mut [u8]) -> Log
     let ok = outcomes[k] == 0;
     let went = l.went;
     let e = Entry {
-        kind: 1,
+        kind: transcript::REPEATER,
         outcome: 0,
         target: 0,
         n: 1,
@@ -297,13 +339,16 @@ pub fn log_end(l: Log, outcomes: &[u8], room: &mut [u8]) -> Log
 }
 
 pub fn close_repeater(f: Flow, outcomes: &[u8], room: &mut [u8]) -> Flow
-    requires { ⌜ (f .count + due (f .held) ≤ length (now outcomes)) × (16 * (f .count + due (f .held)) ≤ length (now room)) ⌝ }
+    requires { ⌜ (f .log .count + due (f .log .held) ≤ length (now outcomes)) × (16 * (f .log .count + due (f .log .held)) ≤ length (now room)) ⌝ }
     ensures { λ r. ⌜ onRoom r (now (room .exit)) ≡ step inRoom (now (outcomes .entry)) Close (onRoom f (now (room .entry))) ⌝ }
-    ensures bounds { λ r. ⌜ r .count + due (r .held) ≤ f .count + due (f .held) ⌝ }
+    ensures bounds { λ r. ⌜ r .log .count + due (r .log .held) ≤ f .log .count + due (f .log .held) ⌝ }
 {
-    let l = log_of(f);
-    let next = log_close(l, outcomes, room);
-    flow_of(next, f.chip)
+    let chip = f.chip;
+    let log = log_close(f.log, outcomes, room);
+    Flow {
+        chip: chip,
+        log: log,
+    }
 }
 
 // `i2c_write_raw` of n bytes, the first of them a register of the record. It and the masked write change the chip's lists where they lie.
@@ -332,7 +377,7 @@ fn send(
     let ok = outcomes[k] == 0;
     let held = l.held;
     let e = Entry {
-        kind: 2,
+        kind: transcript::I2C_WRITE,
         outcome: 0,
         target: address,
         n: n,
@@ -347,18 +392,16 @@ fn send(
 pub fn write_reg_mask_raw(
     l: Log,
     address: u8,
-    register: u8,
-    value: u8,
-    mask: u8,
+    u: Update,
     shadow: &mut [u8; 27],
     attempted: &mut [u8; 27],
     doubtful: &mut [bool; 27],
     outcomes: &[u8],
     room: &mut [u8],
 ) -> Log
-    requires { ⌜ (5 ≤ register) × (register ≤ 31) × (l .count < length (now outcomes)) × (16 * l .count + 16 ≤ length (now room)) ⌝ }
+    requires { ⌜ (inRange u ≡ true) × (l .count < length (now outcomes)) × (16 * l .count + 16 ≤ length (now room)) ⌝ }
     ensures { λ r. ⌜ onLists address (now (shadow .exit)) (now (attempted .exit)) (now (doubtful .exit)) r (now (room .exit))
-        ≡ step inRoom (now (outcomes .entry)) (Mask register value mask)
+        ≡ step inRoom (now (outcomes .entry)) (Mask (u .register) (u .value) (u .mask))
         (onLists address (now (shadow .entry)) (now (attempted .entry)) (now (doubtful .entry)) l (now (room .entry))) ⌝ }
     ensures bounds { λ r. ⌜ r .count + due (r .held) ≤ l .count + 1 + due (l .held) ⌝ }
 {
@@ -369,18 +412,18 @@ pub fn write_reg_mask_raw(
     let k = l.count;
     let ok = outcomes[k] == 0;
     let held = l.held;
-    let index = (register - REG_SHADOW_START) as usize;
-    let byte = mask_into(shadow[index], value, mask);
+    let index = (u.register - REG_SHADOW_START) as usize;
+    let byte = mask_into(shadow[index], u.value, u.mask);
     shadow[index] = byte;
     attempted[index] = byte;
     doubtful[index] = !ok;
     let e = Entry {
-        kind: 2,
+        kind: transcript::I2C_WRITE,
         outcome: 0,
         target: address,
         n: 2,
         address: 0,
-        bytes: [register, byte, 0, 0, 0, 0, 0, 0],
+        bytes: [u.register, byte, 0, 0, 0, 0, 0, 0],
     };
     log_entry(l, e, ok, told(ok, k), held, room)
 }
@@ -396,7 +439,7 @@ pub fn log_plain(l: Log, e: Entry, outcomes: &[u8], room: &mut [u8]) -> Log
         return l;
     };
     let k = l.count;
-    let ok = (outcomes[k] == 0) | (e.kind == 9);
+    let ok = (outcomes[k] == 0) | (e.kind == transcript::WAIT);
     let held = l.held;
     log_entry(l, e, ok, told(ok, k), held, room)
 }
@@ -430,39 +473,29 @@ fn write_update(
             room,
         );
     }
-    write_reg_mask_raw(
-        l,
-        address,
-        u.register,
-        u.value,
-        u.mask,
-        shadow,
-        attempted,
-        doubtful,
-        outcomes,
-        room,
-    )
+    write_reg_mask_raw(l, address, u, shadow, attempted, doubtful, outcomes, room)
 }
 
 // The first n of a list of updates, behind an open repeater.
 fn write_list(
     l: Log,
     address: u8,
-    us: [Update; 16],
-    n: usize,
+    us: Updates,
     shadow: &mut [u8; 27],
     attempted: &mut [u8; 27],
     doubtful: &mut [bool; 27],
     outcomes: &[u8],
     room: &mut [u8],
 ) -> Log
-    requires { ⌜ (n ≤ 16) × (allIn (take n us) ≡ true)
-        × (l .count + n + due (l .held) ≤ length (now outcomes)) × (16 * (l .count + n + due (l .held)) ≤ length (now room)) ⌝ }
+    requires { ⌜ (us .n ≤ 16) × (allIn (meantOf us) ≡ true)
+        × (l .count + us .n + due (l .held) ≤ length (now outcomes)) × (16 * (l .count + us .n + due (l .held)) ≤ length (now room)) ⌝ }
     ensures { λ r. ⌜ onLists address (now (shadow .exit)) (now (attempted .exit)) (now (doubtful .exit)) r (now (room .exit))
-        ≡ closing inRoom (now (outcomes .entry)) (run inRoom (now (outcomes .entry)) (updates (take n us))
+        ≡ closing inRoom (now (outcomes .entry)) (run inRoom (now (outcomes .entry)) (updates (meantOf us))
         (onLists address (now (shadow .entry)) (now (attempted .entry)) (now (doubtful .entry)) l (now (room .entry)))) ⌝ }
-    ensures bounds { λ r. ⌜ r .count + due (r .held) ≤ l .count + n + due (l .held) ⌝ }
+    ensures bounds { λ r. ⌜ r .count + due (r .held) ≤ l .count + us .n + due (l .held) ⌝ }
 {
+    let list = us.list;
+    let n = us.n;
     let mut l = l;
     let went = l.went;
     let Went::Going = went else {
@@ -470,16 +503,8 @@ fn write_list(
     };
     let mut i = 0;
     while i < n {
-        l = write_update(
-            l,
-            address,
-            us[i],
-            shadow,
-            attempted,
-            doubtful,
-            outcomes,
-            room,
-        );
+        let u = list[i];
+        l = write_update(l, address, u, shadow, attempted, doubtful, outcomes, room);
         let went = l.went;
         let Went::Going = went else {
             return log_close(l, outcomes, room);
@@ -489,23 +514,21 @@ fn write_list(
     l
 }
 
-pub fn write_all(f: Flow, us: [Update; 16], n: usize, outcomes: &[u8], room: &mut [u8]) -> Flow
-    requires { ⌜ (n ≤ 16) × (allIn (take n us) ≡ true)
-        × (f .count + n + due (f .held) ≤ length (now outcomes)) × (16 * (f .count + n + due (f .held)) ≤ length (now room)) ⌝ }
+pub fn write_all(f: Flow, us: Updates, outcomes: &[u8], room: &mut [u8]) -> Flow
+    requires { ⌜ (us .n ≤ 16) × (allIn (meantOf us) ≡ true)
+        × (f .log .count + us .n + due (f .log .held) ≤ length (now outcomes)) × (16 * (f .log .count + us .n + due (f .log .held)) ≤ length (now room)) ⌝ }
     ensures { λ r. ⌜ onRoom r (now (room .exit))
-        ≡ closing inRoom (now (outcomes .entry)) (run inRoom (now (outcomes .entry)) (updates (take n us)) (onRoom f (now (room .entry)))) ⌝ }
-    ensures bounds { λ r. ⌜ r .count + due (r .held) ≤ f .count + n + due (f .held) ⌝ }
+        ≡ closing inRoom (now (outcomes .entry)) (run inRoom (now (outcomes .entry)) (updates (meantOf us)) (onRoom f (now (room .entry)))) ⌝ }
+    ensures bounds { λ r. ⌜ r .log .count + due (r .log .held) ≤ f .log .count + us .n + due (f .log .held) ⌝ }
 {
     let chip = f.chip;
     let mut shadow = chip.shadow;
     let mut attempted = chip.attempted;
     let mut doubtful = chip.doubtful;
-    let l = log_of(f);
-    let written = write_list(
-        l,
+    let log = write_list(
+        f.log,
         chip.address,
         us,
-        n,
         &mut shadow,
         &mut attempted,
         &mut doubtful,
@@ -518,23 +541,27 @@ pub fn write_all(f: Flow, us: [Update; 16], n: usize, outcomes: &[u8], room: &mu
         attempted: attempted,
         doubtful: doubtful,
     };
-    flow_of(written, next)
+    Flow {
+        chip: next,
+        log: log,
+    }
 }
 
 // `with_repeater` over a list of updates: open, steps, close.
-pub fn with_repeater(f: Flow, us: [Update; 16], n: usize, outcomes: &[u8], room: &mut [u8]) -> Flow
-    requires { ⌜ (n ≤ 16) × (allIn (take n us) ≡ true)
-        × (f .count + n + 2 ≤ length (now outcomes)) × (16 * (f .count + n + 2) ≤ length (now room)) ⌝ }
+pub fn with_repeater(f: Flow, us: Updates, outcomes: &[u8], room: &mut [u8]) -> Flow
+    requires { ⌜ (us .n ≤ 16) × (allIn (meantOf us) ≡ true)
+        × (f .log .count + us .n + 2 ≤ length (now outcomes)) × (16 * (f .log .count + us .n + 2) ≤ length (now room)) ⌝ }
     ensures { λ r. ⌜ onRoom r (now (room .exit))
-        ≡ run inRoom (now (outcomes .entry)) (behind (updates (take n us))) (onRoom f (now (room .entry))) ⌝ }
-    ensures bounds { λ r. ⌜ r .count + due (r .held) ≤ f .count + n + 2 ⌝ }
+        ≡ run inRoom (now (outcomes .entry)) (behind (updates (meantOf us))) (onRoom f (now (room .entry))) ⌝ }
+    ensures bounds { λ r. ⌜ r .log .count + due (r .log .held) ≤ f .log .count + us .n + 2 ⌝ }
 {
     let opened = open_repeater(f, outcomes, room);
-    let went = opened.went;
+    let log = opened.log;
+    let went = log.went;
     let Went::Going = went else {
         return close_repeater(opened, outcomes, room);
     };
-    let written = write_all(opened, us, n, outcomes, room);
+    let written = write_all(opened, us, outcomes, room);
     close_repeater(written, outcomes, room)
 }
 
@@ -660,16 +687,19 @@ fn last_chunks(
 
 // `i2c_write_tuner` of the first 16 registers.
 pub fn i2c_write_first(f: Flow, bs: [u8; 27], outcomes: &[u8], room: &mut [u8]) -> Flow
-    requires { ⌜ (f .count + 5 ≤ length (now outcomes)) × (16 * (f .count + 5) ≤ length (now room)) ⌝ }
+    requires { ⌜ (f .log .count + 5 ≤ length (now outcomes)) × (16 * (f .log .count + 5) ≤ length (now room)) ⌝ }
     ensures { λ r. ⌜ onRoom r (now (room .exit)) ≡ run inRoom (now (outcomes .entry)) (tunerWrite bs 0 3) (onRoom f (now (room .entry))) ⌝ }
-    ensures bounds { λ r. ⌜ r .count + due (r .held) ≤ f .count + 5 ⌝ }
+    ensures bounds { λ r. ⌜ r .log .count + due (r .log .held) ≤ f .log .count + 5 ⌝ }
 {
     let chip = f.chip;
-    let opened = log_open(log_of(f), outcomes, room);
+    let opened = log_open(f.log, outcomes, room);
     let went = opened.went;
     let Went::Going = went else {
         let shut = log_close(opened, outcomes, room);
-        return flow_of(shut, chip);
+        return Flow {
+            chip: chip,
+            log: shut,
+        };
     };
     let shadow = chip.shadow;
     let mut attempted = chip.attempted;
@@ -690,21 +720,27 @@ pub fn i2c_write_first(f: Flow, bs: [u8; 27], outcomes: &[u8], room: &mut [u8]) 
         attempted: attempted,
         doubtful: doubtful,
     };
-    flow_of(closed, next)
+    Flow {
+        chip: next,
+        log: closed,
+    }
 }
 
 // And of the other 11.
 pub fn i2c_write_last(f: Flow, bs: [u8; 27], outcomes: &[u8], room: &mut [u8]) -> Flow
-    requires { ⌜ (f .count + 4 ≤ length (now outcomes)) × (16 * (f .count + 4) ≤ length (now room)) ⌝ }
+    requires { ⌜ (f .log .count + 4 ≤ length (now outcomes)) × (16 * (f .log .count + 4) ≤ length (now room)) ⌝ }
     ensures { λ r. ⌜ onRoom r (now (room .exit)) ≡ run inRoom (now (outcomes .entry)) (tunerWrite bs 3 5) (onRoom f (now (room .entry))) ⌝ }
-    ensures bounds { λ r. ⌜ r .count + due (r .held) ≤ f .count + 4 ⌝ }
+    ensures bounds { λ r. ⌜ r .log .count + due (r .log .held) ≤ f .log .count + 4 ⌝ }
 {
     let chip = f.chip;
-    let opened = log_open(log_of(f), outcomes, room);
+    let opened = log_open(f.log, outcomes, room);
     let went = opened.went;
     let Went::Going = went else {
         let shut = log_close(opened, outcomes, room);
-        return flow_of(shut, chip);
+        return Flow {
+            chip: chip,
+            log: shut,
+        };
     };
     let shadow = chip.shadow;
     let mut attempted = chip.attempted;
@@ -725,7 +761,10 @@ pub fn i2c_write_last(f: Flow, bs: [u8; 27], outcomes: &[u8], room: &mut [u8]) -
         attempted: attempted,
         doubtful: doubtful,
     };
-    flow_of(closed, next)
+    Flow {
+        chip: next,
+        log: closed,
+    }
 }
 
 // Which lent slice is too short for a call of at most n entries and m replies: 8, 9, 10, or 0 where all suffice.
@@ -747,11 +786,12 @@ pub fn lent(n: usize, m: usize, room: usize, outcomes: usize, replies: usize) ->
 
 // The trailer, and the answer: what the call answers where no step failed, else refusal 11 with the index.
 pub fn finish(f: Flow, whole: Answer, room: &mut [u8]) -> Answer
-    requires { ⌜ (f .count ≤ 4096) × (16 * f .count + 8 ≤ length (now room)) ⌝ }
-    ensures { λ r. ⌜ (r ≡ answerOf whole (f .went)) × (now (room .exit) ≡ sealed (now (room .entry)) (f .count)) ⌝ }
+    requires { ⌜ (f .log .count ≤ 4096) × (16 * f .log .count + 8 ≤ length (now room)) ⌝ }
+    ensures { λ r. ⌜ (r ≡ answerOf whole (f .log .went)) × (now (room .exit) ≡ sealed (now (room .entry)) (f .log .count)) ⌝ }
 {
-    let count = f.count;
-    let went = f.went;
+    let log = f.log;
+    let count = log.count;
+    let went = log.went;
     transcript::seal(room, count);
     match went {
         Went::Going => whole,

@@ -12,19 +12,12 @@ ghost use Rattle.device.specs.Calls.{back};
 ghost use Rattle.demod.specs.Programs.{ddcByte, ddcSteps, firSteps, ifRows, ifSteps, initSteps, powerSteps, rateRows, rateSteps, resetSteps, upward};
 ghost use Rattle.demod.specs.Calls.{directCall, ifCall, initCall, lowIfCall, rateCall, resetCall, startCall, stopCall, zeroIfCall};
 use chip::Answer;
-use chip::Chip;
 use chip::Flow;
 use chip::Log;
-use chip::Seen;
-use chip::Went;
 use device::Access;
-use device::BLOCK;
-use device::BLOCK16;
-use device::DEMOD;
-use device::DEMOD16;
 use device::Handed;
+use device::NO_CHIP;
 use device::NONE;
-use device::WAIT;
 use registers::block;
 use registers::demod::P0_PAGE;
 use registers::demod::P1_DDC_SYNC;
@@ -39,6 +32,11 @@ use registers::demod::P1_SOFT_RESET_OFF;
 use registers::demod::P1_SOFT_RESET_ON;
 use registers::sys;
 use registers::usb;
+use transcript::BLOCK;
+use transcript::BLOCK16;
+use transcript::DEMOD;
+use transcript::DEMOD16;
+use transcript::WAIT;
 
 pub const DEFAULT_SAMPLE_RATE: u32 = 2_048_000;
 
@@ -149,9 +147,9 @@ const MODE: [Access; 10] = [
 ];
 
 pub fn reset_steps(f: Flow, outcomes: &[u8], room: &mut [u8]) -> Flow
-    requires { ⌜ (f .count + 2 + due (f .held) ≤ length (now outcomes)) × (16 * (f .count + 2 + due (f .held)) ≤ length (now room)) ⌝ }
+    requires { ⌜ (f .log .count + 2 + due (f .log .held) ≤ length (now outcomes)) × (16 * (f .log .count + 2 + due (f .log .held)) ≤ length (now room)) ⌝ }
     ensures { λ r. ⌜ onRoom r (now (room .exit)) ≡ run inRoom (now (outcomes .entry)) resetSteps (onRoom f (now (room .entry))) ⌝ }
-    ensures bounds { λ r. ⌜ r .count + due (r .held) ≤ f .count + 2 + due (f .held) ⌝ }
+    ensures bounds { λ r. ⌜ r .log .count + due (r .log .held) ≤ f .log .count + 2 + due (f .log .held) ⌝ }
 {
     device::access_two(f, RESET, outcomes, room)
 }
@@ -159,31 +157,31 @@ pub fn reset_steps(f: Flow, outcomes: &[u8], room: &mut [u8]) -> Flow
 pub fn reset_demod(outcomes: &[u8], room: &mut [u8]) -> Handed
     ensures { λ r. ⌜ back r (now (room .exit)) ≡ resetCall (now (outcomes .entry)) (now (room .entry)) ⌝ }
 {
-    device::perform(RESET, 2, 0, 0, outcomes, room)
+    device::perform(RESET, 2, 0, outcomes, 0, room)
 }
 
 pub fn set_tuner_low_if(outcomes: &[u8], room: &mut [u8]) -> Handed
     ensures { λ r. ⌜ back r (now (room .exit)) ≡ lowIfCall (now (outcomes .entry)) (now (room .entry)) ⌝ }
 {
-    device::perform(LOW_IF, 2, 0, 0, outcomes, room)
+    device::perform(LOW_IF, 2, 0, outcomes, 0, room)
 }
 
 pub fn set_tuner_zero_if(outcomes: &[u8], room: &mut [u8]) -> Handed
     ensures { λ r. ⌜ back r (now (room .exit)) ≡ zeroIfCall (now (outcomes .entry)) (now (room .entry)) ⌝ }
 {
-    device::perform(ZERO_IF, 2, 0, 0, outcomes, room)
+    device::perform(ZERO_IF, 2, 0, outcomes, 0, room)
 }
 
 pub fn start_streaming(outcomes: &[u8], room: &mut [u8]) -> Handed
     ensures { λ r. ⌜ back r (now (room .exit)) ≡ startCall (now (outcomes .entry)) (now (room .entry)) ⌝ }
 {
-    device::perform(START, 2, 0, 0, outcomes, room)
+    device::perform(START, 2, 0, outcomes, 0, room)
 }
 
 pub fn stop_streaming(outcomes: &[u8], room: &mut [u8]) -> Handed
     ensures { λ r. ⌜ back r (now (room .exit)) ≡ stopCall (now (outcomes .entry)) (now (room .entry)) ⌝ }
 {
-    device::perform(STOP, 2, 0, 0, outcomes, room)
+    device::perform(STOP, 2, 0, outcomes, 0, room)
 }
 
 pub fn write_reg_direct(
@@ -197,7 +195,7 @@ pub fn write_reg_direct(
 {
     let mut rows = [NONE; 10];
     rows[0] = Access(DEMOD, page, register, value as u16);
-    device::perform(rows, 1, 0, 0, outcomes, room)
+    device::perform(rows, 1, 0, outcomes, 0, room)
 }
 
 fn ddc_byte(inverted: bool) -> u8
@@ -212,9 +210,9 @@ fn ddc_byte(inverted: bool) -> u8
 
 // The DDC byte, by whether the spectrum is inverted.
 pub fn ddc(f: Flow, inverted: bool, outcomes: &[u8], room: &mut [u8]) -> Flow
-    requires { ⌜ (f .count + 1 + due (f .held) ≤ length (now outcomes)) × (16 * (f .count + 1 + due (f .held)) ≤ length (now room)) ⌝ }
+    requires { ⌜ (f .log .count + 1 + due (f .log .held) ≤ length (now outcomes)) × (16 * (f .log .count + 1 + due (f .log .held)) ≤ length (now room)) ⌝ }
     ensures { λ r. ⌜ onRoom r (now (room .exit)) ≡ run inRoom (now (outcomes .entry)) (ddcSteps inverted) (onRoom f (now (room .entry))) ⌝ }
-    ensures bounds { λ r. ⌜ r .count + due (r .held) ≤ f .count + 1 + due (f .held) ⌝ }
+    ensures bounds { λ r. ⌜ r .log .count + due (r .log .held) ≤ f .log .count + 1 + due (f .log .held) ⌝ }
 {
     let byte = ddc_byte(inverted);
     device::one_access(
@@ -239,9 +237,9 @@ fn if_rows(hz: u32, xtal: u32) -> [Access; 10]
 }
 
 pub fn if_steps(f: Flow, hz: u32, xtal: u32, outcomes: &[u8], room: &mut [u8]) -> Flow
-    requires { ⌜ (0 < xtal) × (f .count + 3 + due (f .held) ≤ length (now outcomes)) × (16 * (f .count + 3 + due (f .held)) ≤ length (now room)) ⌝ }
+    requires { ⌜ (0 < xtal) × (f .log .count + 3 + due (f .log .held) ≤ length (now outcomes)) × (16 * (f .log .count + 3 + due (f .log .held)) ≤ length (now room)) ⌝ }
     ensures { λ r. ⌜ onRoom r (now (room .exit)) ≡ run inRoom (now (outcomes .entry)) (ifSteps hz xtal) (onRoom f (now (room .entry))) ⌝ }
-    ensures bounds { λ r. ⌜ r .count + due (r .held) ≤ f .count + 3 + due (f .held) ⌝ }
+    ensures bounds { λ r. ⌜ r .log .count + due (r .log .held) ≤ f .log .count + 3 + due (f .log .held) ⌝ }
 {
     let rows = if_rows(hz, xtal);
     device::access_three(f, rows, outcomes, room)
@@ -257,7 +255,7 @@ pub fn set_if_freq_xtal(hz: u32, xtal: u32, outcomes: &[u8], room: &mut [u8]) ->
         };
     }
     let rows = if_rows(hz, xtal);
-    device::perform(rows, 3, 0, 0, outcomes, room)
+    device::perform(rows, 3, 0, outcomes, 0, room)
 }
 
 // The ratio's high and low 16 bits, and two zeros.
@@ -276,9 +274,9 @@ fn rate_rows(rate: u32, xtal: u32) -> [Access; 10]
 }
 
 pub fn rate_steps(f: Flow, rate: u32, xtal: u32, outcomes: &[u8], room: &mut [u8]) -> Flow
-    requires { ⌜ (0 < rate) × (f .count + 4 + due (f .held) ≤ length (now outcomes)) × (16 * (f .count + 4 + due (f .held)) ≤ length (now room)) ⌝ }
+    requires { ⌜ (0 < rate) × (f .log .count + 4 + due (f .log .held) ≤ length (now outcomes)) × (16 * (f .log .count + 4 + due (f .log .held)) ≤ length (now room)) ⌝ }
     ensures { λ r. ⌜ onRoom r (now (room .exit)) ≡ run inRoom (now (outcomes .entry)) (rateSteps rate xtal) (onRoom f (now (room .entry))) ⌝ }
-    ensures bounds { λ r. ⌜ r .count + due (r .held) ≤ f .count + 4 + due (f .held) ⌝ }
+    ensures bounds { λ r. ⌜ r .log .count + due (r .log .held) ≤ f .log .count + 4 + due (f .log .held) ⌝ }
 {
     let rows = rate_rows(rate, xtal);
     device::access_four(f, rows, outcomes, room)
@@ -300,7 +298,7 @@ pub fn set_sample_rate_xtal(rate: u32, xtal: u32, outcomes: &[u8], room: &mut [u
         };
     }
     let rows = rate_rows(rate, xtal);
-    device::perform(rows, 4, 0, 0, outcomes, room)
+    device::perform(rows, 4, 0, outcomes, 0, room)
 }
 
 // The first n bytes, to the registers of page 1 from one upward.
@@ -336,19 +334,22 @@ fn write_upward(
     outcomes: &[u8],
     room: &mut [u8],
 ) -> Flow
-    requires { ⌜ (n ≤ 20) × (register ≤ 255) × (f .count + n + due (f .held) ≤ length (now outcomes)) × (16 * (f .count + n + due (f .held)) ≤ length (now room)) ⌝ }
+    requires { ⌜ (n ≤ 20) × (register ≤ 255) × (f .log .count + n + due (f .log .held) ≤ length (now outcomes)) × (16 * (f .log .count + n + due (f .log .held)) ≤ length (now room)) ⌝ }
     ensures { λ r. ⌜ onRoom r (now (room .exit)) ≡ run inRoom (now (outcomes .entry)) (upward register (take n bytes)) (onRoom f (now (room .entry))) ⌝ }
-    ensures bounds { λ r. ⌜ r .count + due (r .held) ≤ f .count + n + due (f .held) ⌝ }
+    ensures bounds { λ r. ⌜ r .log .count + due (r .log .held) ≤ f .log .count + n + due (f .log .held) ⌝ }
 {
-    let l = chip::log_of(f);
-    let next = log_upward(l, register, bytes, n, outcomes, room);
-    chip::flow_of(next, f.chip)
+    let chip = f.chip;
+    let log = log_upward(f.log, register, bytes, n, outcomes, room);
+    Flow {
+        chip: chip,
+        log: log,
+    }
 }
 
 fn power_steps(f: Flow, outcomes: &[u8], room: &mut [u8]) -> Flow
-    requires { ⌜ (f .count + 16 + due (f .held) ≤ length (now outcomes)) × (16 * (f .count + 16 + due (f .held)) ≤ length (now room)) ⌝ }
+    requires { ⌜ (f .log .count + 16 + due (f .log .held) ≤ length (now outcomes)) × (16 * (f .log .count + 16 + due (f .log .held)) ≤ length (now room)) ⌝ }
     ensures { λ r. ⌜ onRoom r (now (room .exit)) ≡ run inRoom (now (outcomes .entry)) (powerSteps ++ upward 0x16 (replicate 6 0)) (onRoom f (now (room .entry))) ⌝ }
-    ensures bounds { λ r. ⌜ r .count + due (r .held) ≤ f .count + 16 + due (f .held) ⌝ }
+    ensures bounds { λ r. ⌜ r .log .count + due (r .log .held) ≤ f .log .count + 16 + due (f .log .held) ⌝ }
 {
     let zeros = [0u8; 20];
     let on = device::access_all(f, POWER, 10, outcomes, room);
@@ -356,18 +357,18 @@ fn power_steps(f: Flow, outcomes: &[u8], room: &mut [u8]) -> Flow
 }
 
 fn set_fir(f: Flow, outcomes: &[u8], room: &mut [u8]) -> Flow
-    requires { ⌜ (f .count + 20 + due (f .held) ≤ length (now outcomes)) × (16 * (f .count + 20 + due (f .held)) ≤ length (now room)) ⌝ }
+    requires { ⌜ (f .log .count + 20 + due (f .log .held) ≤ length (now outcomes)) × (16 * (f .log .count + 20 + due (f .log .held)) ≤ length (now room)) ⌝ }
     ensures { λ r. ⌜ onRoom r (now (room .exit)) ≡ run inRoom (now (outcomes .entry)) firSteps (onRoom f (now (room .entry))) ⌝ }
-    ensures bounds { λ r. ⌜ r .count + due (r .held) ≤ f .count + 20 + due (f .held) ⌝ }
+    ensures bounds { λ r. ⌜ r .log .count + due (r .log .held) ≤ f .log .count + 20 + due (f .log .held) ⌝ }
 {
     let bytes = fir::default_bytes();
     write_upward(f, 0x1c, bytes, 20, outcomes, room)
 }
 
 fn init_steps(f: Flow, outcomes: &[u8], room: &mut [u8]) -> Flow
-    requires { ⌜ (f .count + 45 + due (f .held) ≤ length (now outcomes)) × (16 * (f .count + 45 + due (f .held)) ≤ length (now room)) ⌝ }
+    requires { ⌜ (f .log .count + 45 + due (f .log .held) ≤ length (now outcomes)) × (16 * (f .log .count + 45 + due (f .log .held)) ≤ length (now room)) ⌝ }
     ensures { λ r. ⌜ onRoom r (now (room .exit)) ≡ run inRoom (now (outcomes .entry)) initSteps (onRoom f (now (room .entry))) ⌝ }
-    ensures bounds { λ r. ⌜ r .count + due (r .held) ≤ f .count + 45 + due (f .held) ⌝ }
+    ensures bounds { λ r. ⌜ r .log .count + due (r .log .held) ≤ f .log .count + 45 + due (f .log .held) ⌝ }
 {
     let on = power_steps(f, outcomes, room);
     let filtered = set_fir(on, outcomes, room);
@@ -384,25 +385,12 @@ pub fn init_baseband(outcomes: &[u8], room: &mut [u8]) -> Handed
             count: 0,
         };
     }
-    let zeros = [0u8; 27];
-    let marks = [false; 27];
     let start = Flow {
-        chip: Chip {
-            address: 0,
-            shadow: zeros,
-            attempted: zeros,
-            doubtful: marks,
-        },
-        count: 0,
-        went: Went::Going,
-        held: false,
-        seen: Seen {
-            tries: 0,
-            locked: false,
-        },
+        chip: NO_CHIP,
+        log: chip::START,
     };
     let f = init_steps(start, outcomes, room);
-    let count = f.count;
+    let count = f.log.count;
     let answer = chip::finish(f, Answer::Done(0), room);
     Handed {
         answer: answer,

@@ -44,8 +44,8 @@ refuses number os ss room given e h = rw (← e, ne-eqb given 0 h)
 pub performs : (number : ℕ) (os : List ℕ) (ss : List Step) (room : List ℕ) (f : Flow) (mid after : List ℕ) (answer : Answer)
     → number ≡ 0 → every eight ss ≡ true
     → onRoom f mid ≡ run inRoom os ss (line noChip (logged room unseen) 0 Going false)
-    → answer ≡ answerOf (Done 0) (f .went) → after ≡ sealed mid (f .count)
-    → called tt after (f .count) answer ≡ freeCall number os ss room
+    → answer ≡ answerOf (Done 0) (f .log .went) → after ≡ sealed mid (f .log .count)
+    → called tt after (f .log .count) answer ≡ freeCall number os ss room
 unfolding callOf
 performs number os ss room f mid after answer z h e q p =
     rw z (handed os room ss noChip (λ t. tt) (Done 0) tt f mid after answer h e p q refl)

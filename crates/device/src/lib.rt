@@ -15,24 +15,15 @@ use chip::Answer;
 use chip::Chip;
 use chip::Flow;
 use chip::Log;
-use chip::Seen;
-use chip::Went;
+use chip::START;
 use registers::block;
 use registers::sys;
+use transcript::BLOCK;
+use transcript::BLOCK16;
+use transcript::DEMOD16;
 use transcript::Entry;
-
-// Kinds of document 01's table.
-pub const DEMOD: u8 = 4;
-
-pub const DEMOD16: u8 = 5;
-
-pub const BLOCK: u8 = 6;
-
-pub const BLOCK16: u8 = 7;
-
-pub const READ: u8 = 8;
-
-pub const WAIT: u8 = 9;
+use transcript::READ;
+use transcript::WAIT;
 
 // One access of the interface: its kind, target (page or block), register, and value. A write of 8 or 16 bits, a read with the
 // reply as its value, or a wait of `register` milliseconds.
@@ -40,6 +31,14 @@ pub struct Access(pub u8, pub u8, pub u16, pub u16);
 
 // What fills an array behind the accesses of a call: of no kind, and never taken.
 pub const NONE: Access = Access(0, 0, 0, 0);
+
+// The chip of calls that touch no record.
+pub const NO_CHIP: Chip = Chip {
+    address: 0,
+    shadow: [0; 27],
+    attempted: [0; 27],
+    doubtful: [false; 27],
+};
 
 // What a call that touches no record hands back.
 pub struct Handed {
@@ -54,7 +53,7 @@ fn entry(a: Access) -> Entry
     let kind = a.0;
     let high = (a.3 / 256) as u8;
     let low = (a.3 % 256) as u8;
-    if (kind == 5) | (kind == 7) {
+    if (kind == DEMOD16) | (kind == BLOCK16) {
         return Entry {
             kind: kind,
             outcome: 0,
@@ -64,7 +63,7 @@ fn entry(a: Access) -> Entry
             bytes: [high, low, 0, 0, 0, 0, 0, 0],
         };
     }
-    let n = if kind == 9 { 0 } else { 1 };
+    let n = if kind == WAIT { 0 } else { 1 };
     Entry {
         kind: kind,
         outcome: 0,
@@ -86,13 +85,16 @@ pub fn log_access(l: Log, a: Access, outcomes: &[u8], room: &mut [u8]) -> Log
 }
 
 pub fn one_access(f: Flow, a: Access, outcomes: &[u8], room: &mut [u8]) -> Flow
-    requires { ⌜ (f .count < length (now outcomes)) × (16 * f .count + 16 ≤ length (now room)) ⌝ }
+    requires { ⌜ (f .log .count < length (now outcomes)) × (16 * f .log .count + 16 ≤ length (now room)) ⌝ }
     ensures { λ r. ⌜ onRoom r (now (room .exit)) ≡ step inRoom (now (outcomes .entry)) (accessStep a) (onRoom f (now (room .entry))) ⌝ }
-    ensures bounds { λ r. ⌜ r .count + due (r .held) ≤ f .count + 1 + due (f .held) ⌝ }
+    ensures bounds { λ r. ⌜ r .log .count + due (r .log .held) ≤ f .log .count + 1 + due (f .log .held) ⌝ }
 {
-    let l = chip::log_of(f);
-    let next = log_access(l, a, outcomes, room);
-    chip::flow_of(next, f.chip)
+    let chip = f.chip;
+    let log = log_access(f.log, a, outcomes, room);
+    Flow {
+        chip: chip,
+        log: log,
+    }
 }
 
 // The first n of a list of accesses; those behind a failed one are not taken.
@@ -112,55 +114,67 @@ fn log_all(l: Log, rows: [Access; 10], n: usize, outcomes: &[u8], room: &mut [u8
 }
 
 pub fn access_all(f: Flow, rows: [Access; 10], n: usize, outcomes: &[u8], room: &mut [u8]) -> Flow
-    requires { ⌜ (n ≤ 10) × (f .count + n + due (f .held) ≤ length (now outcomes)) × (16 * (f .count + n + due (f .held)) ≤ length (now room)) ⌝ }
+    requires { ⌜ (n ≤ 10) × (f .log .count + n + due (f .log .held) ≤ length (now outcomes)) × (16 * (f .log .count + n + due (f .log .held)) ≤ length (now room)) ⌝ }
     ensures { λ r. ⌜ onRoom r (now (room .exit))
         ≡ run inRoom (now (outcomes .entry)) (map accessStep (take n rows)) (onRoom f (now (room .entry))) ⌝ }
-    ensures bounds { λ r. ⌜ r .count + due (r .held) ≤ f .count + n + due (f .held) ⌝ }
+    ensures bounds { λ r. ⌜ r .log .count + due (r .log .held) ≤ f .log .count + n + due (f .log .held) ⌝ }
 {
-    let l = chip::log_of(f);
-    let next = log_all(l, rows, n, outcomes, room);
-    chip::flow_of(next, f.chip)
+    let chip = f.chip;
+    let log = log_all(f.log, rows, n, outcomes, room);
+    Flow {
+        chip: chip,
+        log: log,
+    }
 }
 
 // A few accesses in a straight line, beside the loop: the compiler puts such a line in place and its constants fold, which a loop's do not.
 // Each of the three says its accesses itself, since two of them in a function of their own are not put in place.
 pub fn access_two(f: Flow, rows: [Access; 10], outcomes: &[u8], room: &mut [u8]) -> Flow
-    requires { ⌜ (f .count + 2 + due (f .held) ≤ length (now outcomes)) × (16 * (f .count + 2 + due (f .held)) ≤ length (now room)) ⌝ }
+    requires { ⌜ (f .log .count + 2 + due (f .log .held) ≤ length (now outcomes)) × (16 * (f .log .count + 2 + due (f .log .held)) ≤ length (now room)) ⌝ }
     ensures { λ r. ⌜ onRoom r (now (room .exit))
         ≡ run inRoom (now (outcomes .entry)) (map accessStep (take 2 rows)) (onRoom f (now (room .entry))) ⌝ }
-    ensures bounds { λ r. ⌜ r .count + due (r .held) ≤ f .count + 2 + due (f .held) ⌝ }
+    ensures bounds { λ r. ⌜ r .log .count + due (r .log .held) ≤ f .log .count + 2 + due (f .log .held) ⌝ }
 {
-    let l = chip::log_of(f);
-    let first = log_access(l, rows[0], outcomes, room);
+    let chip = f.chip;
+    let first = log_access(f.log, rows[0], outcomes, room);
     let second = log_access(first, rows[1], outcomes, room);
-    chip::flow_of(second, f.chip)
+    Flow {
+        chip: chip,
+        log: second,
+    }
 }
 
 pub fn access_three(f: Flow, rows: [Access; 10], outcomes: &[u8], room: &mut [u8]) -> Flow
-    requires { ⌜ (f .count + 3 + due (f .held) ≤ length (now outcomes)) × (16 * (f .count + 3 + due (f .held)) ≤ length (now room)) ⌝ }
+    requires { ⌜ (f .log .count + 3 + due (f .log .held) ≤ length (now outcomes)) × (16 * (f .log .count + 3 + due (f .log .held)) ≤ length (now room)) ⌝ }
     ensures { λ r. ⌜ onRoom r (now (room .exit))
         ≡ run inRoom (now (outcomes .entry)) (map accessStep (take 3 rows)) (onRoom f (now (room .entry))) ⌝ }
-    ensures bounds { λ r. ⌜ r .count + due (r .held) ≤ f .count + 3 + due (f .held) ⌝ }
+    ensures bounds { λ r. ⌜ r .log .count + due (r .log .held) ≤ f .log .count + 3 + due (f .log .held) ⌝ }
 {
-    let l = chip::log_of(f);
-    let first = log_access(l, rows[0], outcomes, room);
+    let chip = f.chip;
+    let first = log_access(f.log, rows[0], outcomes, room);
     let second = log_access(first, rows[1], outcomes, room);
     let third = log_access(second, rows[2], outcomes, room);
-    chip::flow_of(third, f.chip)
+    Flow {
+        chip: chip,
+        log: third,
+    }
 }
 
 pub fn access_four(f: Flow, rows: [Access; 10], outcomes: &[u8], room: &mut [u8]) -> Flow
-    requires { ⌜ (f .count + 4 + due (f .held) ≤ length (now outcomes)) × (16 * (f .count + 4 + due (f .held)) ≤ length (now room)) ⌝ }
+    requires { ⌜ (f .log .count + 4 + due (f .log .held) ≤ length (now outcomes)) × (16 * (f .log .count + 4 + due (f .log .held)) ≤ length (now room)) ⌝ }
     ensures { λ r. ⌜ onRoom r (now (room .exit))
         ≡ run inRoom (now (outcomes .entry)) (map accessStep (take 4 rows)) (onRoom f (now (room .entry))) ⌝ }
-    ensures bounds { λ r. ⌜ r .count + due (r .held) ≤ f .count + 4 + due (f .held) ⌝ }
+    ensures bounds { λ r. ⌜ r .log .count + due (r .log .held) ≤ f .log .count + 4 + due (f .log .held) ⌝ }
 {
-    let l = chip::log_of(f);
-    let first = log_access(l, rows[0], outcomes, room);
+    let chip = f.chip;
+    let first = log_access(f.log, rows[0], outcomes, room);
     let second = log_access(first, rows[1], outcomes, room);
     let third = log_access(second, rows[2], outcomes, room);
     let fourth = log_access(third, rows[3], outcomes, room);
-    chip::flow_of(fourth, f.chip)
+    Flow {
+        chip: chip,
+        log: fourth,
+    }
 }
 
 // A whole call of n accesses and m replies that touches no record: 8, 9, 10, or its steps.
@@ -168,8 +182,8 @@ pub fn perform(
     rows: [Access; 10],
     n: usize,
     m: usize,
-    replies: usize,
     outcomes: &[u8],
+    replies: usize,
     room: &mut [u8],
 ) -> Handed
     requires { ⌜ n ≤ 10 ⌝ }
@@ -183,25 +197,12 @@ pub fn perform(
             count: 0,
         };
     }
-    let zeros = [0u8; 27];
-    let marks = [false; 27];
     let start = Flow {
-        chip: Chip {
-            address: 0,
-            shadow: zeros,
-            attempted: zeros,
-            doubtful: marks,
-        },
-        count: 0,
-        went: Went::Going,
-        held: false,
-        seen: Seen {
-            tries: 0,
-            locked: false,
-        },
+        chip: NO_CHIP,
+        log: START,
     };
     let f = access_all(start, rows, n, outcomes, room);
-    let count = f.count;
+    let count = f.log.count;
     let answer = chip::finish(f, Answer::Done(0), room);
     Handed {
         answer: answer,
@@ -282,18 +283,18 @@ fn bit_rows(gpio: u8, value: u8, a: u8) -> [Access; 10]
 
 // What a larger call holds of the two: a failed read cuts it, so the write behind one never uses its zeros.
 pub fn gpio_output(f: Flow, gpio: u8, a: u8, b: u8, outcomes: &[u8], room: &mut [u8]) -> Flow
-    requires { ⌜ (gpio < 8) × (f .count + 4 + due (f .held) ≤ length (now outcomes)) × (16 * (f .count + 4 + due (f .held)) ≤ length (now room)) ⌝ }
+    requires { ⌜ (gpio < 8) × (f .log .count + 4 + due (f .log .held) ≤ length (now outcomes)) × (16 * (f .log .count + 4 + due (f .log .held)) ≤ length (now room)) ⌝ }
     ensures { λ r. ⌜ onRoom r (now (room .exit)) ≡ run inRoom (now (outcomes .entry)) (outputSteps gpio a b) (onRoom f (now (room .entry))) ⌝ }
-    ensures bounds { λ r. ⌜ r .count + due (r .held) ≤ f .count + 4 + due (f .held) ⌝ }
+    ensures bounds { λ r. ⌜ r .log .count + due (r .log .held) ≤ f .log .count + 4 + due (f .log .held) ⌝ }
 {
     let rows = output_rows(gpio, a, b);
     access_all(f, rows, 4, outcomes, room)
 }
 
 pub fn gpio_bit(f: Flow, gpio: u8, value: u8, a: u8, outcomes: &[u8], room: &mut [u8]) -> Flow
-    requires { ⌜ (gpio < 8) × (f .count + 2 + due (f .held) ≤ length (now outcomes)) × (16 * (f .count + 2 + due (f .held)) ≤ length (now room)) ⌝ }
+    requires { ⌜ (gpio < 8) × (f .log .count + 2 + due (f .log .held) ≤ length (now outcomes)) × (16 * (f .log .count + 2 + due (f .log .held)) ≤ length (now room)) ⌝ }
     ensures { λ r. ⌜ onRoom r (now (room .exit)) ≡ run inRoom (now (outcomes .entry)) (bitSteps gpio value a) (onRoom f (now (room .entry))) ⌝ }
-    ensures bounds { λ r. ⌜ r .count + due (r .held) ≤ f .count + 2 + due (f .held) ⌝ }
+    ensures bounds { λ r. ⌜ r .log .count + due (r .log .held) ≤ f .log .count + 2 + due (f .log .held) ⌝ }
 {
     let rows = bit_rows(gpio, value, a);
     access_all(f, rows, 2, outcomes, room)
@@ -311,7 +312,7 @@ pub fn set_gpio_output(gpio: u8, outcomes: &[u8], replies: &[u8], room: &mut [u8
     let a = reply(replies, 0);
     let b = reply(replies, 1);
     let rows = output_rows(gpio, a, b);
-    perform(rows, 4, 2, replies.len(), outcomes, room)
+    perform(rows, 4, 2, outcomes, replies.len(), room)
 }
 
 // A value of 0 clears the bit, any other sets it.
@@ -326,5 +327,5 @@ pub fn set_gpio_bit(gpio: u8, value: u8, outcomes: &[u8], replies: &[u8], room: 
     }
     let a = reply(replies, 0);
     let rows = bit_rows(gpio, value, a);
-    perform(rows, 2, 1, replies.len(), outcomes, room)
+    perform(rows, 2, 1, outcomes, replies.len(), room)
 }

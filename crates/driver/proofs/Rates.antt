@@ -102,9 +102,9 @@ module _ (os room : List ℕ) (rate : ℕ) (t : Tuner) (d : Driver) (s : Bool) (
   pub rate-performed : (hz : ℕ) (plan : Plan) (f : Flow) (mid after : List ℕ) (answer : Answer) (next : Tuner) (later : Driver)
       → given ≡ 0 → hz ≡ ifFor (t .ifreq) rate → plan ≡ planOf (d .board) (d .frequency)
       → onRoom f mid ≡ run inRoom os (sampleRateSteps hz rate xtal (plan .inverted)) (line (t .chip) (logged room unseen) 0 Going false)
-      → after ≡ sealed mid (f .count) → answer ≡ answerOf (Done 0) (f .went)
-      → next ≡ retuned t hz (f .chip) → later ≡ ratedBy d rate (f .went)
-      → called (both next later) after (f .count) answer ≡ sampleRateCall os rate t d room
+      → after ≡ sealed mid (f .log .count) → answer ≡ answerOf (Done 0) (f .log .went)
+      → next ≡ retuned t hz (f .chip) → later ≡ ratedBy d rate (f .log .went)
+      → called (both next later) after (f .log .count) answer ≡ sampleRateCall os rate t d room
   unfolding sampleRateCall
   rate-performed hz plan f mid after answer next later z by-if by-plan k q a n l =
       perform-by (refusalWith (sound t && soundDriver d) (rateRefusal rate) 17 0 (length room) (length os) 0) given (Done 0) os
@@ -135,8 +135,8 @@ module _ (p : PathRead) (path : Path) (os rs room : List ℕ) (t : Tuner) (s : B
 
   pub path-performed : (kind : Kind) (f : Flow) (mid after : List ℕ) (answer : Answer) → given ≡ 0 → kind ≡ t .kind
       → onRoom f mid ≡ run inRoom os (boardPathSteps kind path rs) (line (t .chip) (logged room unseen) 0 Going false)
-      → after ≡ sealed mid (f .count) → answer ≡ answerOf (Done 0) (f .went)
-      → called (withChip t (f .chip)) after (f .count) answer ≡ boardPathWith p os rs t room
+      → after ≡ sealed mid (f .log .count) → answer ≡ answerOf (Done 0) (f .log .went)
+      → called (withChip t (f .chip)) after (f .log .count) answer ≡ boardPathWith p os rs t room
   unfolding boardPathWith
   path-performed kind f mid after answer z by-kind k q a =
       rw by-path

@@ -20,7 +20,6 @@ use board::PathRead;
 use chip::Answer;
 use chip::Chip;
 use chip::Flow;
-use chip::Seen;
 use chip::Went;
 use pll::Kind;
 use r82xx::Tuner;
@@ -158,19 +157,19 @@ fn level(path: Path) -> u8
 
 // The tuner's IF and its bandwidth.
 fn filter_steps(f: Flow, hz: u32, rate: u32, outcomes: &[u8], room: &mut [u8]) -> Flow
-    requires { ⌜ (f .count + 7 ≤ length (now outcomes)) × (16 * (f .count + 7) ≤ length (now room)) ⌝ }
+    requires { ⌜ (f .log .count + 7 ≤ length (now outcomes)) × (16 * (f .log .count + 7) ≤ length (now room)) ⌝ }
     ensures { λ r. ⌜ onRoom r (now (room .exit)) ≡ run inRoom (now (outcomes .entry)) (filterSteps hz rate) (onRoom f (now (room .entry))) ⌝ }
-    ensures bounds { λ r. ⌜ r .count + due (r .held) ≤ f .count + 7 ⌝ }
+    ensures bounds { λ r. ⌜ r .log .count + due (r .log .held) ≤ f .log .count + 7 ⌝ }
 {
-    let set = chip::with_repeater(f, writes::if_updates(hz as u64), 2, outcomes, room);
-    chip::with_repeater(set, writes::bandwidth_updates(rate), 1, outcomes, room)
+    let set = chip::with_repeater(f, writes::if_updates(hz as u64), outcomes, room);
+    chip::with_repeater(set, writes::bandwidth_updates(rate), outcomes, room)
 }
 
 // The demodulator anew: reset, rate, IF.
 fn anew_steps(f: Flow, hz: u32, rate: u32, xtal: u32, outcomes: &[u8], room: &mut [u8]) -> Flow
-    requires { ⌜ (0 < rate) × (0 < xtal) × (f .count + 9 + due (f .held) ≤ length (now outcomes)) × (16 * (f .count + 9 + due (f .held)) ≤ length (now room)) ⌝ }
+    requires { ⌜ (0 < rate) × (0 < xtal) × (f .log .count + 9 + due (f .log .held) ≤ length (now outcomes)) × (16 * (f .log .count + 9 + due (f .log .held)) ≤ length (now room)) ⌝ }
     ensures { λ r. ⌜ onRoom r (now (room .exit)) ≡ run inRoom (now (outcomes .entry)) (anewSteps hz rate xtal) (onRoom f (now (room .entry))) ⌝ }
-    ensures bounds { λ r. ⌜ r .count + due (r .held) ≤ f .count + 9 + due (f .held) ⌝ }
+    ensures bounds { λ r. ⌜ r .log .count + due (r .log .held) ≤ f .log .count + 9 + due (f .log .held) ⌝ }
 {
     let reset = demod::reset_steps(f, outcomes, room);
     let rated = demod::rate_steps(reset, rate, xtal, outcomes, room);
@@ -187,9 +186,9 @@ fn sample_rate_steps(
     outcomes: &[u8],
     room: &mut [u8],
 ) -> Flow
-    requires { ⌜ (0 < rate) × (0 < xtal) × (f .count + 17 ≤ length (now outcomes)) × (16 * (f .count + 17) ≤ length (now room)) ⌝ }
+    requires { ⌜ (0 < rate) × (0 < xtal) × (f .log .count + 17 ≤ length (now outcomes)) × (16 * (f .log .count + 17) ≤ length (now room)) ⌝ }
     ensures { λ r. ⌜ onRoom r (now (room .exit)) ≡ run inRoom (now (outcomes .entry)) (sampleRateSteps hz rate xtal inverted) (onRoom f (now (room .entry))) ⌝ }
-    ensures bounds { λ r. ⌜ r .count + due (r .held) ≤ f .count + 17 ⌝ }
+    ensures bounds { λ r. ⌜ r .log .count + due (r .log .held) ≤ f .log .count + 17 ⌝ }
 {
     let tuned = filter_steps(f, hz, rate, outcomes, room);
     let anew = anew_steps(tuned, hz, rate, xtal, outcomes, room);
@@ -198,13 +197,13 @@ fn sample_rate_steps(
 
 // The tuner's own path, which R820T hasn't.
 fn tuner_path(f: Flow, kind: Kind, path: Path, outcomes: &[u8], room: &mut [u8]) -> Flow
-    requires { ⌜ (f .count + 4 + due (f .held) ≤ length (now outcomes)) × (16 * (f .count + 4 + due (f .held)) ≤ length (now room)) ⌝ }
+    requires { ⌜ (f .log .count + 4 + due (f .log .held) ≤ length (now outcomes)) × (16 * (f .log .count + 4 + due (f .log .held)) ≤ length (now room)) ⌝ }
     ensures { λ r. ⌜ onRoom r (now (room .exit)) ≡ run inRoom (now (outcomes .entry)) (tunerPath kind path) (onRoom f (now (room .entry))) ⌝ }
-    ensures bounds { λ r. ⌜ r .count + due (r .held) ≤ f .count + 4 + due (f .held) ⌝ }
+    ensures bounds { λ r. ⌜ r .log .count + due (r .log .held) ≤ f .log .count + 4 + due (f .log .held) ⌝ }
 {
     match kind {
         Kind::R820T => f,
-        Kind::R828D => chip::with_repeater(f, writes::path_updates(path), 2, outcomes, room),
+        Kind::R828D => chip::with_repeater(f, writes::path_updates(path), outcomes, room),
     }
 }
 
@@ -213,13 +212,13 @@ fn path_steps(
     f: Flow,
     kind: Kind,
     path: Path,
-    replies: &[u8],
     outcomes: &[u8],
+    replies: &[u8],
     room: &mut [u8],
 ) -> Flow
-    requires { ⌜ (3 ≤ length (now replies)) × (f .count + 10 + due (f .held) ≤ length (now outcomes)) × (16 * (f .count + 10 + due (f .held)) ≤ length (now room)) ⌝ }
+    requires { ⌜ (3 ≤ length (now replies)) × (f .log .count + 10 + due (f .log .held) ≤ length (now outcomes)) × (16 * (f .log .count + 10 + due (f .log .held)) ≤ length (now room)) ⌝ }
     ensures { λ r. ⌜ onRoom r (now (room .exit)) ≡ run inRoom (now (outcomes .entry)) (boardPathSteps kind path (now (replies .entry))) (onRoom f (now (room .entry))) ⌝ }
-    ensures bounds { λ r. ⌜ r .count + due (r .held) ≤ f .count + 10 + due (f .held) ⌝ }
+    ensures bounds { λ r. ⌜ r .log .count + due (r .log .held) ≤ f .log .count + 10 + due (f .log .held) ⌝ }
 {
     let driven = device::gpio_output(f, INPUT_PIN, replies[0], replies[1], outcomes, room);
     let switched = device::gpio_bit(driven, INPUT_PIN, level(path), replies[2], outcomes, room);
@@ -337,23 +336,18 @@ impl Driver {
         let chip = tuner.chip;
         let start = Flow {
             chip: chip,
-            count: 0,
-            went: Went::Going,
-            held: false,
-            seen: Seen {
-                tries: 0,
-                locked: false,
-            },
+            log: chip::START,
         };
         let f = sample_rate_steps(start, hz, rate, xtal, plan.inverted, outcomes, room);
         let answered = chip::finish(f, Answer::Done(0), room);
-        let went = f.went;
+        let log = f.log;
+        let went = log.went;
         let left = f.chip;
         Rated {
             tuner: retune(tuner, hz, left),
             driver: with_rate(self, rate, went),
             answer: answered,
-            count: f.count,
+            count: f.log.count,
         }
     }
 }
@@ -389,15 +383,9 @@ pub fn apply_input_path(
     let chip = tuner.chip;
     let start = Flow {
         chip: chip,
-        count: 0,
-        went: Went::Going,
-        held: false,
-        seen: Seen {
-            tries: 0,
-            locked: false,
-        },
+        log: chip::START,
     };
-    let f = path_steps(start, kind, by, replies, outcomes, room);
+    let f = path_steps(start, kind, by, outcomes, replies, room);
     let answered = chip::finish(f, Answer::Done(0), room);
     let left = f.chip;
     let mut next = tuner;
@@ -405,6 +393,6 @@ pub fn apply_input_path(
     r82xx::Told {
         tuner: next,
         answer: answered,
-        count: f.count,
+        count: f.log.count,
     }
 }

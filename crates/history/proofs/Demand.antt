@@ -22,12 +22,13 @@ use Rattle.attempts.proofs.Played.{last-done, last-never, some-played}
 use Rattle.chip.specs.declared.Chip.{Chip}
 use Rattle.chip.specs.declared.Went.{Went}
 use Rattle.chip.specs.declared.Went.the-variants.{Going, Refused11}
-use Rattle.chip.specs.Steps.{Step, Trace, emit, every, line, okFor, trace}
+use Rattle.chip.specs.Steps.{Step, Trace, emit, every, inList, line, okFor, trace}
+use Rattle.chip.proofs.Laws.{run-address}
 use Rattle.chip.specs.Steps.Step.{Open, Close, Send, Mask, Plain}
 use Rattle.history.specs.Programs.{beside, fine, reloadSteps, reloaded, shadowBy}
 use Rattle.history.specs.Histories.{Alike, Cut, Fresh, History, Restored, Tracks, wentIn}
 use Rattle.history.specs.Histories.History.{made, called, still, aside}
-use Rattle.history.proofs.Runs.{run-address, run-keeps}
+use Rattle.history.proofs.Runs.{run-keeps}
 use Rattle.history.proofs.Tracked.{plain-none, tracks-quiet, tracks-trace}
 use Rattle.history.proofs.Cuts.{cut-trace}
 use Rattle.history.proofs.Told.{told-trace}
@@ -162,7 +163,7 @@ module _ (init : List ℕ) (c : Chip) (es : List Entry) (history : History init 
 
     same : t .chip .address ≡ c .address
     unfolding trace
-    same = run-address os (reloadSteps (c .attempted)) (line c [] 0 Going false) (c .address) refl
+    same = run-address inList os (reloadSteps (c .attempted)) (line c [] 0 Going false)
 
     tracked : Tracks init (t .chip) (es ++ t .log)
     tracked = tracks-trace init c es os (reloadSteps (c .attempted)) (fine-reload (c .attempted)) (follows init c es history)

@@ -22,7 +22,8 @@ use Rattle.chip.specs.Entries.{flagOf, repeater, settled, written, zeros8}
 use Rattle.chip.specs.Steps.{Step, Trace, acts, emit, every, inList, line, okFor, taken, trace}
 use Rattle.chip.specs.Steps.Step.{Open, Close, Send, Mask, Plain}
 use Rattle.history.specs.Programs.{beside, fine, finePlain}
-use Rattle.history.proofs.Runs.{after-address, run-counted, run-keeps, run-most}
+use Rattle.chip.proofs.Laws.{after-address}
+use Rattle.history.proofs.Runs.{run-counted, run-keeps, run-most}
 use Rattle.history.proofs.Tracked.{aside-of, sent-of}
 
 -- ---- an entry

@@ -21,10 +21,10 @@ use Rattle.chip.specs.Chips.{attemptedBy}
 use Rattle.chip.specs.Entries.{written}
 use Rattle.chip.specs.Steps.{Step, Trace, acts, behind, chunkBytes, chunkStep, chunkTable, emit, every, goes, inList, line, okFor, run, step, taken, toldOf, trace, tunerWrite, within}
 use Rattle.chip.specs.Steps.Step.{Open, Close, Send}
-use Rattle.chip.proofs.Laws.{active, and-left, and-right, close-went, idle, run-app}
+use Rattle.chip.proofs.Laws.{active, and-left, and-right, close-went, idle, run-address, run-app}
 use Rattle.chip.proofs.Chunks.{seven, inside, first-register}
 use Rattle.history.specs.Programs.{reloadSteps}
-use Rattle.history.proofs.Runs.{Rest, run-address, stopped-run}
+use Rattle.history.proofs.Runs.{Rest, stopped-run}
 use Rattle.history.proofs.Tracked.{sets-at}
 use Rattle.history.proofs.Fitted.{test-true}
 use Rattle.history.proofs.Fine.{table-part}
@@ -139,7 +139,7 @@ module _ (os : List ℕ) where
 
   open-address : (t : Trace) (a : ℕ) → t .chip .address ≡ a → step inList os Open t .chip .address ≡ a
   unfolding run
-  open-address t a h = run-address os (Open ∷ []) t a h
+  open-address t a h = run-address inList os (Open ∷ []) t ∙ h
 
   module _ (address : ℕ) (bs : List ℕ) (long : length bs ≡ 27) (i : ℕ) where
     abbrev now : Last
@@ -192,7 +192,7 @@ reload-last os c bs long g i h =
     let mid : Trace = run inList os (tunerWrite bs 0 3) start in
     let whole : run inList os (reloadSteps bs) start ≡ run inList os (tunerWrite bs 3 5) mid = run-app inList os (tunerWrite bs 0 3) (tunerWrite bs 3 5) start in
     let went : run inList os (tunerWrite bs 3 5) mid .went ≡ Going = sym (ap (λ (u : Trace). u .went) whole) ∙ g in
-    let same : mid .chip .address ≡ c .address = run-address os (tunerWrite bs 0 3) start (c .address) refl in
+    let same : mid .chip .address ≡ c .address = run-address inList os (tunerWrite bs 0 3) start in
     let first : lastIn (c .address) (mid .log) (5 + i) ≡ cond (covers (drop 0 (take 3 chunkTable)) i) (Tried (getD bs i 0) true) Never =
     tuner-last os (c .address) bs long i 0 3 start refl (going-before os (tunerWrite bs 3 5) mid went) in
     ap (λ (u : Trace). lastIn (c .address) (u .log) (5 + i)) whole

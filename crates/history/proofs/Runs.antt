@@ -7,24 +7,13 @@ use mathlib.Core.List.{List, [], _∷_, _++_, append-nil, append-assoc}
 use native.Mathlib.Omega.{arith}
 use lib.ListN.{length, length-append}
 use Rattle.transcript.specs.declared.Entry.{Entry}
-use Rattle.chip.specs.declared.Chip.{Chip}
 use Rattle.chip.specs.declared.Went.{Went}
-use Rattle.chip.specs.Chips.{attemptedBy}
 use Rattle.chip.specs.Entries.{repeater}
 use Rattle.chip.specs.Steps.{Step, Trace, acts, after, emit, every, goes, inList, okFor, run, step, taken}
 use Rattle.chip.specs.Steps.Step.{Open, Close, Send, Mask, Plain}
 use Rattle.chip.proofs.Laws.{active, and-left, and-right, idle}
 use Rattle.history.specs.Histories.{Closing}
 use Rattle.history.specs.Histories.Closing.{nothing, closed}
-
--- no step changes the chip's address
-pub after-address : (s : Step) (c : Chip) (ok : Bool) → after s c ok .address ≡ c .address
-unfolding attemptedBy
-after-address Open c ok = refl
-after-address Close c ok = refl
-after-address (Send n bytes) c ok = refl
-after-address (Mask r v m) c ok = refl
-after-address (Plain e) c ok = refl
 
 module _ (os : List ℕ) where
   -- one induction for all that a step keeps
@@ -76,10 +65,7 @@ module _ (os : List ℕ) where
   run-most [] t = omega arith
   run-most (s ∷ ss) t = omega (arith, run-most ss (step inList os s t), step-most s t)
 
-  -- ---- the chip's address, and the entries before
-
-  pub run-address : (ss : List Step) (t : Trace) (a : ℕ) → t .chip .address ≡ a → run inList os ss t .chip .address ≡ a
-  run-address ss t a h = run-always (λ (u : Trace). u .chip .address ≡ a) (λ s u x q. after-address s (u .chip) (okFor os (u .count) s) ∙ q) ss t h
+  -- ---- the entries before
 
   pub run-log : (ss : List Step) (t : Trace) → (later : List Entry) × (run inList os ss t .log ≡ t .log ++ later)
   run-log ss t = run-always (λ (u : Trace). (later : List Entry) × (u .log ≡ t .log ++ later)) grow ss t ([], sym (append-nil (t .log)))

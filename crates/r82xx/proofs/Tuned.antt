@@ -16,12 +16,12 @@ use Rattle.chip.specs.declared.Answer.{Answer}
 use Rattle.chip.specs.declared.Answer.the-variants.{Done, Refused}
 use Rattle.chip.specs.declared.Chip.{Chip}
 use Rattle.chip.specs.declared.Flow.{Flow}
-use Rattle.chip.specs.declared.Update.{Update}
+use Rattle.chip.specs.declared.Updates.{Updates}
 use Rattle.chip.specs.declared.Went.the-variants.{Going}
 use Rattle.chip.specs.Calls.{Called, answerOf, called, laidOut, lockedIn, sealed, triesIn}
 use Rattle.chip.specs.Chips.{maskedByte, shadowed}
 use Rattle.chip.specs.Entries.{unseen}
-use Rattle.chip.specs.Steps.{Line, Logged, Step, Trace, behind, eight, every, inRoom, line, logged, onRoom, run, trace}
+use Rattle.chip.specs.Steps.{Line, Logged, Step, Trace, behind, eight, every, inRoom, line, listed, logged, meantOf, onRoom, run, trace}
 use Rattle.chip.proofs.Taken.{stands}
 use Rattle.gain.specs.Steps.{chosenOf, clamped}
 use Rattle.gain.proofs.Steps.{chosen-lt}
@@ -37,6 +37,7 @@ use Rattle.reference.specs.Correct.{correctedOf}
 use Rattle.tuning.specs.Program.{innerSteps, dividerNumber, tuneSteps}
 use Rattle.tuning.proofs.Programs.{eight-inner}
 use Rattle.writes.specs.Lists.{pathUpdates}
+use Rattle.writes.proofs.Lists.{path-two}
 use Rattle.r82xx.specs.declared.Tuner.{Tuner}
 use Rattle.r82xx.specs.Record.{lockBy, sound, soundBy, withChip, withLock}
 use Rattle.r82xx.specs.Calls.{bracketCall, hzRefusal, keptBy, keptPpm, pathWith, planFor, ppmAnswer, refusalOf, shadowCall, soundAnswer, stepCall, toldBy, tuneCall, wholeOf}
@@ -54,9 +55,9 @@ pub tune-by : (os rs room : List ℕ) (hz given : ℕ) (t : Tuner) (plan : Pll) 
     → plan ≡ planFor t hz
     → given ≡ refusalOf t (hzRefusal hz (t .ifreq)) 53 35 (length room) (length os) (length rs) → given ≡ 0
     → onRoom f mid ≡ run inRoom os (tuneSteps (t .chip .address) (t .kind) (t .notch) plan hz rs) (line (t .chip) (logged room unseen) 0 Going false)
-    → whole ≡ wholeOf plan hz → after ≡ sealed mid (f .count) → answer ≡ answerOf whole (f .went)
-    → lock ≡ lockBy (f .seen .locked) (f .seen .tries) (t .lock) → f .count ≤ 53
-    → called (withLock (withChip t (f .chip)) lock) after (f .count) answer ≡ tuneCall os rs hz t room
+    → whole ≡ wholeOf plan hz → after ≡ sealed mid (f .log .count) → answer ≡ answerOf whole (f .log .went)
+    → lock ≡ lockBy (f .log .seen .locked) (f .log .seen .tries) (t .lock) → f .log .count ≤ 53
+    → called (withLock (withChip t (f .chip)) lock) after (f .log .count) answer ≡ tuneCall os rs hz t room
 unfolding tuneCall
 tune-by os rs room hz given t plan f mid after answer whole lock p e z k w q a l few =
     let ss : List Step = tuneSteps (t .chip .address) (t .kind) (t .notch) (planFor t hz) hz rs in
@@ -65,12 +66,12 @@ tune-by os rs room hz given t plan f mid after answer whole lock p e z k w q a l
     (eight-inner (t .chip .address) (t .kind) (t .notch) (planFor t hz) hz rs) in
     let went : onRoom f mid ≡ run inRoom os ss (line (t .chip) (logged room unseen) 0 Going false) =
     k ∙ ap (λ (x : Pll). run inRoom os (tuneSteps (t .chip .address) (t .kind) (t .notch) x hz rs) (line (t .chip) (logged room unseen) 0 Going false)) p in
-    let count : f .count ≡ length (trace os ss (t .chip) .log) = ap (λ (x : Line Logged). x .count) (stands os room ss (t .chip) f mid eights went) in
+    let count : f .log .count ≡ length (trace os ss (t .chip) .log) = ap (λ (x : Line Logged). x .count) (stands os room ss (t .chip) f mid eights went) in
     perform-by (refusalOf t (hzRefusal hz (t .ifreq)) 53 35 (length room) (length os) (length rs)) given (wholeOf (planFor t hz) hz) os ss (t .chip)
     (λ (tr : Trace). withLock (withChip t (tr .chip)) (lockBy (lockedIn (tr .log)) (triesIn (tr .log)) (t .lock)))
     (λ (x : Line Logged). withLock (withChip t (x .chip)) (lockBy (x .log .seen .locked) (x .log .seen .tries) (t .lock)))
     t (withLock (withChip t (f .chip)) lock) room f mid after answer e z eights went q
-    (a ∙ ap (λ (x : Answer). answerOf x (f .went)) (w ∙ ap (λ (x : Pll). wholeOf x hz) p))
+    (a ∙ ap (λ (x : Answer). answerOf x (f .log .went)) (w ∙ ap (λ (x : Pll). wholeOf x hz) p))
     (ap (withLock (withChip t (f .chip))) l)
     (ap (withLock (withChip t (trace os ss (t .chip) .chip))) (lock-by os room ss (t .chip) (t .lock) eights (omega arith)))
 
@@ -84,10 +85,10 @@ pub path-still : (p : PathRead) (path : Path) (kind : Kind) (os : List ℕ) (t :
 unfolding pathWith soundAnswer
 path-still p path kind os t room answer e k a = ap (called t room 0) a ∙ rw (e, k)
 
-pub path-by : (p : PathRead) (path : Path) (kind : Kind) (us : List Update) (os : List ℕ) (t : Tuner) (room : List ℕ) (x : Called Tuner)
-    → p ≡ path-read.Is path → kind ≡ R828D → us ≡ pathUpdates path → x ≡ bracketCall t t (Done 0) us 2 os t room → x ≡ pathWith p kind os t room
+pub path-by : (p : PathRead) (path : Path) (kind : Kind) (us : Updates) (os : List ℕ) (t : Tuner) (room : List ℕ) (x : Called Tuner)
+    → p ≡ path-read.Is path → kind ≡ R828D → us ≡ listed (pathUpdates path) → x ≡ bracketCall t t (Done 0) (meantOf us) (us .n) os t room → x ≡ pathWith p kind os t room
 unfolding pathWith
-path-by p path kind us os t room x e k u h = bracket-by t t (Done 0) us (pathUpdates path) 2 os t room x u h ∙ rw (e, k)
+path-by p path kind us os t room x e k u h = bracket-by t t (Done 0) us (pathUpdates path) 2 os t room x u (path-two path) h ∙ rw (e, k)
 
 -- a gain's step that was worked out apart
 pub at-step : (os : List ℕ) (k l : ℕ) (t : Tuner) (room : List ℕ) (x : Called Tuner) → k ≡ l → x ≡ stepCall os k t room → x ≡ stepCall os l t room

@@ -14,13 +14,15 @@ use Rattle.chip.specs.declared.Chip.{Chip}
 use Rattle.chip.specs.declared.Flow.{Flow}
 use Rattle.chip.specs.declared.Seen.{Seen}
 use Rattle.chip.specs.declared.Update.{Update}
+use Rattle.chip.specs.declared.Updates.{Updates}
 use Rattle.chip.specs.declared.Went.{Went}
 use Rattle.chip.specs.declared.Went.the-variants.{Going}
 use Rattle.chip.specs.Calls.{Called, answerOf, callOf, called, laidOut, lockedIn, sealed, seenFrom, triesIn}
 use Rattle.chip.specs.Entries.{unseen}
-use Rattle.chip.specs.Steps.{Line, Logged, Step, Trace, behind, eight, every, goes, inRoom, line, logged, onRoom, run, trace, tunerWrite, updates}
+use Rattle.chip.specs.Steps.{Line, Logged, Step, Trace, behind, eight, every, goes, inRoom, line, listed, logged, meantOf, onRoom, run, trace, tunerWrite, updates}
 use Rattle.chip.specs.Steps.Step.{Open, Close, Plain}
 use Rattle.chip.proofs.Chunks.{chunk-eight}
+use Rattle.chip.proofs.Lists.{meant-all, meant-count}
 use Rattle.chip.proofs.Taken.{handed, performs, refuses, seen-counted, stands}
 use Rattle.tuning.proofs.Programs.{all-updates, eight-update, every-app}
 use Rattle.gain.specs.Product.{gainOf}
@@ -42,9 +44,9 @@ pub perform-by : {R : Type 0} (number given : ℕ) (whole : Answer) (os : List �
     (f : Flow) (mid after : List ℕ) (answer : Answer)
     → given ≡ number → given ≡ 0 → every eight ss ≡ true
     → onRoom f mid ≡ run inRoom os ss (line c (logged room unseen) 0 Going false)
-    → after ≡ sealed mid (f .count) → answer ≡ answerOf whole (f .went)
+    → after ≡ sealed mid (f .log .count) → answer ≡ answerOf whole (f .log .went)
     → r ≡ see (onRoom f mid) → see (laidOut room (trace os ss c)) ≡ keep (trace os ss c)
-    → called r after (f .count) answer ≡ callOf number whole os ss c keep old room
+    → called r after (f .log .count) answer ≡ callOf number whole os ss c keep old room
 perform-by number given whole os ss c keep see old r room f mid after answer e z h k p q l m =
     handed os room ss c keep whole r f mid after answer h k p q (l ∙ ap see (stands os room ss c f mid h k) ∙ m)
     ∙ performs number whole os ss c keep old room (sym e ∙ z)
@@ -75,9 +77,10 @@ init-eight =
     (every-app eight (behind (updates initUpdates)) (behind (updates (ifUpdates 2_300_000))) (bracket-eight initUpdates) (bracket-eight (ifUpdates 2_300_000)))
 
 -- a call of one bracket, whose list was worked out apart, and whose record is known
-pub bracket-by : (cut whole : Tuner) (answer : Answer) (xs ys : List Update) (n : ℕ) (os : List ℕ) (t : Tuner) (room : List ℕ) (x : Called Tuner)
-    → xs ≡ ys → x ≡ bracketCall cut whole answer xs n os t room → x ≡ bracketCall cut whole answer ys n os t room
-bracket-by cut whole answer xs ys n os t room x e h = h ∙ ap (λ (us : List Update). bracketCall cut whole answer us n os t room) e
+pub bracket-by : (cut whole : Tuner) (answer : Answer) (us : Updates) (ys : List Update) (n : ℕ) (os : List ℕ) (t : Tuner) (room : List ℕ) (x : Called Tuner)
+    → us ≡ listed ys → length ys ≡ n → x ≡ bracketCall cut whole answer (meantOf us) (us .n) os t room → x ≡ bracketCall cut whole answer ys n os t room
+bracket-by cut whole answer us ys n os t room x e l h =
+    h ∙ (λ i. bracketCall cut whole answer (meant-all ys us e i) ((meant-count ys us e ∙ l) i) os t room)
 
 -- a gain's call, whose step's gain and bits were worked out apart
 pub step-by : (k bits : ℕ) (actual : Float) (us : List Update) (os : List ℕ) (t : Tuner) (room : List ℕ) (x : Called Tuner)
@@ -111,7 +114,7 @@ gain-kept t actual g went chip e = ap (λ (x : Float). withChip (withGain t x) c
     by false = refl
 
 -- the lock, by what the tries have said
-pub lock-by : (os room : List ℕ) (ss : List Step) (c : Chip) (old : Bool) → every eight ss ≡ true → length (trace os ss c .log) < 2 ^ 64
+pub lock-by : (os room : List ℕ) (ss : List Step) (c : Chip) (old : Bool) → every eight ss ≡ true → length (trace os ss c .log) < 2 ^ 16
     → lockBy (seenFrom unseen (trace os ss c .log) .locked) (seenFrom unseen (trace os ss c .log) .tries) old
     ≡ lockBy (lockedIn (trace os ss c .log)) (triesIn (trace os ss c .log)) old
 lock-by os room ss c old h few =

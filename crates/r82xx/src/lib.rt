@@ -6,10 +6,10 @@ ghost use mathlib.Core.Bool.{true, cond};
 ghost use mathlib.Core.List.{[]};
 ghost use lib.Ieee.{binary32, toBits};
 ghost use Prim.Native.Nat.{_+_, _≤_, _<_};
-ghost use lib.ListN.{length, take};
+ghost use lib.ListN.{length};
 ghost use Rattle.chip.specs.Calls.{called};
 ghost use Rattle.chip.specs.declared.Answer.the-variants.{Done};
-ghost use Rattle.chip.specs.Steps.{allIn, goes};
+ghost use Rattle.chip.specs.Steps.{allIn, goes, meantOf};
 ghost use Rattle.r82xx.specs.Record.{freshTuner, lockBy, madeOf, reloaded, soundBy, withCorrected, withNotch};
 ghost use Rattle.r82xx.specs.Calls.{bandwidthCall, bracketCall, gainCall, hzRefusal, ifCall, indexCall, initCall, keptNotch, keptPpm, pathCall, ppmAnswer, refusalOf, reloadCall, shadowCall, soundAnswer, tableOf, tuneCall, wholeOf};
 use board::PathRead;
@@ -17,11 +17,12 @@ use chip::Answer;
 use chip::Chip;
 use chip::Flow;
 use chip::Seen;
-use chip::Update;
+use chip::Updates;
 use chip::Went;
 use pll::Kind;
 use pll::Pll;
 use reference::Corrected;
+use tuning::Tuning;
 use writes::IF_FREQ_NARROW;
 use writes::INIT_ARRAY;
 
@@ -260,19 +261,12 @@ impl Tuner {
     }
 
     // A call of one bracket of masked writes: the record is `next` behind them, done or not, with the chip's part as they left it.
-    fn operate(
-        self,
-        mut next: Tuner,
-        us: [Update; 16],
-        n: usize,
-        outcomes: &[u8],
-        room: &mut [u8],
-    ) -> Told
-        requires { ⌜ (n ≤ 14) × (allIn (take n us) ≡ true) ⌝ }
+    fn operate(self, mut next: Tuner, us: Updates, outcomes: &[u8], room: &mut [u8]) -> Told
+        requires { ⌜ (us .n ≤ 14) × (allIn (meantOf us) ≡ true) ⌝ }
         ensures { λ r. ⌜ called (r .tuner) (now (room .exit)) (r .count) (r .answer)
-            ≡ bracketCall next next (Done 0) (take n us) n (now (outcomes .entry)) self (now (room .entry)) ⌝ }
+            ≡ bracketCall next next (Done 0) (meantOf us) (us .n) (now (outcomes .entry)) self (now (room .entry)) ⌝ }
     {
-        let number = self.refusal(0, n + 2, 0, room.len(), outcomes.len(), 0);
+        let number = self.refusal(0, us.n + 2, 0, room.len(), outcomes.len(), 0);
         if number != 0 {
             return Told {
                 tuner: self,
@@ -283,22 +277,16 @@ impl Tuner {
         let chip = self.chip;
         let start = Flow {
             chip: chip,
-            count: 0,
-            went: Went::Going,
-            held: false,
-            seen: Seen {
-                tries: 0,
-                locked: false,
-            },
+            log: chip::START,
         };
-        let f = chip::with_repeater(start, us, n, outcomes, room);
+        let f = chip::with_repeater(start, us, outcomes, room);
         let answered = chip::finish(f, Answer::Done(0), room);
         let left = f.chip;
         next.chip = left;
         Told {
             tuner: next,
             answer: answered,
-            count: f.count,
+            count: f.log.count,
         }
     }
 
@@ -307,7 +295,7 @@ impl Tuner {
             ≡ bandwidthCall (now (outcomes .entry)) hz self (now (room .entry)) ⌝ }
     {
         let us = writes::bandwidth_updates(hz);
-        let told = self.operate(self, us, 1, outcomes, room);
+        let told = self.operate(self, us, outcomes, room);
         let answer = told.answer;
         self = told.tuner;
         Told {
@@ -325,7 +313,7 @@ impl Tuner {
         let us = writes::if_updates(hz);
         let old = self;
         self.ifreq = hz;
-        old.operate(self, us, 2, outcomes, room)
+        old.operate(self, us, outcomes, room)
     }
 
     // The gain changes only when all writes are done.
@@ -347,24 +335,19 @@ impl Tuner {
         let chip = self.chip;
         let start = Flow {
             chip: chip,
-            count: 0,
-            went: Went::Going,
-            held: false,
-            seen: Seen {
-                tries: 0,
-                locked: false,
-            },
+            log: chip::START,
         };
         let f = writes::gain_steps(start, k, outcomes, room);
         let answered = chip::finish(f, Answer::Done(bits as u64), room);
-        let went = f.went;
+        let log = f.log;
+        let went = log.went;
         let left = f.chip;
         self.chip = left;
         self.gain = kept_gain(went, self.gain, actual);
         Told {
             tuner: self,
             answer: answered,
-            count: f.count,
+            count: f.log.count,
         }
     }
 
@@ -403,7 +386,7 @@ impl Tuner {
                 count: 0,
             },
             Kind::R828D => {
-                let told = self.operate(self, writes::path_updates(by), 2, outcomes, room);
+                let told = self.operate(self, writes::path_updates(by), outcomes, room);
                 let answer = told.answer;
                 self = told.tuner;
                 Told {
@@ -430,13 +413,7 @@ impl Tuner {
         let chip = self.chip;
         let start = Flow {
             chip: chip,
-            count: 0,
-            went: Went::Going,
-            held: false,
-            seen: Seen {
-                tries: 0,
-                locked: false,
-            },
+            log: chip::START,
         };
         let f = writes::initialize(start, outcomes, room);
         let answered = chip::finish(f, Answer::Done(0), room);
@@ -445,7 +422,7 @@ impl Tuner {
         Told {
             tuner: self,
             answer: answered,
-            count: f.count,
+            count: f.log.count,
         }
     }
 
@@ -466,23 +443,18 @@ impl Tuner {
         let bytes = chip.attempted;
         let start = Flow {
             chip: chip,
-            count: 0,
-            went: Went::Going,
-            held: false,
-            seen: Seen {
-                tries: 0,
-                locked: false,
-            },
+            log: chip::START,
         };
         let sent = writes::send_all(start, bytes, outcomes, room);
         let answered = chip::finish(sent, Answer::Done(0), room);
-        let went = sent.went;
+        let log = sent.log;
+        let went = log.went;
         let left = sent.chip;
         self.chip = reload_chip(went, left);
         Told {
             tuner: self,
             answer: answered,
-            count: sent.count,
+            count: sent.log.count,
         }
     }
 
@@ -517,34 +489,25 @@ impl Tuner {
         let plan = pll::plan_pll(kind, hz + ifreq, self.corrected);
         let start = Flow {
             chip: chip,
-            count: 0,
-            went: Went::Going,
-            held: false,
-            seen: Seen {
-                tries: 0,
-                locked: false,
-            },
+            log: chip::START,
         };
-        let f = tuning::tune(
-            start,
-            chip.address,
-            kind,
-            self.notch,
-            plan,
-            hz,
-            replies,
-            outcomes,
-            room,
-        );
+        let by = Tuning {
+            kind: kind,
+            notch: self.notch,
+            plan: plan,
+            hz: hz,
+        };
+        let f = tuning::tune(start, by, outcomes, replies, room);
         let answered = chip::finish(f, whole_answer(plan, hz), room);
         let left = f.chip;
-        let seen = f.seen;
+        let log = f.log;
+        let seen = log.seen;
         self.chip = left;
         self.lock = locked(seen, self.lock);
         Told {
             tuner: self,
             answer: answered,
-            count: f.count,
+            count: f.log.count,
         }
     }
 

@@ -13,7 +13,7 @@ use Rattle.board.specs.declared.Path.{Path}
 use Rattle.board.specs.declared.Path.the-variants.{Hf, Vhf, Uhf}
 use Rattle.chip.specs.declared.Update.{Update}
 use Rattle.chip.specs.Entries.{wait, zeros8}
-use Rattle.chip.specs.Steps.{Step, allIn, behind, every, inRange, updateStep, updates}
+use Rattle.chip.specs.Steps.{Step, allIn, behind, every, inRange, masked, updateStep, updates}
 use Rattle.chip.specs.Steps.Step.{Close, Plain}
 use Rattle.chip.proofs.Laws.{and-left}
 use Rattle.pll.specs.declared.Kind.{Kind}
@@ -21,7 +21,7 @@ use Rattle.pll.specs.declared.Kind.the-variants.{R820T, R828D}
 use Rattle.pll.specs.declared.Plan.{Plan}
 use Rattle.pll.specs.declared.Pll.{Pll}
 use Rattle.pll.specs.declared.Pll.the-variants.{Planned, Refused}
-use Rattle.tuning.specs.Mux.{masked, muxUpdates, pllUpdates, rangeOf}
+use Rattle.tuning.specs.Mux.{muxUpdates, pllUpdates, rangeOf}
 use Rattle.tuning.specs.Tries.{afterTry, again, locked, locksAt, repairUpdates, replyBytes, statusSteps, triesFrom, tryRead}
 use Rattle.tuning.specs.Program.{innerSteps, pllSteps, tuneSteps}
 use Rattle.tuning.proofs.Turns.{pick-every, repair-in, repair-most}

@@ -8,6 +8,25 @@ ghost use Rattle.transcript.specs.Table.{rowFits};
 ghost use Rattle.transcript.specs.Entries.{entryBytes, entryOf, zeros, keptBy, entryFits, fits};
 ghost use Rattle.transcript.specs.Sections.{trailerBytes, allFit, sectionOf, entriesOf, beforeOf, refusalOf};
 
+// The kinds of document 01's table.
+pub const REPEATER: u8 = 1;
+
+pub const I2C_WRITE: u8 = 2;
+
+pub const I2C_READ: u8 = 3;
+
+pub const DEMOD: u8 = 4;
+
+pub const DEMOD16: u8 = 5;
+
+pub const BLOCK: u8 = 6;
+
+pub const BLOCK16: u8 = 7;
+
+pub const READ: u8 = 8;
+
+pub const WAIT: u8 = 9;
+
 // The table of kinds, a column for each rule; kind 0 is none.
 const N_LOW: [u8; 10] = [0, 1, 1, 1, 1, 2, 1, 2, 1, 0];
 

@@ -10,23 +10,19 @@ use lib.ListN.{length, take}
 use Rattle.transcript.specs.declared.Entry.{Entry}
 use Rattle.chip.specs.declared.Update.{Update}
 use Rattle.chip.specs.Entries.{pointer, readEntry, wait}
-use Rattle.chip.specs.declared.Chip.{Chip}
-use Rattle.chip.specs.declared.Flow.{Flow}
-use Rattle.chip.specs.declared.Log.{Log}
-use Rattle.chip.specs.Steps.{Step, Line, allIn, closing, every, filler, flowOf, goes, inRange, inRoom, inner, logOf, onLog, onRoom, run, step, updates}
+use Rattle.chip.specs.declared.Updates.{Updates}
+use Rattle.chip.specs.Steps.{Step, Line, allIn, closing, every, goes, inRange, inner, listed, masked, meantOf, run, step, updates}
 use Rattle.chip.specs.Steps.Step.{Close, Plain}
 use Rattle.chip.proofs.Laws.{parts, stop, swap}
-use Rattle.chip.proofs.Lists.{every-inner, inner-update, meant}
-use Rattle.chip.proofs.Rooms.{over}
+use Rattle.chip.proofs.Lists.{meant-all}
 use Rattle.pll.specs.declared.Kind.{Kind}
 use Rattle.pll.specs.declared.Plan.{Plan}
 use Rattle.pll.specs.declared.Pll.{Pll}
 use Rattle.pll.specs.declared.Pll.the-variants.{Planned, Refused}
 use Rattle.tuning.specs.declared.FreqRange.{FreqRange}
-use Rattle.tuning.specs.declared.Updates.{Updates}
-use Rattle.tuning.specs.Mux.{masked, muxUpdates, pllUpdates, rangeOf}
+use Rattle.tuning.specs.Mux.{muxUpdates, pllUpdates, rangeOf}
 use Rattle.tuning.specs.Program.{innerSteps, pllSteps}
-use Rattle.tuning.specs.Tries.{afterTry, again, fineOf, listed, locked, locksAt, powerOf, repairUpdates, replyBytes, statusSteps, triesFrom, tryRead}
+use Rattle.tuning.specs.Tries.{afterTry, again, fineOf, locked, locksAt, powerOf, repairUpdates, replyBytes, statusSteps, triesFrom, tryRead}
 use Rattle.tuning.proofs.Programs.{every-app, inner-after, inner-tries, inner-updates}
 
 -- the one write behind the first try
@@ -82,14 +78,18 @@ module _ (kind : Kind) (number byte : ℕ) where
 
   -- the same of what the code hands on
   module _ (r : Updates) (e : r ≡ listed (repairUpdates kind number byte)) where
-    pub repaired : take (r .n) (r .list) ≡ repairUpdates kind number byte
-    repaired = meant (repairUpdates kind number byte) 16 (r .n) filler (r .list) (sym (ap (λ (u : Updates). u .n) e)) (ap (λ (u : Updates). u .list) e)
+    pub repaired : meantOf r ≡ repairUpdates kind number byte
+    repaired = meant-all (repairUpdates kind number byte) r e
 
-    pub repaired-in : allIn (take (r .n) (r .list)) ≡ true
+    pub repaired-in : allIn (meantOf r) ≡ true
     repaired-in = ap allIn repaired ∙ repair-in
 
     pub repaired-most : r .n ≤ 1
     repaired-most = rw (ap (λ (u : Updates). u .n) e) repair-most
+
+-- reads at an address that was worked out apart
+pub try-address : (a b : ℕ) (rs : List ℕ) (i : ℕ) → a ≡ b → tryRead a rs i ≡ tryRead b rs i
+try-address a b rs i e = ap (λ (x : ℕ). tryRead x rs i) e
 
 -- reads whose bytes were worked out apart
 pub status-made : (address : ℕ) (rs bytes : List ℕ) → bytes ≡ replyBytes rs 0 5
@@ -158,9 +158,3 @@ module _ {L : Type 0} (put : L → ℕ → Entry → L) (os : List ℕ) where
   end-try address rs i w h =
       let none : 10 - i ≡ 0 = omega arith in
       rw none
-
--- a part behind an open repeater that went over the log alone
-pub part-over : (os : List ℕ) (ss : List Step) (f : Flow) (l z : Log) (r : Flow) (room after : List ℕ)
-    → l ≡ logOf f → ((chip : Chip) → onLog chip z after ≡ closing inRoom os (run inRoom os ss (onLog chip l room))) → r ≡ flowOf z (f .chip)
-    → onRoom r after ≡ closing inRoom os (run inRoom os ss (onRoom f room))
-part-over os ss f l z r room after p e q = over (λ w. closing inRoom os (run inRoom os ss w)) f l z r room after p e q

@@ -2,19 +2,13 @@
 -- 0x14, 0x16, 0x15, 0x12, wait 2, status, divider repair, up to ten lock tries) follow `set_pll_raw`."
 -- Assumes nothing.
 use Prim.Native.Nat.{ℕ, _*_, _/_, _%_}
-use mathlib.Core.Bool.{Bool, true, false, cond}
+use mathlib.Core.Bool.{Bool, cond}
 use mathlib.Core.List.{List, [], _∷_, _++_}
 use lib.Dec.{eqb, leb}
 use Rattle.chip.specs.declared.Update.{Update}
+use Rattle.chip.specs.Steps.{masked, past}
 use Rattle.pll.specs.declared.Plan.{Plan}
 use Rattle.tuning.specs.declared.FreqRange.{FreqRange}
-
--- a masked write; a write past the shadow: "0x14, 0x15, 0x16 are written past it"
-abbrev pub masked : ℕ → ℕ → ℕ → Update
-masked register value mask = record { register = register; value = value; mask = mask; past = false }
-
-abbrev pub past : ℕ → ℕ → Update
-past register value = record { register = register; value = value; mask = 0xff; past = true }
 
 abbrev pub row : ℕ → ℕ → ℕ → ℕ → FreqRange
 row hz open-d mux tf-c = record { hz = hz; drain = open-d; mux = mux; filter = tf-c }

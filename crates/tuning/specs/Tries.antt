@@ -6,17 +6,15 @@ use mathlib.Core.Bool.{Bool, cond}
 use mathlib.Core.List.{List, [], _∷_, _++_}
 use lib.Bits.{bitAnd}
 use lib.Dec.{eqb, ltb}
-use lib.ListN.{length, getD, take, drop}
+use lib.ListN.{getD, take, drop}
 use lib.Seq.{sets}
 use Rattle.status.specs.Reversal.{reversed}
 use Rattle.chip.specs.declared.Update.{Update}
 use Rattle.chip.specs.Entries.{lockedBy, pointer, readEntry, wait, zeros8}
-use Rattle.chip.specs.Steps.{Step, sixteen, updates}
+use Rattle.chip.specs.Steps.{Step, masked, updates}
 use Rattle.chip.specs.Steps.Step.{Mask, Plain}
 use Rattle.pll.specs.declared.Kind.{Kind}
 use Rattle.pll.specs.declared.Kind.the-variants.{R820T, R828D}
-use Rattle.tuning.specs.declared.Updates.{Updates}
-use Rattle.tuning.specs.Mux.{masked}
 
 -- n replies from `at`, with the zeros behind them
 unfoldable pub replyBytes : List ℕ → ℕ → ℕ → List ℕ
@@ -34,10 +32,6 @@ powerOf R828D = 1
 -- bits 4 and 5 of the fifth status byte
 abbrev pub fineOf : ℕ → ℕ
 fineOf byte = bitAnd (reversed byte) 0x30 / 16
-
--- updates as the code hands them on: an array, and how many of it are meant
-abbrev pub listed : List Update → Updates
-listed us = record { list = sixteen us; n = length us }
 
 -- the divider is repaired by one where the VCO's band is off; below 0 it stays 0
 unfoldable pub repairUpdates : Kind → ℕ → ℕ → List Update

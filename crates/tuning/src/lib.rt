@@ -9,16 +9,18 @@ ghost use lib.Dec.{eqb};
 ghost use lib.ListN.{length, getD};
 ghost use Rattle.chip.specs.declared.Chip.{Chip};
 ghost use Rattle.chip.specs.Entries.{lockedBy, pointer, readEntry, wait};
-ghost use Rattle.chip.specs.Steps.{closing, due, inRoom, onLog, onRoom, run, updates};
+ghost use Rattle.chip.specs.Steps.{closing, due, inRoom, listed, masked, onLog, onRoom, run, updates};
 ghost use Rattle.chip.specs.Steps.Step.{Plain};
-ghost use Rattle.tuning.specs.Mux.{laterOf, masked, muxUpdates, pllUpdates, rangeOf};
-ghost use Rattle.tuning.specs.Tries.{afterTry, listed, locked, fineOf, powerOf, repairUpdates, replyBytes, statusSteps, triesFrom, tryRead};
+ghost use Rattle.tuning.specs.Mux.{laterOf, muxUpdates, pllUpdates, rangeOf};
+ghost use Rattle.tuning.specs.Tries.{afterTry, locked, fineOf, powerOf, repairUpdates, replyBytes, statusSteps, triesFrom, tryRead};
 ghost use Rattle.tuning.specs.Program.{innerSteps, dividerNumber, pllSteps, tuneSteps};
-use chip::FILLER;
 use chip::Flow;
 use chip::Log;
 use chip::Update;
+use chip::Updates;
 use chip::Went;
+use chip::masked;
+use chip::past;
 use pll::Kind;
 use pll::Plan;
 use pll::Pll;
@@ -36,11 +38,24 @@ pub struct FreqRange {
     pub filter: u8,
 }
 
-// Updates of registers, the first n of them meant; fillers stand behind them.
-pub struct Updates {
-    pub list: [Update; 16],
-    pub n: usize,
+// What a tuning goes by.
+pub struct Tuning {
+    pub kind: Kind,
+    pub notch: bool,
+    pub plan: Pll,
+    pub hz: u64,
 }
+
+// What stands in the list of writes where the PLL has no plan; it is never taken.
+const NO_PLAN: Plan = Plan {
+    m: 0,
+    number: 0,
+    n: 0,
+    setting: 0,
+    fraction: 0,
+    sum: 0,
+    rest: 0,
+};
 
 fn later(hz: u64, best: FreqRange, r: FreqRange) -> FreqRange
     ensures { λ out. ⌜ out ≡ laterOf hz best r ⌝ }
@@ -95,102 +110,22 @@ fn tune_updates(r: FreqRange, notch: bool, p: Plan) -> [Update; 16]
     let high = (p.sum / 256) as u8;
     let low = (p.sum % 256) as u8;
     [
-        Update {
-            register: 0x17,
-            value: 0xa0,
-            mask: 0x30,
-            past: false,
-        },
-        Update {
-            register: 0x17,
-            value: drain,
-            mask: 0x08,
-            past: false,
-        },
-        Update {
-            register: 0x1a,
-            value: r.mux,
-            mask: 0xc3,
-            past: false,
-        },
-        Update {
-            register: 0x1b,
-            value: r.filter,
-            mask: 0xff,
-            past: false,
-        },
-        Update {
-            register: 0x10,
-            value: 0x0b,
-            mask: 0x0b,
-            past: false,
-        },
-        Update {
-            register: 0x08,
-            value: 0x00,
-            mask: 0x3f,
-            past: false,
-        },
-        Update {
-            register: 0x09,
-            value: 0x00,
-            mask: 0x3f,
-            past: false,
-        },
-        Update {
-            register: 0x1d,
-            value: 0x18,
-            mask: 0x38,
-            past: false,
-        },
-        Update {
-            register: 0x1c,
-            value: 0x24,
-            mask: 0x04,
-            past: false,
-        },
-        Update {
-            register: 0x1e,
-            value: 14,
-            mask: 0x1f,
-            past: false,
-        },
-        Update {
-            register: 0x1a,
-            value: 0x20,
-            mask: 0x30,
-            past: false,
-        },
-        Update {
-            register: 0x10,
-            value: p.number * 32,
-            mask: 0xe0,
-            past: false,
-        },
-        Update {
-            register: 0x14,
-            value: p.setting,
-            mask: 0xff,
-            past: true,
-        },
-        Update {
-            register: 0x16,
-            value: high,
-            mask: 0xff,
-            past: true,
-        },
-        Update {
-            register: 0x15,
-            value: low,
-            mask: 0xff,
-            past: true,
-        },
-        Update {
-            register: 0x12,
-            value: whole,
-            mask: 0x08,
-            past: false,
-        },
+        masked(0x17, 0xa0, 0x30),
+        masked(0x17, drain, 0x08),
+        masked(0x1a, r.mux, 0xc3),
+        masked(0x1b, r.filter, 0xff),
+        masked(0x10, 0x0b, 0x0b),
+        masked(0x08, 0x00, 0x3f),
+        masked(0x09, 0x00, 0x3f),
+        masked(0x1d, 0x18, 0x38),
+        masked(0x1c, 0x24, 0x04),
+        masked(0x1e, 14, 0x1f),
+        masked(0x1a, 0x20, 0x30),
+        masked(0x10, p.number * 32, 0xe0),
+        past(0x14, p.setting),
+        past(0x16, high),
+        past(0x15, low),
+        masked(0x12, whole, 0x08),
     ]
 }
 
@@ -209,7 +144,7 @@ fn wait(ms: u16) -> Entry
     ensures { λ r. ⌜ r ≡ wait ms ⌝ }
 {
     Entry {
-        kind: 9,
+        kind: transcript::WAIT,
         outcome: 0,
         target: 0,
         n: 0,
@@ -222,7 +157,7 @@ fn pointer(address: u8) -> Entry
     ensures { λ r. ⌜ r ≡ pointer address ⌝ }
 {
     Entry {
-        kind: 2,
+        kind: transcript::I2C_WRITE,
         outcome: 0,
         target: address,
         n: 1,
@@ -235,7 +170,7 @@ fn read_entry(address: u8, n: u8, bytes: [u8; 8]) -> Entry
     ensures { λ r. ⌜ r ≡ readEntry address n bytes ⌝ }
 {
     Entry {
-        kind: 3,
+        kind: transcript::I2C_READ,
         outcome: 0,
         target: address,
         n: n,
@@ -268,18 +203,21 @@ fn status_entries(l: Log, address: u8, bytes: [u8; 8], outcomes: &[u8], room: &m
 }
 
 // "wait 2, status": the VCO settles, then five status bytes are read.
-fn read_status_raw(f: Flow, address: u8, replies: &[u8], outcomes: &[u8], room: &mut [u8]) -> Flow
+fn read_status_raw(f: Flow, outcomes: &[u8], replies: &[u8], room: &mut [u8]) -> Flow
     requires { ⌜ (35 ≤ length (now replies))
-        × (f .count + 3 + due (f .held) ≤ length (now outcomes)) × (16 * (f .count + 3 + due (f .held)) ≤ length (now room)) ⌝ }
+        × (f .log .count + 3 + due (f .log .held) ≤ length (now outcomes)) × (16 * (f .log .count + 3 + due (f .log .held)) ≤ length (now room)) ⌝ }
     ensures { λ r. ⌜ onRoom r (now (room .exit))
         ≡ closing inRoom (now (outcomes .entry))
-        (run inRoom (now (outcomes .entry)) (statusSteps address (now (replies .entry))) (onRoom f (now (room .entry)))) ⌝ }
-    ensures bounds { λ r. ⌜ r .count + due (r .held) ≤ f .count + 3 + due (f .held) ⌝ }
+        (run inRoom (now (outcomes .entry)) (statusSteps (f .chip .address) (now (replies .entry))) (onRoom f (now (room .entry)))) ⌝ }
+    ensures bounds { λ r. ⌜ r .log .count + due (r .log .held) ≤ f .log .count + 3 + due (f .log .held) ⌝ }
 {
     let bytes = reply_bytes(replies, 0, 5);
-    let l = chip::log_of(f);
-    let read = status_entries(l, address, bytes, outcomes, room);
-    chip::flow_of(read, f.chip)
+    let chip = f.chip;
+    let log = status_entries(f.log, chip.address, bytes, outcomes, room);
+    Flow {
+        chip: chip,
+        log: log,
+    }
 }
 
 // The Rust's `vco_power_ref`.
@@ -302,14 +240,7 @@ fn vco_fine_tune(byte: u8) -> u8
 fn divider_bits(value: u8) -> Updates
     ensures { λ r. ⌜ r ≡ listed (masked 0x10 value 0xe0 ∷ []) ⌝ }
 {
-    let mut list = [FILLER; 16];
-    list[0] = Update {
-        register: 0x10,
-        value: value,
-        mask: 0xe0,
-        past: false,
-    };
-    Updates { list: list, n: 1 }
+    chip::one(masked(0x10, value, 0xe0))
 }
 
 // Pass 2: the divider is repaired by one where the VCO's band is off.
@@ -326,10 +257,7 @@ fn repair(kind: Kind, number: u8, byte: u8) -> Updates
     if fine < power {
         return divider_bits((number + 1) * 32);
     }
-    Updates {
-        list: [FILLER; 16],
-        n: 0,
-    }
+    chip::NO_UPDATES
 }
 
 // The third status byte's lock bit.
@@ -357,56 +285,51 @@ fn try_entries(l: Log, address: u8, bytes: [u8; 8], outcomes: &[u8], room: &mut 
 }
 
 // The read of try i.
-fn read_try(
-    f: Flow,
-    address: u8,
-    i: usize,
-    replies: &[u8],
-    outcomes: &[u8],
-    room: &mut [u8],
-) -> Flow
+fn read_try(f: Flow, i: usize, outcomes: &[u8], replies: &[u8], room: &mut [u8]) -> Flow
     requires { ⌜ (i < 10) × (35 ≤ length (now replies))
-        × (f .count + 2 + due (f .held) ≤ length (now outcomes)) × (16 * (f .count + 2 + due (f .held)) ≤ length (now room)) ⌝ }
+        × (f .log .count + 2 + due (f .log .held) ≤ length (now outcomes)) × (16 * (f .log .count + 2 + due (f .log .held)) ≤ length (now room)) ⌝ }
     ensures { λ r. ⌜ onRoom r (now (room .exit))
         ≡ closing inRoom (now (outcomes .entry))
-        (run inRoom (now (outcomes .entry)) (tryRead address (now (replies .entry)) i) (onRoom f (now (room .entry)))) ⌝ }
-    ensures bounds { λ r. ⌜ r .count + due (r .held) ≤ f .count + 2 + due (f .held) ⌝ }
+        (run inRoom (now (outcomes .entry)) (tryRead (f .chip .address) (now (replies .entry)) i) (onRoom f (now (room .entry)))) ⌝ }
+    ensures bounds { λ r. ⌜ r .log .count + due (r .log .held) ≤ f .log .count + 2 + due (f .log .held) ⌝ }
 {
     let bytes = reply_bytes(replies, 5 + 3 * i, 3);
-    let l = chip::log_of(f);
-    let read = try_entries(l, address, bytes, outcomes, room);
-    chip::flow_of(read, f.chip)
+    let chip = f.chip;
+    let log = try_entries(f.log, chip.address, bytes, outcomes, room);
+    Flow {
+        chip: chip,
+        log: log,
+    }
 }
 
 // The wait of 1 behind a try.
 fn wait_one(f: Flow, outcomes: &[u8], room: &mut [u8]) -> Flow
-    requires { ⌜ (f .count + 1 + due (f .held) ≤ length (now outcomes)) × (16 * (f .count + 1 + due (f .held)) ≤ length (now room)) ⌝ }
+    requires { ⌜ (f .log .count + 1 + due (f .log .held) ≤ length (now outcomes)) × (16 * (f .log .count + 1 + due (f .log .held)) ≤ length (now room)) ⌝ }
     ensures { λ r. ⌜ onRoom r (now (room .exit))
         ≡ closing inRoom (now (outcomes .entry)) (run inRoom (now (outcomes .entry)) (Plain (wait 1) ∷ []) (onRoom f (now (room .entry)))) ⌝ }
-    ensures bounds { λ r. ⌜ r .count + due (r .held) ≤ f .count + 1 + due (f .held) ⌝ }
+    ensures bounds { λ r. ⌜ r .log .count + due (r .log .held) ≤ f .log .count + 1 + due (f .log .held) ⌝ }
 {
-    let l = chip::log_of(f);
-    let waited = chip::log_plain(l, wait(1), outcomes, room);
-    let ended = chip::log_end(waited, outcomes, room);
-    chip::flow_of(ended, f.chip)
+    let chip = f.chip;
+    let waited = chip::log_plain(f.log, wait(1), outcomes, room);
+    let log = chip::log_end(waited, outcomes, room);
+    Flow {
+        chip: chip,
+        log: log,
+    }
 }
 
 // What follows a try without the lock: 0x12 once, behind the first, and a wait of 1.
 fn after_try(f: Flow, i: usize, outcomes: &[u8], room: &mut [u8]) -> Flow
-    requires { ⌜ (f .count + (1 - i) + 1 + due (f .held) ≤ length (now outcomes)) × (16 * (f .count + (1 - i) + 1 + due (f .held)) ≤ length (now room)) ⌝ }
+    requires { ⌜ (f .log .count + (1 - i) + 1 + due (f .log .held) ≤ length (now outcomes)) × (16 * (f .log .count + (1 - i) + 1 + due (f .log .held)) ≤ length (now room)) ⌝ }
     ensures { λ r. ⌜ onRoom r (now (room .exit))
         ≡ closing inRoom (now (outcomes .entry)) (run inRoom (now (outcomes .entry)) (afterTry i) (onRoom f (now (room .entry)))) ⌝ }
-    ensures bounds { λ r. ⌜ r .count + due (r .held) ≤ f .count + (1 - i) + 1 + due (f .held) ⌝ }
+    ensures bounds { λ r. ⌜ r .log .count + due (r .log .held) ≤ f .log .count + (1 - i) + 1 + due (f .log .held) ⌝ }
 {
     if i == 0 {
-        let u = Update {
-            register: 0x12,
-            value: 0x06,
-            mask: 0xff,
-            past: false,
-        };
-        let written = chip::write_all(f, [u; 16], 1, outcomes, room);
-        let went = written.went;
+        let us = chip::one(masked(0x12, 0x06, 0xff));
+        let written = chip::write_all(f, us, outcomes, room);
+        let log = written.log;
+        let went = log.went;
         let Went::Going = went else {
             return chip::close_repeater(written, outcomes, room);
         };
@@ -417,38 +340,35 @@ fn after_try(f: Flow, i: usize, outcomes: &[u8], room: &mut [u8]) -> Flow
 
 // Behind a lock 0x1a is written.
 fn after_lock(f: Flow, outcomes: &[u8], room: &mut [u8]) -> Flow
-    requires { ⌜ (f .count + 1 + due (f .held) ≤ length (now outcomes)) × (16 * (f .count + 1 + due (f .held)) ≤ length (now room)) ⌝ }
+    requires { ⌜ (f .log .count + 1 + due (f .log .held) ≤ length (now outcomes)) × (16 * (f .log .count + 1 + due (f .log .held)) ≤ length (now room)) ⌝ }
     ensures { λ r. ⌜ onRoom r (now (room .exit))
         ≡ closing inRoom (now (outcomes .entry)) (run inRoom (now (outcomes .entry)) (updates locked) (onRoom f (now (room .entry)))) ⌝ }
-    ensures bounds { λ r. ⌜ r .count + due (r .held) ≤ f .count + 1 + due (f .held) ⌝ }
+    ensures bounds { λ r. ⌜ r .log .count + due (r .log .held) ≤ f .log .count + 1 + due (f .log .held) ⌝ }
 {
-    let u = Update {
-        register: 0x1a,
-        value: 0x08,
-        mask: 0x08,
-        past: false,
-    };
-    chip::write_all(f, [u; 16], 1, outcomes, room)
+    let us = chip::one(masked(0x1a, 0x08, 0x08));
+    chip::write_all(f, us, outcomes, room)
 }
 
 // `wait_pll_lock_raw(10)` and the write of 0x1a behind a lock.
-fn wait_pll_lock_raw(f: Flow, address: u8, replies: &[u8], outcomes: &[u8], room: &mut [u8]) -> Flow
+fn wait_pll_lock_raw(f: Flow, outcomes: &[u8], replies: &[u8], room: &mut [u8]) -> Flow
     requires { ⌜ (35 ≤ length (now replies))
-        × (f .count + 31 + due (f .held) ≤ length (now outcomes)) × (16 * (f .count + 31 + due (f .held)) ≤ length (now room)) ⌝ }
+        × (f .log .count + 31 + due (f .log .held) ≤ length (now outcomes)) × (16 * (f .log .count + 31 + due (f .log .held)) ≤ length (now room)) ⌝ }
     ensures { λ r. ⌜ onRoom r (now (room .exit))
         ≡ closing inRoom (now (outcomes .entry))
-        (run inRoom (now (outcomes .entry)) (triesFrom address (now (replies .entry)) 10 0) (onRoom f (now (room .entry)))) ⌝ }
-    ensures bounds { λ r. ⌜ r .count + due (r .held) ≤ f .count + 31 + due (f .held) ⌝ }
+        (run inRoom (now (outcomes .entry)) (triesFrom (f .chip .address) (now (replies .entry)) 10 0) (onRoom f (now (room .entry)))) ⌝ }
+    ensures bounds { λ r. ⌜ r .log .count + due (r .log .held) ≤ f .log .count + 31 + due (f .log .held) ⌝ }
 {
     let mut f = f;
-    let went = f.went;
+    let log = f.log;
+    let went = log.went;
     let Went::Going = went else {
         return chip::close_repeater(f, outcomes, room);
     };
     let mut i: usize = 0;
     while i < 10 {
-        f = read_try(f, address, i, replies, outcomes, room);
-        let went = f.went;
+        f = read_try(f, i, outcomes, replies, room);
+        let log = f.log;
+        let went = log.went;
         let Went::Going = went else {
             return chip::close_repeater(f, outcomes, room);
         };
@@ -464,99 +384,60 @@ fn wait_pll_lock_raw(f: Flow, address: u8, replies: &[u8], outcomes: &[u8], room
 // What follows the sixteen registers: status, repair, tries.
 fn set_pll_raw(
     f: Flow,
-    address: u8,
     kind: Kind,
     number: u8,
-    replies: &[u8],
     outcomes: &[u8],
+    replies: &[u8],
     room: &mut [u8],
 ) -> Flow
     requires { ⌜ (number ≤ 5) × (35 ≤ length (now replies))
-        × (f .count + 35 + due (f .held) ≤ length (now outcomes)) × (16 * (f .count + 35 + due (f .held)) ≤ length (now room)) ⌝ }
+        × (f .log .count + 35 + due (f .log .held) ≤ length (now outcomes)) × (16 * (f .log .count + 35 + due (f .log .held)) ≤ length (now room)) ⌝ }
     ensures { λ r. ⌜ onRoom r (now (room .exit))
         ≡ closing inRoom (now (outcomes .entry))
-        (run inRoom (now (outcomes .entry)) (pllSteps address kind number (now (replies .entry))) (onRoom f (now (room .entry)))) ⌝ }
-    ensures bounds { λ r. ⌜ r .count + due (r .held) ≤ f .count + 35 + due (f .held) ⌝ }
+        (run inRoom (now (outcomes .entry)) (pllSteps (f .chip .address) kind number (now (replies .entry))) (onRoom f (now (room .entry)))) ⌝ }
+    ensures bounds { λ r. ⌜ r .log .count + due (r .log .held) ≤ f .log .count + 35 + due (f .log .held) ⌝ }
 {
     let fix = repair(kind, number, replies[4]);
-    let list = fix.list;
-    let n = fix.n;
-    let probed = read_status_raw(f, address, replies, outcomes, room);
-    let repaired = chip::write_all(probed, list, n, outcomes, room);
-    wait_pll_lock_raw(repaired, address, replies, outcomes, room)
+    let probed = read_status_raw(f, outcomes, replies, room);
+    let repaired = chip::write_all(probed, fix, outcomes, room);
+    wait_pll_lock_raw(repaired, outcomes, replies, room)
 }
 
 // The steps behind the open repeater. A refused plan leaves the mux's writes.
-fn tune_inner(
-    f: Flow,
-    address: u8,
-    kind: Kind,
-    notch: bool,
-    plan: Pll,
-    hz: u64,
-    replies: &[u8],
-    outcomes: &[u8],
-    room: &mut [u8],
-) -> Flow
-    requires { ⌜ (dividerNumber plan ≤ 5) × (35 ≤ length (now replies))
-        × (f .count + 51 + due (f .held) ≤ length (now outcomes)) × (16 * (f .count + 51 + due (f .held)) ≤ length (now room)) ⌝ }
+fn tune_inner(f: Flow, t: Tuning, outcomes: &[u8], replies: &[u8], room: &mut [u8]) -> Flow
+    requires { ⌜ (dividerNumber (t .plan) ≤ 5) × (35 ≤ length (now replies))
+        × (f .log .count + 51 + due (f .log .held) ≤ length (now outcomes)) × (16 * (f .log .count + 51 + due (f .log .held)) ≤ length (now room)) ⌝ }
     ensures { λ r. ⌜ onRoom r (now (room .exit))
         ≡ closing inRoom (now (outcomes .entry))
-        (run inRoom (now (outcomes .entry)) (innerSteps address kind notch plan hz (now (replies .entry))) (onRoom f (now (room .entry)))) ⌝ }
-    ensures bounds { λ r. ⌜ r .count + due (r .held) ≤ f .count + 51 + due (f .held) ⌝ }
+        (run inRoom (now (outcomes .entry)) (innerSteps (f .chip .address) (t .kind) (t .notch) (t .plan) (t .hz) (now (replies .entry))) (onRoom f (now (room .entry)))) ⌝ }
+    ensures bounds { λ r. ⌜ r .log .count + due (r .log .held) ≤ f .log .count + 51 + due (f .log .held) ⌝ }
 {
-    let range = freq_range(hz);
+    let range = freq_range(t.hz);
+    let plan = t.plan;
     let Pll::Planned(p) = plan else {
-        let none = Plan {
-            m: 0,
-            number: 0,
-            n: 0,
-            setting: 0,
-            fraction: 0,
-            sum: 0,
-            rest: 0,
-        };
-        let us = tune_updates(range, notch, none);
-        return chip::write_all(f, us, 11, outcomes, room);
+        let list = tune_updates(range, t.notch, NO_PLAN);
+        return chip::write_all(f, Updates { list: list, n: 11 }, outcomes, room);
     };
-    let us = tune_updates(range, notch, p);
-    let written = chip::write_all(f, us, 16, outcomes, room);
-    set_pll_raw(written, address, kind, p.number, replies, outcomes, room)
+    let list = tune_updates(range, t.notch, p);
+    let written = chip::write_all(f, Updates { list: list, n: 16 }, outcomes, room);
+    let kind = t.kind;
+    set_pll_raw(written, kind, p.number, outcomes, replies, room)
 }
 
 // A whole tuning: one bracket.
-pub fn tune(
-    f: Flow,
-    address: u8,
-    kind: Kind,
-    notch: bool,
-    plan: Pll,
-    hz: u64,
-    replies: &[u8],
-    outcomes: &[u8],
-    room: &mut [u8],
-) -> Flow
-    requires { ⌜ (dividerNumber plan ≤ 5) × (35 ≤ length (now replies))
-        × (f .count + 53 ≤ length (now outcomes)) × (16 * (f .count + 53) ≤ length (now room)) ⌝ }
+pub fn tune(f: Flow, t: Tuning, outcomes: &[u8], replies: &[u8], room: &mut [u8]) -> Flow
+    requires { ⌜ (dividerNumber (t .plan) ≤ 5) × (35 ≤ length (now replies))
+        × (f .log .count + 53 ≤ length (now outcomes)) × (16 * (f .log .count + 53) ≤ length (now room)) ⌝ }
     ensures { λ r. ⌜ onRoom r (now (room .exit))
-        ≡ run inRoom (now (outcomes .entry)) (tuneSteps address kind notch plan hz (now (replies .entry))) (onRoom f (now (room .entry))) ⌝ }
-    ensures bounds { λ r. ⌜ r .count + due (r .held) ≤ f .count + 53 ⌝ }
+        ≡ run inRoom (now (outcomes .entry)) (tuneSteps (f .chip .address) (t .kind) (t .notch) (t .plan) (t .hz) (now (replies .entry))) (onRoom f (now (room .entry))) ⌝ }
+    ensures bounds { λ r. ⌜ r .log .count + due (r .log .held) ≤ f .log .count + 53 ⌝ }
 {
     let opened = chip::open_repeater(f, outcomes, room);
-    let went = opened.went;
+    let log = opened.log;
+    let went = log.went;
     let Went::Going = went else {
         return chip::close_repeater(opened, outcomes, room);
     };
-    let tuned = tune_inner(
-        opened,
-        address,
-        kind,
-        notch,
-        plan,
-        hz,
-        replies,
-        outcomes,
-        room,
-    );
+    let tuned = tune_inner(opened, t, outcomes, replies, room);
     chip::close_repeater(tuned, outcomes, room)
 }

@@ -1,14 +1,13 @@
 -- Of each list of updates: its registers are the record's; and how long the input path's is. Assumes nothing.
 use Prim.Native.Nat.{ℕ}
-use mathlib.Core.Path.{_≡_, refl}
+use mathlib.Core.Path.{_≡_, refl, _∙_}
 use mathlib.Core.Bool.{true}
-use mathlib.Core.List.{List}
-use lib.ListN.{length, take}
+use lib.ListN.{length}
 use Rattle.board.specs.declared.Path.{Path}
 use Rattle.board.specs.declared.Path.the-variants.{Hf, Vhf, Uhf}
-use Rattle.chip.specs.declared.Update.{Update}
-use Rattle.chip.specs.Steps.{allIn, every, filler, sixteen}
-use Rattle.chip.proofs.Lists.{meant, meant-in}
+use Rattle.chip.specs.declared.Updates.{Updates}
+use Rattle.chip.specs.Steps.{allIn, every, listed, meantOf}
+use Rattle.chip.proofs.Lists.{meant-all, meant-count, meant-in}
 use Rattle.writes.specs.Lists.{bandwidthUpdates, gainUpdates, ifUpdates, initUpdates, pathUpdates}
 
 pub bandwidth-in : (hz : ℕ) → allIn (bandwidthUpdates hz) ≡ true
@@ -38,10 +37,13 @@ path-two Hf = refl
 path-two Vhf = refl
 path-two Uhf = refl
 
--- of the array of the input path's updates what is meant
-module _ (path : Path) (r : List Update) (e : r ≡ sixteen (pathUpdates path)) where
-  pub path-meant : take 2 r ≡ pathUpdates path
-  path-meant = meant (pathUpdates path) 16 2 filler r (path-two path) e
+-- of the input path's updates what is meant
+module _ (path : Path) (r : Updates) (e : r ≡ listed (pathUpdates path)) where
+  pub path-meant : meantOf r ≡ pathUpdates path
+  path-meant = meant-all (pathUpdates path) r e
 
-  pub path-meant-in : allIn (take 2 r) ≡ true
-  path-meant-in = meant-in (pathUpdates path) 2 r (path-two path) (path-in path) e
+  pub path-meant-in : allIn (meantOf r) ≡ true
+  path-meant-in = meant-in (pathUpdates path) r e (path-in path)
+
+  pub path-meant-two : r .n ≡ 2
+  path-meant-two = meant-count (pathUpdates path) r e ∙ path-two path

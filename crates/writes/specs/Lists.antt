@@ -1,17 +1,15 @@
 -- Which registers the calls of src/tuners/r82xx.rs write, other than a tuning: value and mask of each, in the Rust's order.
 -- Assumes nothing.
 use Prim.Native.Nat.{ℕ}
-use mathlib.Core.Bool.{false, cond}
+use mathlib.Core.Bool.{cond}
 use mathlib.Core.List.{List, [], _∷_, _++_}
 use lib.Dec.{leb}
 use Rattle.board.specs.declared.Path.{Path}
 use Rattle.board.specs.declared.Path.the-variants.{Hf, Vhf, Uhf}
 use Rattle.chip.specs.declared.Update.{Update}
+use Rattle.chip.specs.Steps.{masked}
 use Rattle.gain.specs.declared.GainEntry.{GainEntry}
 use Rattle.gain.specs.Table.{entryAt}
-
-abbrev pub masked : ℕ → ℕ → ℕ → Update
-masked register value mask = record { register = register; value = value; mask = mask; past = false }
 
 -- the Rust's `INIT_ARRAY`: registers 0x05 to 0x1f
 abbrev pub initArray : List ℕ

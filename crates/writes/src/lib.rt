@@ -6,7 +6,7 @@ ghost use mathlib.Core.List.{_++_};
 ghost use Prim.Native.Nat.{_+_, _*_, _≤_, _<_};
 ghost use lib.Dec.{leb};
 ghost use lib.ListN.{length};
-ghost use Rattle.chip.specs.Steps.{behind, closing, due, inRoom, onLists, onRoom, run, sixteen, updates};
+ghost use Rattle.chip.specs.Steps.{behind, closing, due, inRoom, listed, onLists, onRoom, run, updates};
 ghost use Rattle.writes.specs.Lists.{bandwidthUpdates, byHand, gainUpdates, ifUpdates, initUpdates, pathUpdates, stepValues};
 ghost use Rattle.writes.specs.Programs.{initSteps, sendAll};
 use board::Path;
@@ -14,8 +14,9 @@ use chip::Chip;
 use chip::FILLER;
 use chip::Flow;
 use chip::Log;
-use chip::Update;
+use chip::Updates;
 use chip::Went;
+use chip::masked;
 use gain::GainEntry;
 
 pub const IF_FREQ_NARROW: u64 = 2_300_000;
@@ -71,124 +72,39 @@ fn width(hz: u32) -> u8
     0x00
 }
 
-fn init_updates() -> [Update; 16]
-    ensures { λ r. ⌜ r ≡ sixteen initUpdates ⌝ }
+fn init_updates() -> Updates
+    ensures { λ r. ⌜ r ≡ listed initUpdates ⌝ }
 {
-    let mut us = [FILLER; 16];
-    us[0] = Update {
-        register: 0x1a,
-        value: 0x00,
-        mask: 0x0c,
-        past: false,
-    };
-    us[1] = Update {
-        register: 0x12,
-        value: 0x06,
-        mask: 0xff,
-        past: false,
-    };
-    us[2] = Update {
-        register: 0x0c,
-        value: 0x00,
-        mask: 0x0f,
-        past: false,
-    };
-    us[3] = Update {
-        register: 0x13,
-        value: 0x01,
-        mask: 0x3f,
-        past: false,
-    };
-    us
+    let mut list = [FILLER; 16];
+    list[0] = masked(0x1a, 0x00, 0x0c);
+    list[1] = masked(0x12, 0x06, 0xff);
+    list[2] = masked(0x0c, 0x00, 0x0f);
+    list[3] = masked(0x13, 0x01, 0x3f);
+    Updates { list: list, n: 4 }
 }
 
-pub fn if_updates(hz: u64) -> [Update; 16]
-    ensures { λ r. ⌜ r ≡ sixteen (ifUpdates hz) ⌝ }
+pub fn if_updates(hz: u64) -> Updates
+    ensures { λ r. ⌜ r ≡ listed (ifUpdates hz) ⌝ }
 {
     let low = narrow_or_wide(hz, 0x00, 0x10);
     let high = narrow_or_wide(hz, 0x80, 0x6b);
-    let mut us = [FILLER; 16];
-    us[0] = Update {
-        register: 0x0a,
-        value: low,
-        mask: 0x70,
-        past: false,
-    };
-    us[1] = Update {
-        register: 0x0b,
-        value: high,
-        mask: 0xef,
-        past: false,
-    };
-    us
+    chip::two(masked(0x0a, low, 0x70), masked(0x0b, high, 0xef))
 }
 
-pub fn bandwidth_updates(hz: u32) -> [Update; 16]
-    ensures { λ r. ⌜ r ≡ sixteen (bandwidthUpdates hz) ⌝ }
+pub fn bandwidth_updates(hz: u32) -> Updates
+    ensures { λ r. ⌜ r ≡ listed (bandwidthUpdates hz) ⌝ }
 {
     let value = width(hz);
-    let mut us = [FILLER; 16];
-    us[0] = Update {
-        register: 0x0a,
-        value: value,
-        mask: 0x0f,
-        past: false,
-    };
-    us
+    chip::one(masked(0x0a, value, 0x0f))
 }
 
-pub fn path_updates(path: Path) -> [Update; 16]
-    ensures { λ r. ⌜ r ≡ sixteen (pathUpdates path) ⌝ }
+pub fn path_updates(path: Path) -> Updates
+    ensures { λ r. ⌜ r ≡ listed (pathUpdates path) ⌝ }
 {
     match path {
-        Path::Hf => {
-            let mut us = [FILLER; 16];
-            us[0] = Update {
-                register: 0x06,
-                value: 0x08,
-                mask: 0x08,
-                past: false,
-            };
-            us[1] = Update {
-                register: 0x05,
-                value: 0x00,
-                mask: 0x60,
-                past: false,
-            };
-            us
-        }
-        Path::Vhf => {
-            let mut us = [FILLER; 16];
-            us[0] = Update {
-                register: 0x05,
-                value: 0x40,
-                mask: 0x60,
-                past: false,
-            };
-            us[1] = Update {
-                register: 0x06,
-                value: 0x00,
-                mask: 0x08,
-                past: false,
-            };
-            us
-        }
-        Path::Uhf => {
-            let mut us = [FILLER; 16];
-            us[0] = Update {
-                register: 0x05,
-                value: 0x20,
-                mask: 0x60,
-                past: false,
-            };
-            us[1] = Update {
-                register: 0x06,
-                value: 0x00,
-                mask: 0x08,
-                past: false,
-            };
-            us
-        }
+        Path::Hf => chip::two(masked(0x06, 0x08, 0x08), masked(0x05, 0x00, 0x60)),
+        Path::Vhf => chip::two(masked(0x05, 0x40, 0x60), masked(0x06, 0x00, 0x08)),
+        Path::Uhf => chip::two(masked(0x05, 0x20, 0x60), masked(0x06, 0x00, 0x08)),
     }
 }
 
@@ -208,35 +124,15 @@ fn gain_by_hand(
         (onLists address (now (shadow .entry)) (now (attempted .entry)) (now (doubtful .entry)) l (now (room .entry)))) ⌝ }
     ensures bounds { λ r. ⌜ r .count + due (r .held) ≤ l .count + 2 + due (l .held) ⌝ }
 {
-    let lna = chip::write_reg_mask_raw(
-        l,
-        address,
-        0x05,
-        0x10,
-        0x10,
-        shadow,
-        attempted,
-        doubtful,
-        outcomes,
-        room,
-    );
-    let went = lna.went;
+    let u = masked(0x05, 0x10, 0x10);
+    let l = chip::write_reg_mask_raw(l, address, u, shadow, attempted, doubtful, outcomes, room);
+    let went = l.went;
     let Went::Going = went else {
-        return chip::log_close(lna, outcomes, room);
+        return chip::log_close(l, outcomes, room);
     };
-    let mix = chip::write_reg_mask_raw(
-        lna,
-        address,
-        0x07,
-        0x00,
-        0x10,
-        shadow,
-        attempted,
-        doubtful,
-        outcomes,
-        room,
-    );
-    chip::log_end(mix, outcomes, room)
+    let u = masked(0x07, 0x00, 0x10);
+    let l = chip::write_reg_mask_raw(l, address, u, shadow, attempted, doubtful, outcomes, room);
+    chip::log_end(l, outcomes, room)
 }
 
 // The step's three values. 0x05: bits 0 to 3 are the LNA's gain, bits 5 and 6 the antenna's path, which the mask leaves.
@@ -256,51 +152,21 @@ fn gain_values(
         (onLists address (now (shadow .entry)) (now (attempted .entry)) (now (doubtful .entry)) l (now (room .entry)))) ⌝ }
     ensures bounds { λ r. ⌜ r .count + due (r .held) ≤ l .count + 3 + due (l .held) ⌝ }
 {
-    let lna = chip::write_reg_mask_raw(
-        l,
-        address,
-        0x05,
-        cfg.lna,
-        0x0f,
-        shadow,
-        attempted,
-        doubtful,
-        outcomes,
-        room,
-    );
-    let went = lna.went;
+    let u = masked(0x05, cfg.lna, 0x0f);
+    let l = chip::write_reg_mask_raw(l, address, u, shadow, attempted, doubtful, outcomes, room);
+    let went = l.went;
     let Went::Going = went else {
-        return chip::log_close(lna, outcomes, room);
+        return chip::log_close(l, outcomes, room);
     };
-    let mix = chip::write_reg_mask_raw(
-        lna,
-        address,
-        0x07,
-        cfg.mix,
-        0x0f,
-        shadow,
-        attempted,
-        doubtful,
-        outcomes,
-        room,
-    );
-    let went = mix.went;
+    let u = masked(0x07, cfg.mix, 0x0f);
+    let l = chip::write_reg_mask_raw(l, address, u, shadow, attempted, doubtful, outcomes, room);
+    let went = l.went;
     let Went::Going = went else {
-        return chip::log_close(mix, outcomes, room);
+        return chip::log_close(l, outcomes, room);
     };
-    let vga = chip::write_reg_mask_raw(
-        mix,
-        address,
-        0x0c,
-        cfg.vga,
-        0x0f,
-        shadow,
-        attempted,
-        doubtful,
-        outcomes,
-        room,
-    );
-    chip::log_end(vga, outcomes, room)
+    let u = masked(0x0c, cfg.vga, 0x0f);
+    let l = chip::write_reg_mask_raw(l, address, u, shadow, attempted, doubtful, outcomes, room);
+    chip::log_end(l, outcomes, room)
 }
 
 // `set_gain`'s five writes, for the step of index k. No list and no loop: each write has its register in the code, so that most of it is worked out before it is run.
@@ -336,17 +202,19 @@ fn gain_writes(
 
 // `set_gain`, over a flow: one bracket.
 pub fn gain_steps(f: Flow, k: usize, outcomes: &[u8], room: &mut [u8]) -> Flow
-    requires { ⌜ (k < 29) × (f .count + 7 ≤ length (now outcomes)) × (16 * (f .count + 7) ≤ length (now room)) ⌝ }
+    requires { ⌜ (k < 29) × (f .log .count + 7 ≤ length (now outcomes)) × (16 * (f .log .count + 7) ≤ length (now room)) ⌝ }
     ensures { λ r. ⌜ onRoom r (now (room .exit)) ≡ run inRoom (now (outcomes .entry)) (behind (updates (gainUpdates k))) (onRoom f (now (room .entry))) ⌝ }
-    ensures bounds { λ r. ⌜ r .count + due (r .held) ≤ f .count + 7 ⌝ }
+    ensures bounds { λ r. ⌜ r .log .count + due (r .log .held) ≤ f .log .count + 7 ⌝ }
 {
     let chip = f.chip;
-    let l = chip::log_of(f);
-    let opened = chip::log_open(l, outcomes, room);
+    let opened = chip::log_open(f.log, outcomes, room);
     let went = opened.went;
     let Went::Going = went else {
         let shut = chip::log_close(opened, outcomes, room);
-        return chip::flow_of(shut, chip);
+        return Flow {
+            chip: chip,
+            log: shut,
+        };
     };
     let mut shadow = chip.shadow;
     let mut attempted = chip.attempted;
@@ -368,14 +236,17 @@ pub fn gain_steps(f: Flow, k: usize, outcomes: &[u8], room: &mut [u8]) -> Flow
         attempted: attempted,
         doubtful: doubtful,
     };
-    chip::flow_of(closed, next)
+    Flow {
+        chip: next,
+        log: closed,
+    }
 }
 
 // All 27 registers, in two brackets.
 pub fn send_all(f: Flow, bs: [u8; 27], outcomes: &[u8], room: &mut [u8]) -> Flow
-    requires { ⌜ (f .count + 9 ≤ length (now outcomes)) × (16 * (f .count + 9) ≤ length (now room)) ⌝ }
+    requires { ⌜ (f .log .count + 9 ≤ length (now outcomes)) × (16 * (f .log .count + 9) ≤ length (now room)) ⌝ }
     ensures { λ r. ⌜ onRoom r (now (room .exit)) ≡ run inRoom (now (outcomes .entry)) (sendAll bs) (onRoom f (now (room .entry))) ⌝ }
-    ensures bounds { λ r. ⌜ r .count + due (r .held) ≤ f .count + 9 ⌝ }
+    ensures bounds { λ r. ⌜ r .log .count + due (r .log .held) ≤ f .log .count + 9 ⌝ }
 {
     let first = chip::i2c_write_first(f, bs, outcomes, room);
     chip::i2c_write_last(first, bs, outcomes, room)
@@ -383,11 +254,11 @@ pub fn send_all(f: Flow, bs: [u8; 27], outcomes: &[u8], room: &mut [u8]) -> Flow
 
 // `initialize`, over a flow.
 pub fn initialize(f: Flow, outcomes: &[u8], room: &mut [u8]) -> Flow
-    requires { ⌜ (f .count + 19 ≤ length (now outcomes)) × (16 * (f .count + 19) ≤ length (now room)) ⌝ }
+    requires { ⌜ (f .log .count + 19 ≤ length (now outcomes)) × (16 * (f .log .count + 19) ≤ length (now room)) ⌝ }
     ensures { λ r. ⌜ onRoom r (now (room .exit)) ≡ run inRoom (now (outcomes .entry)) initSteps (onRoom f (now (room .entry))) ⌝ }
-    ensures bounds { λ r. ⌜ r .count + due (r .held) ≤ f .count + 19 ⌝ }
+    ensures bounds { λ r. ⌜ r .log .count + due (r .log .held) ≤ f .log .count + 19 ⌝ }
 {
     let sent = send_all(f, INIT_ARRAY, outcomes, room);
-    let set = chip::with_repeater(sent, init_updates(), 4, outcomes, room);
-    chip::with_repeater(set, if_updates(IF_FREQ_NARROW), 2, outcomes, room)
+    let set = chip::with_repeater(sent, init_updates(), outcomes, room);
+    chip::with_repeater(set, if_updates(IF_FREQ_NARROW), outcomes, room)
 }

@@ -4,8 +4,8 @@ use borrow.Author.Needs.{needs}
 use Rattle.chip.proofs.looked.Statement.{statement}
 use Rattle.chip.proofs.looked.Tie as tie
 
-wrapping-add-u64-requires : tie.Need-wrapping-add-u64-requires
-wrapping-add-u64-requires c κs = search needs
+wrapping-add-u16-requires : tie.Need-wrapping-add-u16-requires
+wrapping-add-u16-requires c κs = search needs
 
 element-copy-out-bit-reverse : tie.Need-element-copy-out-bit-reverse
 element-copy-out-bit-reverse c = search needs
@@ -15,7 +15,7 @@ bit-reverse-requires c κs = search needs
 
 returns : tie.Need-returns
 unfolding look
-returns c = simp (c .before .before .before .wrapping-add-u64 .ensures, c .before .bit-reverse .ensures, c .before .before .before .before .if1 .taken)
+returns c = simp (c .before .before .before .wrapping-add-u16 .ensures, c .before .bit-reverse .ensures, c .before .before .before .before .if1 .taken)
 
 returns-2 : tie.Need-returns-2
 unfolding look
@@ -25,7 +25,7 @@ pub looked-spec : {M : Type 1} → statement M
 looked-spec =
     tie.close
     (tie.spec
-    wrapping-add-u64-requires
+    wrapping-add-u16-requires
     element-copy-out-bit-reverse
     bit-reverse-requires
     returns

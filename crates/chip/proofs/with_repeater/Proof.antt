@@ -1,11 +1,8 @@
 -- `chip::with_repeater` meets its contract. Each return is one law of the definition, with what the calls before it ensure. Assumes nothing.
-use Rattle.chip.specs.Steps.{due, goes, inRoom, updates, updateStep}
-use Prim.Native.Nat.{_+_, _*_, _≤_}
-use denote.Ref.{now}
-use lib.ListN.{length, take}
+use Rattle.chip.specs.Steps.{goes, inRoom, meantOf, updates, updateStep}
 use Rattle.chip.proofs.Laws.{bracketed, unopened}
 use Rattle.chip.proofs.Lists.{every-inner, inner-update}
-use mathlib.Core.Path.{_≡_, ap, _∙_}
+use mathlib.Core.Path.{ap, _∙_}
 use native.Mathlib.Omega.{arith}
 use borrow.Author.Needs.{needs}
 use Rattle.chip.proofs.with_repeater.Statement.{statement}
@@ -27,41 +24,19 @@ same-length : tie.Need-same-length
 same-length c = search needs
 
 returns : tie.Need-returns
-returns c = (unopened inRoom _ (updates (take (c .before .before .before .before .before .before .before .before .before .before .before .before .args .n) (c .before .before .before .before .before .before .before .before .before .before .before .before .args .us))) _ _ _ (c .before .before .before .before .before .before .before .before .open-repeater .ensures .0) (ap goes (c .before .before .before .before .enum-told2 .given .1)) (every-inner updateStep inner-update (take (c .before .before .before .before .before .before .before .before .before .before .before .before .args .n) (c .before .before .before .before .before .before .before .before .before .before .before .before .args .us))) (c .before .before .close-repeater .ensures .0), omega (arith, c .before .before .before .before .before .before .before .before .open-repeater .ensures .1, c .before .before .close-repeater .ensures .1))
+returns c = (unopened inRoom _ (updates (meantOf (c .before .before .before .before .before .before .before .before .before .before .before .before .before .args .us))) _ _ _ (c .before .before .before .before .before .before .before .before .before .open-repeater .ensures .0) (ap goes (c .before .before .before .before .enum-told2 .given .1)) (every-inner updateStep inner-update (meantOf (c .before .before .before .before .before .before .before .before .before .before .before .before .before .args .us))) (c .before .before .close-repeater .ensures .0), omega (arith, c .before .before .before .before .before .before .before .before .before .open-repeater .ensures .1, c .before .before .close-repeater .ensures .1))
 
 write-all-requires : tie.Need-write-all-requires
 write-all-requires c κs = search needs
 
 close-repeater-requires-2 : tie.Need-close-repeater-requires-2
-close-repeater-requires-2 c κs = let a : c .before .before .before .before .before .before .before .before .before .open-repeater .result .count + due (c .before .before .before .before .before .before .before .before .before .open-repeater .result .held) ≤ c .before .before .before .before .before .before .before .before .before .before .before .before .before .args .f .count + 2 = c .before .before .before .before .before .before .before .before .before .open-repeater .ensures .1 in
-    let b : c .before .before .before .write-all .result .count + due (c .before .before .before .write-all .result .held) ≤ c .before .before .before .before .before .before .before .before .before .open-repeater .result .count + c .before .before .before .before .before .before .before .before .before .before .before .before .before .args .n + due (c .before .before .before .before .before .before .before .before .before .open-repeater .result .held) = c .before .before .before .write-all .ensures .1 in
-    let d : length (c .before .before .before .write-all .last .1 .1 .1 .1 .0) ≡ length (c .before .before .before .before .before .before .before .before .before .open-repeater .last .1 .1 .0) = c .before .before .before .write-all .kept .1 .1 .1 .1 .0 in
-    let e : length (c .before .before .before .before .before .before .before .before .before .open-repeater .last .1 .1 .0) ≡ length (now (c .before .before .before .before .before .before .before .before .before .before .before .before .before .args .room)) = c .before .before .before .before .before .before .before .before .before .open-repeater .kept .1 .1 .0 in
-    let g : (c .before .before .before .write-all .result .count + due (c .before .before .before .write-all .result .held) ≤ length (now (c .before .before .before .before .before .before .before .before .before .before .before .before .before .args .outcomes))) × (16 * (c .before .before .before .write-all .result .count + due (c .before .before .before .write-all .result .held)) ≤ length (c .before .before .before .write-all .last .1 .1 .1 .1 .0)) =
-    omega (arith, c .before .before .before .before .before .before .before .before .before .before .before .before .before .pre) in
-    g
+close-repeater-requires-2 c κs = omega (arith, c .before .before .before .before .before .before .before .before .before .before .open-repeater .ensures .1, c .before .before .before .before .before .before .before .before .before .before .open-repeater .kept, c .before .before .before .write-all .ensures .1, c .before .before .before .write-all .kept, c .before .before .before .before .before .before .before .before .before .before .before .before .before .before .pre)
 
 same-length-2 : tie.Need-same-length-2
-same-length-2 c = search needs
+same-length-2 c = omega (arith, c .before .before .before .before .before .before .before .before .before .before .before .before .before .open-repeater .kept, c .before .before .before .before .before .before .write-all .kept, c .before .before .close-repeater2 .kept)
 
 returns-2 : tie.Need-returns-2
-returns-2 c = let a : c .before .before .before .before .before .before .before .before .before .before .before .before .open-repeater .result .count + due (c .before .before .before .before .before .before .before .before .before .before .before .before .open-repeater .result .held) ≤ c .before .before .before .before .before .before .before .before .before .before .before .before .before .before .before .before .args .f .count + 2 = c .before .before .before .before .before .before .before .before .before .before .before .before .open-repeater .ensures .1 in
-    let b : c .before .before .before .before .before .before .write-all .result .count + due (c .before .before .before .before .before .before .write-all .result .held) ≤ c .before .before .before .before .before .before .before .before .before .before .before .before .open-repeater .result .count + c .before .before .before .before .before .before .before .before .before .before .before .before .before .before .before .before .args .n + due (c .before .before .before .before .before .before .before .before .before .before .before .before .open-repeater .result .held) = c .before .before .before .before .before .before .write-all .ensures .1 in
-    let d : c .before .before .close-repeater2 .result .count + due (c .before .before .close-repeater2 .result .held) ≤ c .before .before .before .before .before .before .write-all .result .count + due (c .before .before .before .before .before .before .write-all .result .held) = c .before .before .close-repeater2 .ensures .1 in
-    let most : c .before .before .close-repeater2 .result .count + due (c .before .before .close-repeater2 .result .held) ≤ c .before .before .before .before .before .before .before .before .before .before .before .before .before .before .before .before .args .f .count + c .before .before .before .before .before .before .before .before .before .before .before .before .before .before .before .before .args .n + 2 = omega arith in
-    (c .before .before .close-repeater2 .ensures .0 ∙ bracketed inRoom _ (updates (take (c .before .before .before .before .before .before .before .before .before .before .before .before .before .before .before .before .args .n) (c .before .before .before .before .before .before .before .before .before .before .before .before .before .before .before .before .args .us))) _ _ _ (c .before .before .before .before .before .before .before .before .before .before .before .before .open-repeater .ensures .0) (c .before .before .before .before .before .before .write-all .ensures .0), most)
+returns-2 c = (c .before .before .close-repeater2 .ensures .0 ∙ bracketed inRoom _ (updates (meantOf (c .before .before .before .before .before .before .before .before .before .before .before .before .before .before .before .before .before .args .us))) _ _ _ (c .before .before .before .before .before .before .before .before .before .before .before .before .before .open-repeater .ensures .0) (c .before .before .before .before .before .before .write-all .ensures .0), omega (arith, c .before .before .before .before .before .before .before .before .before .before .before .before .before .open-repeater .ensures .1, c .before .before .before .before .before .before .write-all .ensures .1, c .before .before .close-repeater2 .ensures .1))
 
 pub with-repeater-spec : {M : Type 1} → statement M
-with-repeater-spec =
-    tie.close
-    (tie.spec
-    open-repeater-requires
-    enum-told
-    enum-told-2
-    close-repeater-requires
-    same-length
-    returns
-    write-all-requires
-    close-repeater-requires-2
-    same-length-2
-    returns-2)
+with-repeater-spec = tie.close (tie.spec open-repeater-requires enum-told enum-told-2 close-repeater-requires same-length returns write-all-requires close-repeater-requires-2 same-length-2 returns-2)

@@ -1,6 +1,9 @@
 -- `chip::write_reg_mask_raw` meets its contract. Each return is one law of the definition, with what the calls before it ensure. Assumes nothing.
 use Rattle.chip.proofs.Laws.{idle, made-mask}
+use Rattle.chip.proofs.Lists.{low, high}
 use mathlib.Core.Path.{refl, ap, _∙_}
+use native.Mathlib.Omega.{arith}
+use Prim.Native.Nat.{_≤_}
 use Rattle.chip.specs.Steps.{goes, inRoom}
 use Rattle.chip.specs.Steps.Step.{Mask}
 use borrow.Author.Needs.{needs}
@@ -20,25 +23,25 @@ shared-slice-read-ok : tie.Need-shared-slice-read-ok
 shared-slice-read-ok c = search needs
 
 sub-index : tie.Need-sub-index
-sub-index c = search needs
+sub-index c = let l : 5 ≤ c .before .before .before .before .before .before .args .u .register = low (c .before .before .before .before .before .before .args .u) (c .before .before .before .before .before .before .pre .0) in let h : c .before .before .before .before .before .before .args .u .register ≤ 31 = high (c .before .before .before .before .before .before .args .u) (c .before .before .before .before .before .before .pre .0) in omega arith
 
 cast-index : tie.Need-cast-index
 cast-index c = search needs
 
 element-copy-out-mask-into : tie.Need-element-copy-out-mask-into
-element-copy-out-mask-into c = search needs
+element-copy-out-mask-into c = let l : 5 ≤ c .before .before .before .before .before .before .args .u .register = low (c .before .before .before .before .before .before .args .u) (c .before .before .before .before .before .before .pre .0) in let h : c .before .before .before .before .before .before .args .u .register ≤ 31 = high (c .before .before .before .before .before .before .args .u) (c .before .before .before .before .before .before .pre .0) in omega arith
 
 mask-into-requires : tie.Need-mask-into-requires
 mask-into-requires c κs = search needs
 
 element-write-shadow : tie.Need-element-write-shadow
-element-write-shadow c = search needs
+element-write-shadow c = let l : 5 ≤ c .before .before .before .before .before .before .before .before .args .u .register = low (c .before .before .before .before .before .before .before .before .args .u) (c .before .before .before .before .before .before .before .before .pre .0) in let h : c .before .before .before .before .before .before .before .before .args .u .register ≤ 31 = high (c .before .before .before .before .before .before .before .before .args .u) (c .before .before .before .before .before .before .before .before .pre .0) in omega arith
 
 element-write-attempted : tie.Need-element-write-attempted
-element-write-attempted c = search needs
+element-write-attempted c = let l : 5 ≤ c .before .before .before .before .before .before .before .before .args .u .register = low (c .before .before .before .before .before .before .before .before .args .u) (c .before .before .before .before .before .before .before .before .pre .0) in let h : c .before .before .before .before .before .before .before .before .args .u .register ≤ 31 = high (c .before .before .before .before .before .before .before .before .args .u) (c .before .before .before .before .before .before .before .before .pre .0) in omega arith
 
 element-write-doubtful : tie.Need-element-write-doubtful
-element-write-doubtful c = search needs
+element-write-doubtful c = let l : 5 ≤ c .before .before .before .before .before .before .before .before .args .u .register = low (c .before .before .before .before .before .before .before .before .args .u) (c .before .before .before .before .before .before .before .before .pre .0) in let h : c .before .before .before .before .before .before .before .before .args .u .register ≤ 31 = high (c .before .before .before .before .before .before .before .before .args .u) (c .before .before .before .before .before .before .before .before .pre .0) in omega arith
 
 told-requires : tie.Need-told-requires
 told-requires c κs = search needs
@@ -50,24 +53,7 @@ same-length : tie.Need-same-length
 same-length c = search needs
 
 returns-2 : tie.Need-returns-2
-returns-2 c = (c .before .before .log-entry .ensures .0 _ ∙ made-mask inRoom _ _ _ _ _ _ _ _ (c .before .before .before .before .before .mask-into .ensures) refl (c .before .before .before .before .told .ensures) (ap goes (c .before .before .before .before .before .before .before .before .enum-told .given .1)), search needs)
+returns-2 c = (c .before .before .log-entry .ensures .0 _ ∙ made-mask inRoom _ _ _ _ _ _ _ _ (c .before .before .before .before .before .mask-into .ensures) refl (c .before .before .before .before .told .ensures) (ap goes (c .before .before .before .before .before .before .before .before .before .enum-told .given .1)), search needs)
 
 pub write-reg-mask-raw-spec : {M : Type 1} → statement M
-write-reg-mask-raw-spec =
-    tie.close
-    (tie.spec
-    enum-told
-    enum-told-2
-    returns
-    shared-slice-read-ok
-    sub-index
-    cast-index
-    element-copy-out-mask-into
-    mask-into-requires
-    element-write-shadow
-    element-write-attempted
-    element-write-doubtful
-    told-requires
-    log-entry-requires
-    same-length
-    returns-2)
+write-reg-mask-raw-spec = tie.close (tie.spec enum-told enum-told-2 returns shared-slice-read-ok sub-index cast-index element-copy-out-mask-into mask-into-requires element-write-shadow element-write-attempted element-write-doubtful told-requires log-entry-requires same-length returns-2)

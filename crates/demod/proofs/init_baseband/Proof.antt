@@ -7,11 +7,6 @@ use Rattle.demod.proofs.Baseband.{init-eight}
 use borrow.Author.Needs.{needs}
 use Rattle.demod.proofs.init_baseband.Statement.{statement}
 use Rattle.demod.proofs.init_baseband.Tie as tie
-use Rattle.demod.proofs.init_baseband.Reads as reads
-use Rattle.demod.proofs.init_baseband.Lts as lts
-use Rattle.chip.proofs.finish.Reads as finish-reads
-use Rattle.chip.proofs.lent.Reads as lent-reads
-use Rattle.demod.proofs.init_steps.Reads as init-steps-reads
 
 lent-requires : tie.Need-lent-requires
 lent-requires c κs = search needs
@@ -21,23 +16,17 @@ unfolding initCall
 returns c = refuses _ _ _ _ _ (c .before .lent .ensures) (c .if1 .taken)
 
 init-steps-requires : tie.Need-init-steps-requires
-init-steps-requires c κs =
-    (omega (arith, suffices _ _ _ _ _ _ (c .before .before .lent .ensures) (c .before .if1 .left)), omega (arith, suffices _ _ _ _ _ _ (c .before .before .lent .ensures) (c .before .if1 .left)))
+init-steps-requires c κs = (omega (arith, suffices _ _ _ _ _ _ (c .before .before .lent .ensures) (c .before .if1 .left)), omega (arith, suffices _ _ _ _ _ _ (c .before .before .lent .ensures) (c .before .if1 .left)))
 
 finish-requires : tie.Need-finish-requires
-finish-requires c κs =
-    (search needs, omega (arith, c .before .before .before .init-steps .ensures .1, suffices _ _ _ _ _ _ (c .before .before .before .before .before .before .lent .ensures) (c .before .before .before .before .before .if1 .left)))
+finish-requires c κs = (search needs, omega (arith, c .before .before .before .init-steps .ensures .1, suffices _ _ _ _ _ _ (c .before .before .before .before .before .before .lent .ensures) (c .before .before .before .before .before .if1 .left)))
 
 same-length : tie.Need-same-length
 same-length c = search needs
 
 returns-2 : tie.Need-returns-2
 unfolding initCall
-returns-2 c =
-    performs _ _ _ _ (c .before .before .before .before .before .before .init-steps .result) _ _ _ (sym (c .before .before .before .before .before .before .before .before .before .lent .ensures) ∙ c .before .before .before .before .before .before .before .before .if1 .left) init-eight (c .before .before .before .before .before .before .init-steps .ensures .0)
-    (c .before .before .finish .ensures .0) (c .before .before .finish .ensures .1)
+returns-2 c = performs _ _ _ _ (c .before .before .before .before .before .before .init-steps .result) _ _ _ (sym (c .before .before .before .before .before .before .before .before .before .lent .ensures) ∙ c .before .before .before .before .before .before .before .before .if1 .left) init-eight (c .before .before .before .before .before .before .init-steps .ensures .0) (c .before .before .finish .ensures .0) (c .before .before .finish .ensures .1)
 
 pub init-baseband-spec : {M : Type 1} → statement M
-init-baseband-spec =
-    tie.close
-    (tie.spec lent-requires returns init-steps-requires finish-requires same-length returns-2)
+init-baseband-spec = tie.close (tie.spec lent-requires returns init-steps-requires finish-requires same-length returns-2)

@@ -1,22 +1,13 @@
 -- `driver::apply_input_path` meets its contract: refused before any step, or performed. Assumes nothing.
 use native.Mathlib.Omega.{arith}
-use Prim.Native.Nat.{_+_, _*_, _≤_}
-use mathlib.Core.Path.{_≡_, refl, sym, _∙_}
+use mathlib.Core.Path.{refl, sym, _∙_}
 use lib.ListN.{length}
 use denote.Ref.{now}
-use Rattle.chip.specs.Steps.{due}
 use Rattle.driver.proofs.Refusals.{taken-by}
 use Rattle.driver.proofs.Rates.{path-none, path-performed, path-refused}
 use borrow.Author.Needs.{needs}
 use Rattle.driver.proofs.apply_input_path.Statement.{statement}
 use Rattle.driver.proofs.apply_input_path.Tie as tie
-use Rattle.driver.proofs.apply_input_path.Reads as reads
-use Rattle.driver.proofs.apply_input_path.Lts as lts
-use Rattle.board.proofs.path_of.Reads as path-of-reads
-use Rattle.chip.proofs.finish.Reads as finish-reads
-use Rattle.driver.proofs.path_steps.Reads as path-steps-reads
-use Rattle.driver.proofs.refusal.Reads as refusal-reads
-use Rattle.driver.proofs.sound.Reads as sound-reads
 
 path-of-requires : tie.Need-path-of-requires
 path-of-requires c κs = search needs
@@ -40,20 +31,10 @@ returns-2 : tie.Need-returns-2
 returns-2 c = path-refused _ (c .before .before .before .before .by .given .0 .0) (now (c .before .before .before .before .before .before .before .before .before .before .args .outcomes)) (now (c .before .before .before .before .before .before .before .before .before .before .args .replies)) (now (c .before .before .before .before .before .before .before .before .before .before .args .room)) (c .before .before .before .before .before .before .before .before .before .before .args .tuner) _ _ (sym (c .before .before .before .before .before .before .path-of .ensures) ∙ c .before .before .before .before .by .given .1) (c .before .before .sound .ensures) (c .before .refusal .ensures) (c .if1 .taken)
 
 path-steps-requires : tie.Need-path-steps-requires
-path-steps-requires c κs =
-    let z = taken-by (c .before .before .before .before .sound .result) 0 10 3 (length (now (c .before .before .before .before .before .before .before .before .before .before .before .before .args .room))) (length (now (c .before .before .before .before .before .before .before .before .before .before .before .before .args .outcomes))) (length (now (c .before .before .before .before .before .before .before .before .before .before .before .before .args .replies))) (sym (c .before .before .before .refusal .ensures) ∙ c .before .before .if1 .left) in
-    let one = z .lent .rooms in
-    let two = z .lent .outs in
-    (z .lent .back, omega arith, omega arith)
+path-steps-requires c κs = let z = taken-by (c .before .before .before .before .sound .result) 0 10 3 (length (now (c .before .before .before .before .before .before .before .before .before .before .before .before .args .room))) (length (now (c .before .before .before .before .before .before .before .before .before .before .before .before .args .outcomes))) (length (now (c .before .before .before .before .before .before .before .before .before .before .before .before .args .replies))) (sym (c .before .before .before .refusal .ensures) ∙ c .before .before .if1 .left) in let one = z .lent .rooms in let two = z .lent .outs in (z .lent .back, omega arith, omega arith)
 
 finish-requires : tie.Need-finish-requires
-finish-requires c κs =
-    let z = taken-by (c .before .before .before .before .before .before .before .before .sound .result) 0 10 3 (length (now (c .before .before .before .before .before .before .before .before .before .before .before .before .before .before .before .before .args .room))) (length (now (c .before .before .before .before .before .before .before .before .before .before .before .before .before .before .before .before .args .outcomes))) (length (now (c .before .before .before .before .before .before .before .before .before .before .before .before .before .before .before .before .args .replies))) (sym (c .before .before .before .before .before .before .before .refusal .ensures) ∙ c .before .before .before .before .before .before .if1 .left) in
-    let one = z .lent .rooms in
-    let few : c .before .before .before .path-steps .result .count + due (c .before .before .before .path-steps .result .held) ≤ 0 + 10 + 0 = c .before .before .before .path-steps .ensures .1 in
-    let same : length (c .before .before .before .path-steps .last .1 .1 .1 .1 .1 .0) ≡ length (now (c .before .before .before .before .before .before .before .before .before .before .before .before .before .before .before .before .args .room)) = c .before .before .before .path-steps .kept .1 .1 .1 .1 .1 .0 in
-    let both : (c .before .before .before .path-steps .result .count ≤ 4096) × (16 * c .before .before .before .path-steps .result .count + 8 ≤ length (c .before .before .before .path-steps .last .1 .1 .1 .1 .1 .0)) = omega arith in
-    both
+finish-requires c κs = let z = taken-by (c .before .before .before .before .before .before .before .before .sound .result) 0 10 3 (length (now (c .before .before .before .before .before .before .before .before .before .before .before .before .before .before .before .before .args .room))) (length (now (c .before .before .before .before .before .before .before .before .before .before .before .before .before .before .before .before .args .outcomes))) (length (now (c .before .before .before .before .before .before .before .before .before .before .before .before .before .before .before .before .args .replies))) (sym (c .before .before .before .before .before .before .before .refusal .ensures) ∙ c .before .before .before .before .before .before .if1 .left) in let one = z .lent .rooms in (omega (arith, c .before .before .before .path-steps .ensures .1), omega (arith, c .before .before .before .path-steps .ensures .1, c .before .before .before .path-steps .kept))
 
 same-length : tie.Need-same-length
 same-length c = search needs
@@ -62,17 +43,4 @@ returns-3 : tie.Need-returns-3
 returns-3 c = path-performed _ (c .before .before .before .before .before .before .before .before .before .before .before .before .before .before .by .given .0 .0) (now (c .before .before .before .before .before .before .before .before .before .before .before .before .before .before .before .before .before .before .before .before .args .outcomes)) (now (c .before .before .before .before .before .before .before .before .before .before .before .before .before .before .before .before .before .before .before .before .args .replies)) (now (c .before .before .before .before .before .before .before .before .before .before .before .before .before .before .before .before .before .before .before .before .args .room)) (c .before .before .before .before .before .before .before .before .before .before .before .before .before .before .before .before .before .before .before .before .args .tuner) _ _ (sym (c .before .before .before .before .before .before .before .before .before .before .before .before .before .before .before .before .path-of .ensures) ∙ c .before .before .before .before .before .before .before .before .before .before .before .before .before .before .by .given .1) (c .before .before .before .before .before .before .before .before .before .before .before .before .sound .ensures) (c .before .before .before .before .before .before .before .before .before .before .before .refusal .ensures) _ (c .before .before .before .before .before .before .before .path-steps .result) _ _ _ (c .before .before .before .before .before .before .before .before .before .before .if1 .left) refl (c .before .before .before .before .before .before .before .path-steps .ensures .0) (c .before .before .before .finish .ensures .1) (c .before .before .before .finish .ensures .0)
 
 pub apply-input-path-spec : {M : Type 1} → statement M
-apply-input-path-spec =
-    tie.close
-    (tie.spec
-    path-of-requires
-    enum-known-by
-    enum-told
-    returns
-    sound-requires
-    refusal-requires
-    returns-2
-    path-steps-requires
-    finish-requires
-    same-length
-    returns-3)
+apply-input-path-spec = tie.close (tie.spec path-of-requires enum-known-by enum-told returns sound-requires refusal-requires returns-2 path-steps-requires finish-requires same-length returns-3)

@@ -1,12 +1,7 @@
--- `tuning::read_try` meets its contract: its entries over the log, at this chip, and their end. Assumes nothing.
-use Prim.Native.Nat.{_+_}
-use mathlib.Core.Path.{ap}
-use native.Mathlib.Omega.{arith}
-use Rattle.chip.specs.declared.Log.{Log}
-use Rattle.chip.specs.Steps.{due, inRoom}
-use Rattle.chip.proofs.Rooms.{over-most}
+-- `tuning::read_try` meets its contract: its entries over the log, at this chip. Assumes nothing.
+use Rattle.chip.specs.Steps.{inRoom}
 use Rattle.chip.proofs.Laws.{swap}
-use Rattle.tuning.proofs.Turns.{part-over, try-made}
+use Rattle.tuning.proofs.Turns.{try-made}
 use borrow.Author.Needs.{needs}
 use Rattle.tuning.proofs.read_try.Statement.{statement}
 use Rattle.tuning.proofs.read_try.Tie as tie
@@ -20,30 +15,14 @@ add-reply-bytes c = search needs
 reply-bytes-requires : tie.Need-reply-bytes-requires
 reply-bytes-requires c κs = search needs
 
-log-of-requires : tie.Need-log-of-requires
-log-of-requires c κs = search needs
-
 try-entries-requires : tie.Need-try-entries-requires
-try-entries-requires c κs = omega (arith, ap (λ (x : Log). x .count + due (x .held)) (c .before .log-of .ensures), c .before .before .before .before .before .before .pre)
-
-flow-of-requires : tie.Need-flow-of-requires
-flow-of-requires c κs = search needs
+try-entries-requires c κs = search needs
 
 same-length : tie.Need-same-length
 same-length c = search needs
 
 returns : tie.Need-returns
-returns c = (swap inRoom _ _ _ _ _ (try-made _ _ _ _ (c .before .before .before .before .before .before .reply-bytes .ensures)) (part-over _ _ (c .before .before .before .before .before .before .before .before .before .before .args .f) _ _ _ _ _ (c .before .before .before .before .before .log-of .ensures) (c .before .before .before .try-entries .ensures .0) (c .flow-of .ensures)), omega (arith, over-most (c .before .before .before .before .before .before .before .before .before .before .args .f) _ _ _ _ 2 (c .before .before .before .before .before .log-of .ensures) (c .flow-of .ensures) (omega (arith, c .before .before .before .try-entries .ensures .1))))
+returns c = (swap inRoom _ _ _ _ _ (try-made _ _ _ _ (c .before .before .before .before .before .reply-bytes .ensures)) (c .before .before .try-entries .ensures .0 _), c .before .before .try-entries .ensures .1)
 
 pub read-try-spec : {M : Type 1} → statement M
-read-try-spec =
-    tie.close
-    (tie.spec
-    mul-reply-bytes
-    add-reply-bytes
-    reply-bytes-requires
-    log-of-requires
-    try-entries-requires
-    flow-of-requires
-    same-length
-    returns)
+read-try-spec = tie.close (tie.spec mul-reply-bytes add-reply-bytes reply-bytes-requires try-entries-requires same-length returns)

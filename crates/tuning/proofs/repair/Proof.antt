@@ -1,6 +1,6 @@
 -- `tuning::repair` meets its contract. Each return is one law of the definition, with what the calls before it ensure. Assumes nothing.
 use mathlib.Core.Path.{ap, _∙_}
-use Rattle.tuning.specs.Tries.{listed}
+use Rattle.chip.specs.Steps.{listed}
 use Rattle.tuning.proofs.Turns.{repair-down, repair-none, repair-up}
 use borrow.Author.Needs.{needs}
 use Rattle.tuning.proofs.repair.Statement.{statement}
@@ -40,17 +40,4 @@ returns-3 : tie.Need-returns-3
 returns-3 c = ap listed (repair-none _ _ _ _ _ (c .before .before .vco-power-ref .ensures) (c .before .before .before .vco-fine-tune .ensures) (c .before .if1 .left) (c .if2 .left))
 
 pub repair-spec : {M : Type 1} → statement M
-repair-spec =
-    tie.close
-    (tie.spec
-    vco-fine-tune-requires
-    vco-power-ref-requires
-    lower-requires
-    mul-divider-bits
-    divider-bits-requires
-    returns
-    add-divider-bits
-    mul-divider-bits-2
-    divider-bits-requires-2
-    returns-2
-    returns-3)
+repair-spec = tie.close (tie.spec vco-fine-tune-requires vco-power-ref-requires lower-requires mul-divider-bits divider-bits-requires returns add-divider-bits mul-divider-bits-2 divider-bits-requires-2 returns-2 returns-3)

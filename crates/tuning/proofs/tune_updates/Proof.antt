@@ -1,4 +1,9 @@
--- `tuning::tune_updates` meets its contract. Each return is one law of the definition, with what the calls before it ensure. Assumes nothing.
+-- `tuning::tune_updates` meets its contract: row by row, with what the calls before them ensure. Assumes nothing.
+use mathlib.Core.Path.{ap, _∙_}
+use native.Mathlib.Omega.{arith}
+use mathlib.Core.List.{[], _∷_}
+use Prim.Native.Nat.{ℕ}
+use Rattle.chip.specs.Steps.{masked}
 use borrow.Author.Needs.{needs}
 use Rattle.tuning.proofs.tune_updates.Statement.{statement}
 use Rattle.tuning.proofs.tune_updates.Tie as tie
@@ -15,12 +20,59 @@ cast-high c = search needs
 cast-low : tie.Need-cast-low
 cast-low c = search needs
 
-mul-t20 : tie.Need-mul-t20
-mul-t20 c = search needs
+masked-requires : tie.Need-masked-requires
+masked-requires c κs = search needs
+
+masked-requires-2 : tie.Need-masked-requires-2
+masked-requires-2 c κs = search needs
+
+masked-requires-3 : tie.Need-masked-requires-3
+masked-requires-3 c κs = search needs
+
+masked-requires-4 : tie.Need-masked-requires-4
+masked-requires-4 c κs = search needs
+
+masked-requires-5 : tie.Need-masked-requires-5
+masked-requires-5 c κs = search needs
+
+masked-requires-6 : tie.Need-masked-requires-6
+masked-requires-6 c κs = search needs
+
+masked-requires-7 : tie.Need-masked-requires-7
+masked-requires-7 c κs = search needs
+
+masked-requires-8 : tie.Need-masked-requires-8
+masked-requires-8 c κs = search needs
+
+masked-requires-9 : tie.Need-masked-requires-9
+masked-requires-9 c κs = search needs
+
+masked-requires-10 : tie.Need-masked-requires-10
+masked-requires-10 c κs = search needs
+
+masked-requires-11 : tie.Need-masked-requires-11
+masked-requires-11 c κs = search needs
+
+mul-masked : tie.Need-mul-masked
+mul-masked c = omega (arith, c .before .before .before .before .before .before .before .before .before .before .before .before .before .before .before .before .pre)
+
+masked-requires-12 : tie.Need-masked-requires-12
+masked-requires-12 c κs = search needs
+
+past-requires : tie.Need-past-requires
+past-requires c κs = search needs
+
+past-requires-2 : tie.Need-past-requires-2
+past-requires-2 c κs = search needs
+
+past-requires-3 : tie.Need-past-requires-3
+past-requires-3 c κs = search needs
+
+masked-requires-13 : tie.Need-masked-requires-13
+masked-requires-13 c κs = search needs
 
 returns : tie.Need-returns
-returns c = simp (c .before .before .before .before .drained .ensures, c .before .before .before .whole-only .ensures)
+returns c = λ i. c .before .before .before .before .before .before .before .before .before .before .before .before .before .before .before .before .masked .ensures i ∷ (c .before .before .before .before .before .before .before .before .before .before .before .before .before .before .before .masked2 .ensures ∙ ap (λ (x : ℕ). masked 0x17 x 0x08) (c .before .before .before .before .before .before .before .before .before .before .before .before .before .before .before .before .before .before .before .before .drained .ensures)) i ∷ c .before .before .before .before .before .before .before .before .before .before .before .before .before .before .masked3 .ensures i ∷ c .before .before .before .before .before .before .before .before .before .before .before .before .before .masked4 .ensures i ∷ c .before .before .before .before .before .before .before .before .before .before .before .before .masked5 .ensures i ∷ c .before .before .before .before .before .before .before .before .before .before .before .masked6 .ensures i ∷ c .before .before .before .before .before .before .before .before .before .before .masked7 .ensures i ∷ c .before .before .before .before .before .before .before .before .before .masked8 .ensures i ∷ c .before .before .before .before .before .before .before .before .masked9 .ensures i ∷ c .before .before .before .before .before .before .before .masked10 .ensures i ∷ c .before .before .before .before .before .before .masked11 .ensures i ∷ c .before .before .before .before .masked12 .ensures i ∷ c .before .before .before .past .ensures i ∷ c .before .before .past2 .ensures i ∷ c .before .past3 .ensures i ∷ (c .masked13 .ensures ∙ ap (λ (x : ℕ). masked 0x12 x 0x08) (c .before .before .before .before .before .before .before .before .before .before .before .before .before .before .before .before .before .before .before .whole-only .ensures)) i ∷ []
 
 pub tune-updates-spec : {M : Type 1} → statement M
-tune-updates-spec =
-    tie.close (tie.spec drained-requires whole-only-requires cast-high cast-low mul-t20 returns)
+tune-updates-spec = tie.close (tie.spec drained-requires whole-only-requires cast-high cast-low masked-requires masked-requires-2 masked-requires-3 masked-requires-4 masked-requires-5 masked-requires-6 masked-requires-7 masked-requires-8 masked-requires-9 masked-requires-10 masked-requires-11 mul-masked masked-requires-12 past-requires past-requires-2 past-requires-3 masked-requires-13 returns)

@@ -1,7 +1,8 @@
 -- `writes::path_updates` meets its contract. Each return is one law of the definition, with what the calls before it ensure. Assumes nothing.
-use mathlib.Core.Path.{sym, ap}
+use mathlib.Core.Path.{sym, ap, _∙_}
 use Rattle.board.specs.declared.Path.{Path}
-use Rattle.chip.specs.Steps.{sixteen}
+use Rattle.chip.specs.Steps.{listed}
+use Rattle.chip.proofs.Lists.{two-made}
 use Rattle.writes.specs.Lists.{pathUpdates}
 use borrow.Author.Needs.{needs}
 use Rattle.writes.proofs.path_updates.Statement.{statement}
@@ -10,52 +11,47 @@ use Rattle.writes.proofs.path_updates.Tie as tie
 enum-told : tie.Need-enum-told
 enum-told c = search needs
 
-array-set-from-us : tie.Need-array-set-from-us
-array-set-from-us c = search needs
+masked-requires : tie.Need-masked-requires
+masked-requires c κs = search needs
 
-array-set-from-us-2 : tie.Need-array-set-from-us-2
-array-set-from-us-2 c = search needs
+masked-requires-2 : tie.Need-masked-requires-2
+masked-requires-2 c κs = search needs
+
+two-requires : tie.Need-two-requires
+two-requires c κs = search needs
 
 enum-told-2 : tie.Need-enum-told-2
 enum-told-2 c = search needs
 
-array-set-from-us-3 : tie.Need-array-set-from-us-3
-array-set-from-us-3 c = search needs
+masked-requires-3 : tie.Need-masked-requires-3
+masked-requires-3 c κs = search needs
 
-array-set-from-us-4 : tie.Need-array-set-from-us-4
-array-set-from-us-4 c = search needs
+masked-requires-4 : tie.Need-masked-requires-4
+masked-requires-4 c κs = search needs
+
+two-requires-2 : tie.Need-two-requires-2
+two-requires-2 c κs = search needs
 
 enum-told-3 : tie.Need-enum-told-3
 enum-told-3 c = search needs
 
-array-set-from-us-5 : tie.Need-array-set-from-us-5
-array-set-from-us-5 c = search needs
+masked-requires-5 : tie.Need-masked-requires-5
+masked-requires-5 c κs = search needs
 
-array-set-from-us-6 : tie.Need-array-set-from-us-6
-array-set-from-us-6 c = search needs
+masked-requires-6 : tie.Need-masked-requires-6
+masked-requires-6 c κs = search needs
+
+two-requires-3 : tie.Need-two-requires-3
+two-requires-3 c κs = search needs
 
 returns : tie.Need-returns
-returns c = sym (ap (λ (path : Path). sixteen (pathUpdates path)) (c .enum-told .given .1))
+returns c = two-made _ _ _ _ _ (c .two .ensures) (c .before .before .masked .ensures) (c .before .masked2 .ensures) ∙ sym (ap (λ (path : Path). listed (pathUpdates path)) (c .before .before .before .enum-told .given .1))
 
 returns-2 : tie.Need-returns-2
-returns-2 c = sym (ap (λ (path : Path). sixteen (pathUpdates path)) (c .enum-told2 .given .1))
+returns-2 c = two-made _ _ _ _ _ (c .two2 .ensures) (c .before .before .masked3 .ensures) (c .before .masked4 .ensures) ∙ sym (ap (λ (path : Path). listed (pathUpdates path)) (c .before .before .before .enum-told2 .given .1))
 
 returns-3 : tie.Need-returns-3
-returns-3 c = sym (ap (λ (path : Path). sixteen (pathUpdates path)) (c .enum-told3 .given .1))
+returns-3 c = two-made _ _ _ _ _ (c .two3 .ensures) (c .before .before .masked5 .ensures) (c .before .masked6 .ensures) ∙ sym (ap (λ (path : Path). listed (pathUpdates path)) (c .before .before .before .enum-told3 .given .1))
 
 pub path-updates-spec : {M : Type 1} → statement M
-path-updates-spec =
-    tie.close
-    (tie.spec
-    enum-told
-    array-set-from-us
-    array-set-from-us-2
-    enum-told-2
-    array-set-from-us-3
-    array-set-from-us-4
-    enum-told-3
-    array-set-from-us-5
-    array-set-from-us-6
-    returns
-    returns-2
-    returns-3)
+path-updates-spec = tie.close (tie.spec enum-told masked-requires masked-requires-2 two-requires enum-told-2 masked-requires-3 masked-requires-4 two-requires-2 enum-told-3 masked-requires-5 masked-requires-6 two-requires-3 returns returns-2 returns-3)

@@ -1,7 +1,6 @@
 -- `writes::send_all` meets its contract. Each return is one law of the definition, with what the calls before it ensure. Assumes nothing.
 use native.Mathlib.Omega.{arith}
-use Prim.Native.Nat.{_+_, _≤_}
-use Rattle.chip.specs.Steps.{due, inRoom, tunerWrite}
+use Rattle.chip.specs.Steps.{inRoom, tunerWrite}
 use Rattle.chip.proofs.Laws.{then}
 use borrow.Author.Needs.{needs}
 use Rattle.writes.proofs.send_all.Statement.{statement}
@@ -17,11 +16,7 @@ same-length : tie.Need-same-length
 same-length c = search needs
 
 returns : tie.Need-returns
-returns c = let a : c .before .before .before .before .before .before .i2c-write-first .result .count + due (c .before .before .before .before .before .before .i2c-write-first .result .held) ≤ c .before .before .before .before .before .before .before .before .before .before .args .f .count + 5 = c .before .before .before .before .before .before .i2c-write-first .ensures .1 in
-    let b : c .before .before .i2c-write-last .result .count + due (c .before .before .i2c-write-last .result .held) ≤ c .before .before .before .before .before .before .i2c-write-first .result .count + 4 = c .before .before .i2c-write-last .ensures .1 in
-    let most : c .before .before .i2c-write-last .result .count + due (c .before .before .i2c-write-last .result .held) ≤ c .before .before .before .before .before .before .before .before .before .before .args .f .count + 9 = omega arith in
-    (then inRoom _ (tunerWrite (c .before .before .before .before .before .before .before .before .before .before .args .bs) 0 3) (tunerWrite (c .before .before .before .before .before .before .before .before .before .before .args .bs) 3 5) _ _ _ (c .before .before .before .before .before .before .i2c-write-first .ensures .0) (c .before .before .i2c-write-last .ensures .0), most)
+returns c = (then inRoom _ (tunerWrite (c .before .before .before .before .before .before .before .before .before .before .args .bs) 0 3) (tunerWrite (c .before .before .before .before .before .before .before .before .before .before .args .bs) 3 5) _ _ _ (c .before .before .before .before .before .before .i2c-write-first .ensures .0) (c .before .before .i2c-write-last .ensures .0), omega (arith, c .before .before .before .before .before .before .i2c-write-first .ensures .1, c .before .before .i2c-write-last .ensures .1))
 
 pub send-all-spec : {M : Type 1} → statement M
-send-all-spec =
-    tie.close (tie.spec i2c-write-first-requires i2c-write-last-requires same-length returns)
+send-all-spec = tie.close (tie.spec i2c-write-first-requires i2c-write-last-requires same-length returns)

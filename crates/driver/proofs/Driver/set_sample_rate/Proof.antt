@@ -1,32 +1,18 @@
 -- `Driver::set_sample_rate` meets its contract: refused before any step, or performed. Assumes nothing.
 use native.Mathlib.Omega.{arith}
-use Prim.Native.Nat.{_+_, _*_, _≤_}
-use mathlib.Core.Path.{_≡_, sym, ap, _∙_}
+use mathlib.Core.Path.{sym, ap, _∙_}
 use mathlib.Core.Bool.{_&&_}
 use lib.Dec.{leb}
 use lib.ListN.{length}
 use denote.Ref.{now}
 use mir.Facts.{toZ-ofZ}
 use mir.Syntax.{w32}
-use Rattle.chip.specs.Steps.{due}
 use Rattle.driver.specs.Record.{xtalBy}
 use Rattle.driver.proofs.Refusals.{rate-taken, taken-by, xtal-taken}
 use Rattle.driver.proofs.Rates.{rate-performed, rate-refused}
 use borrow.Author.Needs.{needs}
 use Rattle.driver.proofs.Driver.set_sample_rate.Statement.{statement}
 use Rattle.driver.proofs.Driver.set_sample_rate.Tie as tie
-use Rattle.driver.proofs.Driver.set_sample_rate.Reads as reads
-use Rattle.driver.proofs.Driver.set_sample_rate.Lts as lts
-use Rattle.board.proofs.plan_tuning.Reads as plan-tuning-reads
-use Rattle.chip.proofs.finish.Reads as finish-reads
-use Rattle.driver.proofs.if_for.Reads as if-for-reads
-use Rattle.driver.proofs.rate_refusal.Reads as rate-refusal-reads
-use Rattle.driver.proofs.refusal.Reads as refusal-reads
-use Rattle.driver.proofs.retune.Reads as retune-reads
-use Rattle.driver.proofs.sample_rate_steps.Reads as sample-rate-steps-reads
-use Rattle.driver.proofs.sound.Reads as sound-reads
-use Rattle.driver.proofs.with_rate.Reads as with-rate-reads
-use Rattle.driver.proofs.xtal_by.Reads as xtal-by-reads
 
 xtal-by-requires : tie.Need-xtal-by-requires
 xtal-by-requires c κs = search needs
@@ -50,20 +36,10 @@ if-for-requires : tie.Need-if-for-requires
 if-for-requires c κs = search needs
 
 sample-rate-steps-requires : tie.Need-sample-rate-steps-requires
-sample-rate-steps-requires c κs =
-    let z = taken-by (c .before .before .before .before .before .before .before .sound .result && leb 1 (c .before .before .before .before .before .before .before .before .xtal-by .result)) (c .before .before .before .before .before .before .rate-refusal .result) 17 0 (length (now (c .before .before .before .before .before .before .before .before .before .before .before .before .args .room))) (length (now (c .before .before .before .before .before .before .before .before .before .before .before .before .args .outcomes))) 0 (sym (c .before .before .before .before .before .refusal .ensures) ∙ c .before .before .before .before .if1 .left) in
-    let one = z .lent .rooms in
-    let two = z .lent .outs in
-    (rate-taken _ _ (c .before .before .before .before .before .before .rate-refusal .ensures) (z .taken), xtal-taken (c .before .before .before .before .before .before .before .sound .result) (c .before .before .before .before .before .before .before .before .xtal-by .result) (z .sure), omega arith, omega arith)
+sample-rate-steps-requires c κs = let z = taken-by (c .before .before .before .before .before .before .before .sound .result && leb 1 (c .before .before .before .before .before .before .before .before .xtal-by .result)) (c .before .before .before .before .before .before .rate-refusal .result) 17 0 (length (now (c .before .before .before .before .before .before .before .before .before .before .before .before .args .room))) (length (now (c .before .before .before .before .before .before .before .before .before .before .before .before .args .outcomes))) 0 (sym (c .before .before .before .before .before .refusal .ensures) ∙ c .before .before .before .before .if1 .left) in let one = z .lent .rooms in let two = z .lent .outs in (rate-taken _ _ (c .before .before .before .before .before .before .rate-refusal .ensures) (z .taken), xtal-taken (c .before .before .before .before .before .before .before .sound .result) (c .before .before .before .before .before .before .before .before .xtal-by .result) (z .sure), omega arith, omega arith)
 
 finish-requires : tie.Need-finish-requires
-finish-requires c κs =
-    let z = taken-by (c .before .before .before .before .before .before .before .before .before .before .before .sound .result && leb 1 (c .before .before .before .before .before .before .before .before .before .before .before .before .xtal-by .result)) (c .before .before .before .before .before .before .before .before .before .before .rate-refusal .result) 17 0 (length (now (c .before .before .before .before .before .before .before .before .before .before .before .before .before .before .before .before .args .room))) (length (now (c .before .before .before .before .before .before .before .before .before .before .before .before .before .before .before .before .args .outcomes))) 0 (sym (c .before .before .before .before .before .before .before .before .before .refusal .ensures) ∙ c .before .before .before .before .before .before .before .before .if1 .left) in
-    let one = z .lent .rooms in
-    let few : c .before .before .before .sample-rate-steps .result .count + due (c .before .before .before .sample-rate-steps .result .held) ≤ 0 + 17 = c .before .before .before .sample-rate-steps .ensures .1 in
-    let same : length (c .before .before .before .sample-rate-steps .last .1 .1 .1 .1 .1 .1 .0) ≡ length (now (c .before .before .before .before .before .before .before .before .before .before .before .before .before .before .before .before .args .room)) = c .before .before .before .sample-rate-steps .kept .1 .1 .1 .1 .1 .1 .0 in
-    let both : (c .before .before .before .sample-rate-steps .result .count ≤ 4096) × (16 * c .before .before .before .sample-rate-steps .result .count + 8 ≤ length (c .before .before .before .sample-rate-steps .last .1 .1 .1 .1 .1 .1 .0)) = omega arith in
-    both
+finish-requires c κs = let z = taken-by (c .before .before .before .before .before .before .before .before .before .before .before .sound .result && leb 1 (c .before .before .before .before .before .before .before .before .before .before .before .before .xtal-by .result)) (c .before .before .before .before .before .before .before .before .before .before .rate-refusal .result) 17 0 (length (now (c .before .before .before .before .before .before .before .before .before .before .before .before .before .before .before .before .args .room))) (length (now (c .before .before .before .before .before .before .before .before .before .before .before .before .before .before .before .before .args .outcomes))) 0 (sym (c .before .before .before .before .before .before .before .before .before .refusal .ensures) ∙ c .before .before .before .before .before .before .before .before .if1 .left) in let one = z .lent .rooms in (omega (arith, c .before .before .before .sample-rate-steps .ensures .1), omega (arith, c .before .before .before .sample-rate-steps .ensures .1, c .before .before .before .sample-rate-steps .kept))
 
 retune-requires : tie.Need-retune-requires
 retune-requires c κs = search needs
@@ -75,22 +51,7 @@ same-length : tie.Need-same-length
 same-length c = search needs
 
 returns-2 : tie.Need-returns-2
-returns-2 c = rate-performed (now (c .before .before .before .before .before .before .before .before .before .before .before .before .before .before .before .before .before .before .before .before .before .before .args .outcomes)) (now (c .before .before .before .before .before .before .before .before .before .before .before .before .before .before .before .before .before .before .before .before .before .before .args .room)) (c .before .before .before .before .before .before .before .before .before .before .before .before .before .before .before .before .before .before .before .before .before .before .args .rate) (c .before .before .before .before .before .before .before .before .before .before .before .before .before .before .before .before .before .before .before .before .before .before .args .tuner) (c .before .before .before .before .before .before .before .before .before .before .before .before .before .before .before .before .before .before .before .before .before .before .args .self) _ _ _ _ (c .before .before .before .before .before .before .before .before .before .before .before .before .before .before .before .before .before .sound .ensures) (c .before .before .before .before .before .before .before .before .before .before .before .before .before .before .before .before .before .before .xtal-by .ensures ∙ ap (xtalBy (c .before .before .before .before .before .before .before .before .before .before .before .before .before .before .before .before .before .before .before .before .before .before .args .self .nominal)) (toZ-ofZ {w = w32} {z = c .before .before .before .before .before .before .before .before .before .before .before .before .before .before .before .before .before .before .before .before .before .before .args .self .ppm} (record { sfits = c .before .before .before .before .before .before .before .before .before .before .before .before .before .before .before .before .before .before .before .struct-told .given .1 .1 .0 .1 }))) (c .before .before .before .before .before .before .before .before .before .before .before .before .before .before .before .before .rate-refusal .ensures) (c .before .before .before .before .before .before .before .before .before .before .before .before .before .before .before .refusal .ensures) (c .before .before .before .before .before .before .before .before .before .before .before .before .if-for .result) (c .before .before .before .before .before .before .before .before .before .before .before .before .before .plan-tuning .result) (c .before .before .before .before .before .before .before .before .before .sample-rate-steps .result) _ _ _ _ _ (c .before .before .before .before .before .before .before .before .before .before .before .before .before .before .if1 .left) (c .before .before .before .before .before .before .before .before .before .before .before .before .if-for .ensures) (c .before .before .before .before .before .before .before .before .before .before .before .before .before .plan-tuning .ensures) (c .before .before .before .before .before .before .before .before .before .sample-rate-steps .ensures .0) (c .before .before .before .before .before .finish .ensures .1) (c .before .before .before .before .before .finish .ensures .0) (c .before .retune .ensures) (c .with-rate .ensures)
+returns-2 c = rate-performed (now (c .before .before .before .before .before .before .before .before .before .before .before .before .before .before .before .before .before .before .before .before .before .before .before .args .outcomes)) (now (c .before .before .before .before .before .before .before .before .before .before .before .before .before .before .before .before .before .before .before .before .before .before .before .args .room)) (c .before .before .before .before .before .before .before .before .before .before .before .before .before .before .before .before .before .before .before .before .before .before .before .args .rate) (c .before .before .before .before .before .before .before .before .before .before .before .before .before .before .before .before .before .before .before .before .before .before .before .args .tuner) (c .before .before .before .before .before .before .before .before .before .before .before .before .before .before .before .before .before .before .before .before .before .before .before .args .self) _ _ _ _ (c .before .before .before .before .before .before .before .before .before .before .before .before .before .before .before .before .before .before .sound .ensures) (c .before .before .before .before .before .before .before .before .before .before .before .before .before .before .before .before .before .before .before .xtal-by .ensures ∙ ap (xtalBy (c .before .before .before .before .before .before .before .before .before .before .before .before .before .before .before .before .before .before .before .before .before .before .before .args .self .nominal)) (toZ-ofZ {w = w32} {z = c .before .before .before .before .before .before .before .before .before .before .before .before .before .before .before .before .before .before .before .before .before .before .before .args .self .ppm} (record { sfits = c .before .before .before .before .before .before .before .before .before .before .before .before .before .before .before .before .before .before .before .before .struct-told .given .1 .1 .0 .1 }))) (c .before .before .before .before .before .before .before .before .before .before .before .before .before .before .before .before .before .rate-refusal .ensures) (c .before .before .before .before .before .before .before .before .before .before .before .before .before .before .before .before .refusal .ensures) (c .before .before .before .before .before .before .before .before .before .before .before .before .before .if-for .result) (c .before .before .before .before .before .before .before .before .before .before .before .before .before .before .plan-tuning .result) (c .before .before .before .before .before .before .before .before .before .before .sample-rate-steps .result) _ _ _ _ _ (c .before .before .before .before .before .before .before .before .before .before .before .before .before .before .before .if1 .left) (c .before .before .before .before .before .before .before .before .before .before .before .before .before .if-for .ensures) (c .before .before .before .before .before .before .before .before .before .before .before .before .before .before .plan-tuning .ensures) (c .before .before .before .before .before .before .before .before .before .before .sample-rate-steps .ensures .0) (c .before .before .before .before .before .before .finish .ensures .1) (c .before .before .before .before .before .before .finish .ensures .0) (c .before .retune .ensures) (c .with-rate .ensures)
 
 pub set-sample-rate-spec : {M : Type 1} → statement M
-set-sample-rate-spec =
-    tie.close
-    (tie.spec
-    xtal-by-requires
-    sound-requires
-    rate-refusal-requires
-    refusal-requires
-    returns
-    plan-tuning-requires
-    if-for-requires
-    sample-rate-steps-requires
-    finish-requires
-    retune-requires
-    with-rate-requires
-    same-length
-    returns-2)
+set-sample-rate-spec = tie.close (tie.spec xtal-by-requires sound-requires rate-refusal-requires refusal-requires returns plan-tuning-requires if-for-requires sample-rate-steps-requires finish-requires retune-requires with-rate-requires same-length returns-2)

@@ -1,15 +1,14 @@
 -- `r82xx::Tuner::reload` meets its contract. Each return is one law of the definition, with what the calls before it ensure. Assumes nothing.
-use mathlib.Core.Path.{_≡_, refl, sym, ap, _∙_}
-use native.Mathlib.Omega.{arith}
-use Prim.Native.Nat.{_+_, _*_, _≤_}
 use Rattle.r82xx.specs.Record.{reloaded, withChip}
 use Rattle.r82xx.specs.Calls.{reloadCall}
-use Rattle.r82xx.proofs.Refusals.{taken-by}
 use Rattle.r82xx.proofs.Whole.{perform-by, refuse-by, send-eight}
+use Rattle.writes.specs.Programs.{sendAll}
+use mathlib.Core.Path.{refl, sym, ap, _∙_}
+use native.Mathlib.Omega.{arith}
+use Rattle.r82xx.proofs.Refusals.{taken-by}
 use denote.Ref.{now}
 use lib.ListN.{length}
-use Rattle.chip.specs.Steps.{Line, Logged, due}
-use Rattle.writes.specs.Programs.{sendAll}
+use Rattle.chip.specs.Steps.{Line, Logged}
 use borrow.Author.Needs.{needs}
 use Rattle.r82xx.proofs.Tuner.reload.Statement.{statement}
 use Rattle.r82xx.proofs.Tuner.reload.Tie as tie
@@ -22,12 +21,10 @@ unfolding reloadCall
 returns c = refuse-by _ _ _ _ _ _ _ _ _ (c .before .refusal .ensures) (c .if1 .taken)
 
 send-all-requires : tie.Need-send-all-requires
-send-all-requires c κs = let z = taken-by (c .before .before .before .before .before .before .before .args .self) (0) (9) 0 (length (now (c .before .before .before .before .before .before .before .args .room))) (length (now (c .before .before .before .before .before .before .before .args .outcomes))) (0) (sym (c .before .before .before .before .refusal .ensures) ∙ c .before .before .before .if1 .left) in let one = z .lent .rooms in let two = z .lent .outs in (omega arith, omega arith)
+send-all-requires c κs = let z = taken-by (c .before .before .before .before .before .before .before .args .self) 0 9 0 (length (now (c .before .before .before .before .before .before .before .args .room))) (length (now (c .before .before .before .before .before .before .before .args .outcomes))) 0 (sym (c .before .before .before .before .refusal .ensures) ∙ c .before .before .before .if1 .left) in let one = z .lent .rooms in let two = z .lent .outs in (omega arith, omega arith)
 
 finish-requires : tie.Need-finish-requires
-finish-requires c κs = let z = taken-by (c .before .before .before .before .before .before .before .before .before .before .before .args .self) (0) (9) 0 (length (now (c .before .before .before .before .before .before .before .before .before .before .before .args .room))) (length (now (c .before .before .before .before .before .before .before .before .before .before .before .args .outcomes))) (0) (sym (c .before .before .before .before .before .before .before .before .refusal .ensures) ∙ c .before .before .before .before .before .before .before .if1 .left) in let one = z .lent .rooms in let two = z .lent .outs in let a : c .before .before .before .send-all .result .count + due (c .before .before .before .send-all .result .held) ≤ 0 + 9 = c .before .before .before .send-all .ensures .1 in let d : length (c .before .before .before .send-all .last .1 .1 .1 .0) ≡ length (now (c .before .before .before .before .before .before .before .before .before .before .before .args .room)) = c .before .before .before .send-all .kept .1 .1 .1 .0 in
-    let g : (c .before .before .before .send-all .result .count ≤ 4096) × (16 * c .before .before .before .send-all .result .count + 8 ≤ length (c .before .before .before .send-all .last .1 .1 .1 .0)) = omega arith in
-    g
+finish-requires c κs = let z = taken-by (c .before .before .before .before .before .before .before .before .before .before .before .args .self) 0 9 0 (length (now (c .before .before .before .before .before .before .before .before .before .before .before .args .room))) (length (now (c .before .before .before .before .before .before .before .before .before .before .before .args .outcomes))) 0 (sym (c .before .before .before .before .before .before .before .before .refusal .ensures) ∙ c .before .before .before .before .before .before .before .if1 .left) in let one = z .lent .rooms in let two = z .lent .outs in (omega (arith, c .before .before .before .send-all .ensures .1), omega (arith, c .before .before .before .send-all .ensures .1, c .before .before .before .send-all .kept))
 
 reload-chip-requires : tie.Need-reload-chip-requires
 reload-chip-requires c κs = search needs
@@ -37,16 +34,7 @@ same-length c = search needs
 
 returns-2 : tie.Need-returns-2
 unfolding reloadCall
-returns-2 c = perform-by _ _ _ _ (sendAll (c .before .before .before .before .before .before .before .before .before .before .before .before .before .before .before .before .args .self .chip .attempted)) _ _ (λ (w : Line Logged). withChip (c .before .before .before .before .before .before .before .before .before .before .before .before .before .before .before .before .args .self) (reloaded (w .went) (w .chip))) _ _ _ (c .before .before .before .before .before .before .before .before .send-all .result) _ _ _ (c .before .before .before .before .before .before .before .before .before .before .before .before .before .refusal .ensures) (c .before .before .before .before .before .before .before .before .before .before .before .before .if1 .left) (send-eight (c .before .before .before .before .before .before .before .before .before .before .before .before .before .before .before .before .args .self .chip .attempted)) (c .before .before .before .before .before .before .before .before .send-all .ensures .0) (c .before .before .before .before .finish .ensures .1) (c .before .before .before .before .finish .ensures .0) (ap (withChip (c .before .before .before .before .before .before .before .before .before .before .before .before .before .before .before .before .args .self)) (c .reload-chip .ensures)) refl
+returns-2 c = perform-by _ _ _ _ (sendAll (c .before .before .before .before .before .before .before .before .before .before .before .before .before .before .before .before .before .args .self .chip .attempted)) _ _ (λ (w : Line Logged). withChip (c .before .before .before .before .before .before .before .before .before .before .before .before .before .before .before .before .before .args .self) (reloaded (w .went) (w .chip))) _ _ _ (c .before .before .before .before .before .before .before .before .before .send-all .result) _ _ _ (c .before .before .before .before .before .before .before .before .before .before .before .before .before .before .refusal .ensures) (c .before .before .before .before .before .before .before .before .before .before .before .before .before .if1 .left) (send-eight (c .before .before .before .before .before .before .before .before .before .before .before .before .before .before .before .before .before .args .self .chip .attempted)) (c .before .before .before .before .before .before .before .before .before .send-all .ensures .0) (c .before .before .before .before .before .finish .ensures .1) (c .before .before .before .before .before .finish .ensures .0) (ap (withChip (c .before .before .before .before .before .before .before .before .before .before .before .before .before .before .before .before .before .args .self)) (c .reload-chip .ensures)) refl
 
 pub reload-spec : {M : Type 1} → statement M
-reload-spec =
-    tie.close
-    (tie.spec
-    refusal-requires
-    returns
-    send-all-requires
-    finish-requires
-    reload-chip-requires
-    same-length
-    returns-2)
+reload-spec = tie.close (tie.spec refusal-requires returns send-all-requires finish-requires reload-chip-requires same-length returns-2)

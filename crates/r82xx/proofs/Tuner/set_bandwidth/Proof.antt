@@ -1,7 +1,7 @@
 -- `r82xx::Tuner::set_bandwidth` meets its contract. Each return is one law of the definition, with what the calls before it ensure. Assumes nothing.
 use mathlib.Core.Path.{refl}
-use Rattle.chip.specs.Steps.{filler}
-use Rattle.chip.proofs.Lists.{meant, meant-in}
+use native.Mathlib.Omega.{arith}
+use Rattle.chip.proofs.Lists.{meant-count, meant-in}
 use Rattle.writes.specs.Lists.{bandwidthUpdates}
 use Rattle.writes.proofs.Lists.{bandwidth-in}
 use Rattle.r82xx.specs.Calls.{bandwidthCall}
@@ -14,15 +14,14 @@ bandwidth-updates-requires : tie.Need-bandwidth-updates-requires
 bandwidth-updates-requires c κs = search needs
 
 operate-requires : tie.Need-operate-requires
-operate-requires c κs = (search needs, meant-in (bandwidthUpdates (c .before .before .before .before .args .hz)) 1 _ refl (bandwidth-in (c .before .before .before .before .args .hz)) (c .before .bandwidth-updates .ensures))
+operate-requires c κs = (omega (arith, meant-count (bandwidthUpdates (c .before .before .before .before .args .hz)) _ (c .before .bandwidth-updates .ensures)), meant-in (bandwidthUpdates (c .before .before .before .before .args .hz)) _ (c .before .bandwidth-updates .ensures) (bandwidth-in (c .before .before .before .before .args .hz)))
 
 same-length : tie.Need-same-length
 same-length c = search needs
 
 returns : tie.Need-returns
 unfolding bandwidthCall
-returns c = bracket-by _ _ _ _ _ _ _ _ _ _ (meant (bandwidthUpdates (c .before .before .before .before .before .before .before .before .args .hz)) 16 1 filler _ refl (c .before .before .before .before .before .bandwidth-updates .ensures)) (c .before .before .before .operate .ensures)
+returns c = bracket-by _ _ _ _ (bandwidthUpdates (c .before .before .before .before .before .before .before .before .args .hz)) 1 _ _ _ _ (c .before .before .before .before .before .bandwidth-updates .ensures) refl (c .before .before .before .operate .ensures)
 
 pub set-bandwidth-spec : {M : Type 1} → statement M
-set-bandwidth-spec =
-    tie.close (tie.spec bandwidth-updates-requires operate-requires same-length returns)
+set-bandwidth-spec = tie.close (tie.spec bandwidth-updates-requires operate-requires same-length returns)

@@ -1,10 +1,9 @@
 -- `r82xx::Tuner::set_gain_by_index` meets its contract. Each return is one law of the definition, with what the calls before it ensure. Assumes nothing.
-use mathlib.Core.Path.{_≡_, refl, sym, _∙_}
+use mathlib.Core.Path.{refl, sym, _∙_}
 use native.Mathlib.Omega.{arith}
-use Prim.Native.Nat.{_+_, _*_, _≤_}
 use denote.Ref.{now}
 use lib.ListN.{length}
-use Rattle.chip.specs.Steps.{Line, Logged, behind, due, updates}
+use Rattle.chip.specs.Steps.{Line, Logged, behind, updates}
 use Rattle.writes.specs.Lists.{gainUpdates}
 use Rattle.r82xx.specs.Record.{endedBy, withGain}
 use Rattle.r82xx.specs.Calls.{bracketCall}
@@ -31,24 +30,13 @@ bits-of-requires : tie.Need-bits-of-requires
 bits-of-requires c κs = search needs
 
 gain-steps-requires : tie.Need-gain-steps-requires
-gain-steps-requires c κs =
-    let z = taken-by (c .before .before .before .before .before .before .before .before .before .args .self) 0 7 0 (length (now (c .before .before .before .before .before .before .before .before .before .args .room))) (length (now (c .before .before .before .before .before .before .before .before .before .args .outcomes))) 0 (sym (c .before .before .before .before .before .refusal .ensures) ∙ c .before .before .before .before .if1 .left) in
-    let one = z .lent .rooms in
-    let two = z .lent .outs in
-    (omega (arith, c .before .before .before .before .before .before .choose-index .ensures), omega arith, omega arith)
+gain-steps-requires c κs = let z = taken-by (c .before .before .before .before .before .before .before .before .before .args .self) 0 7 0 (length (now (c .before .before .before .before .before .before .before .before .before .args .room))) (length (now (c .before .before .before .before .before .before .before .before .before .args .outcomes))) 0 (sym (c .before .before .before .before .before .refusal .ensures) ∙ c .before .before .before .before .if1 .left) in let one = z .lent .rooms in let two = z .lent .outs in (omega (arith, c .before .before .before .before .before .before .choose-index .ensures), omega arith, omega arith)
 
-cast-t23 : tie.Need-cast-t23
-cast-t23 c = search needs
+cast-t25 : tie.Need-cast-t25
+cast-t25 c = search needs
 
 finish-requires : tie.Need-finish-requires
-finish-requires c κs =
-    let z = taken-by (c .before .before .before .before .before .before .before .before .before .before .before .before .before .args .self) 0 7 0 (length (now (c .before .before .before .before .before .before .before .before .before .before .before .before .before .args .room))) (length (now (c .before .before .before .before .before .before .before .before .before .before .before .before .before .args .outcomes))) 0 (sym (c .before .before .before .before .before .before .before .before .before .refusal .ensures) ∙ c .before .before .before .before .before .before .before .before .if1 .left) in
-    let one = z .lent .rooms in
-    let two = z .lent .outs in
-    let a : c .before .before .before .gain-steps .result .count + due (c .before .before .before .gain-steps .result .held) ≤ 0 + 7 = c .before .before .before .gain-steps .ensures .1 in
-    let d : length (c .before .before .before .gain-steps .last .1 .1 .1 .0) ≡ length (now (c .before .before .before .before .before .before .before .before .before .before .before .before .before .args .room)) = c .before .before .before .gain-steps .kept .1 .1 .1 .0 in
-    let g : (c .before .before .before .gain-steps .result .count ≤ 4096) × (16 * c .before .before .before .gain-steps .result .count + 8 ≤ length (c .before .before .before .gain-steps .last .1 .1 .1 .0)) = omega arith in
-    g
+finish-requires c κs = let z = taken-by (c .before .before .before .before .before .before .before .before .before .before .before .before .before .args .self) 0 7 0 (length (now (c .before .before .before .before .before .before .before .before .before .before .before .before .before .args .room))) (length (now (c .before .before .before .before .before .before .before .before .before .before .before .before .before .args .outcomes))) 0 (sym (c .before .before .before .before .before .before .before .before .before .refusal .ensures) ∙ c .before .before .before .before .before .before .before .before .if1 .left) in let one = z .lent .rooms in let two = z .lent .outs in (omega (arith, c .before .before .before .gain-steps .ensures .1), omega (arith, c .before .before .before .gain-steps .ensures .1, c .before .before .before .gain-steps .kept))
 
 kept-gain-requires : tie.Need-kept-gain-requires
 kept-gain-requires c κs = search needs
@@ -58,26 +46,7 @@ same-length c = search needs
 
 returns-2 : tie.Need-returns-2
 unfolding bracketCall
-returns-2 c =
-    let t = c .before .before .before .before .before .before .before .before .before .before .before .before .before .before .before .before .before .before .args .self in
-    let k = c .before .before .before .before .before .before .before .before .before .before .before .before .before .before .before .choose-index .result in
-    let actual = c .before .before .before .before .before .before .before .before .before .before .before .before .gain-at .result in
-    at-step _ _ _ _ _ _ (c .before .before .before .before .before .before .before .before .before .before .before .before .before .before .before .choose-index .ensures)
-    (step-by k _ _ (gainUpdates k) (now (c .before .before .before .before .before .before .before .before .before .before .before .before .before .before .before .before .before .before .args .outcomes)) t (now (c .before .before .before .before .before .before .before .before .before .before .before .before .before .before .before .before .before .before .args .room)) _ refl (c .before .before .before .before .before .before .before .before .before .before .before .before .gain-at .ensures) (c .before .before .before .before .before .before .before .before .before .before .before .bits-of .ensures)
-    (perform-by _ _ _ _ (behind (updates (gainUpdates k))) _ _ (λ (w : Line Logged). endedBy t (withGain t actual) (w .went) (w .chip)) _ _ _ (c .before .before .before .before .before .before .before .before .gain-steps .result) _ _ _ (c .before .before .before .before .before .before .before .before .before .before .before .before .before .before .refusal .ensures) (c .before .before .before .before .before .before .before .before .before .before .before .before .before .if1 .left) (bracket-eight (gainUpdates k)) (c .before .before .before .before .before .before .before .before .gain-steps .ensures .0) (c .before .before .before .before .finish .ensures .1) (c .before .before .before .before .finish .ensures .0) (gain-kept t actual (c .kept-gain .result) (c .before .before .before .before .before .before .before .before .gain-steps .result .went) (c .before .before .before .before .before .before .before .before .gain-steps .result .chip) (c .kept-gain .ensures)) refl))
+returns-2 c = let t = c .before .before .before .before .before .before .before .before .before .before .before .before .before .before .before .before .before .before .before .args .self in let k = c .before .before .before .before .before .before .before .before .before .before .before .before .before .before .before .before .choose-index .result in let actual = c .before .before .before .before .before .before .before .before .before .before .before .before .before .gain-at .result in at-step _ _ _ _ _ _ (c .before .before .before .before .before .before .before .before .before .before .before .before .before .before .before .before .choose-index .ensures) (step-by k _ _ (gainUpdates k) (now (c .before .before .before .before .before .before .before .before .before .before .before .before .before .before .before .before .before .before .before .args .outcomes)) t (now (c .before .before .before .before .before .before .before .before .before .before .before .before .before .before .before .before .before .before .before .args .room)) _ refl (c .before .before .before .before .before .before .before .before .before .before .before .before .before .gain-at .ensures) (c .before .before .before .before .before .before .before .before .before .before .before .before .bits-of .ensures) (perform-by _ _ _ _ (behind (updates (gainUpdates k))) _ _ (λ (w : Line Logged). endedBy t (withGain t actual) (w .went) (w .chip)) _ _ _ (c .before .before .before .before .before .before .before .before .before .gain-steps .result) _ _ _ (c .before .before .before .before .before .before .before .before .before .before .before .before .before .before .before .refusal .ensures) (c .before .before .before .before .before .before .before .before .before .before .before .before .before .before .if1 .left) (bracket-eight (gainUpdates k)) (c .before .before .before .before .before .before .before .before .before .gain-steps .ensures .0) (c .before .before .before .before .before .finish .ensures .1) (c .before .before .before .before .before .finish .ensures .0) (gain-kept t actual (c .kept-gain .result) (c .before .before .before .before .before .before .before .before .before .gain-steps .result .log .went) (c .before .before .before .before .before .before .before .before .before .gain-steps .result .chip) (c .kept-gain .ensures)) refl))
 
 pub set-gain-by-index-spec : {M : Type 1} → statement M
-set-gain-by-index-spec =
-    tie.close
-    (tie.spec
-    choose-index-requires
-    refusal-requires
-    returns
-    gain-at-requires
-    bits-of-requires
-    gain-steps-requires
-    cast-t23
-    finish-requires
-    kept-gain-requires
-    same-length
-    returns-2)
+set-gain-by-index-spec = tie.close (tie.spec choose-index-requires refusal-requires returns gain-at-requires bits-of-requires gain-steps-requires cast-t25 finish-requires kept-gain-requires same-length returns-2)

@@ -1,7 +1,7 @@
 -- `r82xx::Tuner::set_if_freq` meets its contract. Each return is one law of the definition, with what the calls before it ensure. Assumes nothing.
 use mathlib.Core.Path.{refl}
-use Rattle.chip.specs.Steps.{filler}
-use Rattle.chip.proofs.Lists.{meant, meant-in}
+use native.Mathlib.Omega.{arith}
+use Rattle.chip.proofs.Lists.{meant-count, meant-in}
 use Rattle.writes.specs.Lists.{ifUpdates}
 use Rattle.writes.proofs.Lists.{if-in}
 use Rattle.r82xx.specs.Calls.{ifCall}
@@ -14,14 +14,14 @@ if-updates-requires : tie.Need-if-updates-requires
 if-updates-requires c κs = search needs
 
 operate-requires : tie.Need-operate-requires
-operate-requires c κs = (search needs, meant-in (ifUpdates (c .before .before .before .before .args .hz)) 2 _ refl (if-in (c .before .before .before .before .args .hz)) (c .before .if-updates .ensures))
+operate-requires c κs = (omega (arith, meant-count (ifUpdates (c .before .before .before .before .args .hz)) _ (c .before .if-updates .ensures)), meant-in (ifUpdates (c .before .before .before .before .args .hz)) _ (c .before .if-updates .ensures) (if-in (c .before .before .before .before .args .hz)))
 
 same-length : tie.Need-same-length
 same-length c = search needs
 
 returns : tie.Need-returns
 unfolding ifCall
-returns c = bracket-by _ _ _ _ _ _ _ _ _ _ (meant (ifUpdates (c .before .before .before .before .before .before .before .args .hz)) 16 2 filler _ refl (c .before .before .before .before .if-updates .ensures)) (c .before .before .operate .ensures)
+returns c = bracket-by _ _ _ _ (ifUpdates (c .before .before .before .before .before .before .before .args .hz)) 2 _ _ _ _ (c .before .before .before .before .if-updates .ensures) refl (c .before .before .operate .ensures)
 
 pub set-if-freq-spec : {M : Type 1} → statement M
 set-if-freq-spec = tie.close (tie.spec if-updates-requires operate-requires same-length returns)

@@ -1,6 +1,7 @@
 -- `r82xx::Tuner::set_input_path` meets its contract. Each return is one law of the definition, with what the calls before it ensure. Assumes nothing.
 use mathlib.Core.Path.{sym, _∙_}
-use Rattle.writes.proofs.Lists.{path-meant, path-meant-in}
+use native.Mathlib.Omega.{arith}
+use Rattle.writes.proofs.Lists.{path-meant-in, path-meant-two}
 use Rattle.r82xx.proofs.Tuned.{path-by, path-none, path-still}
 use borrow.Author.Needs.{needs}
 use Rattle.r82xx.proofs.Tuner.set_input_path.Statement.{statement}
@@ -31,7 +32,7 @@ path-updates-requires : tie.Need-path-updates-requires
 path-updates-requires c κs = search needs
 
 operate-requires : tie.Need-operate-requires
-operate-requires c κs = (search needs, path-meant-in (c .before .before .before .before .before .by .given .0 .0) _ (c .before .path-updates .ensures))
+operate-requires c κs = (omega (arith, path-meant-two (c .before .before .before .before .before .by .given .0 .0) _ (c .before .path-updates .ensures)), path-meant-in (c .before .before .before .before .before .by .given .0 .0) _ (c .before .path-updates .ensures))
 
 returns-2 : tie.Need-returns-2
 returns-2 c = path-still _ _ _ _ _ _ _ (sym (c .before .before .before .before .before .before .path-of .ensures) ∙ c .before .before .before .before .by .given .1) (c .before .enum-told2 .given .1) (c .sound-answer .ensures)
@@ -40,21 +41,7 @@ same-length : tie.Need-same-length
 same-length c = search needs
 
 returns-3 : tie.Need-returns-3
-returns-3 c = path-by _ _ _ _ _ _ _ _ (sym (c .before .before .before .before .before .before .before .before .before .before .before .path-of .ensures) ∙ c .before .before .before .before .before .before .before .before .before .by .given .1) (c .before .before .before .before .before .before .enum-told3 .given .1) (path-meant (c .before .before .before .before .before .before .before .before .before .by .given .0 .0) _ (c .before .before .before .before .before .path-updates .ensures)) (c .before .before .before .operate .ensures)
+returns-3 c = path-by _ _ _ _ _ _ _ _ (sym (c .before .before .before .before .before .before .before .before .before .before .before .path-of .ensures) ∙ c .before .before .before .before .before .before .before .before .before .by .given .1) (c .before .before .before .before .before .before .enum-told3 .given .1) (c .before .before .before .before .before .path-updates .ensures) (c .before .before .before .operate .ensures)
 
 pub set-input-path-spec : {M : Type 1} → statement M
-set-input-path-spec =
-    tie.close
-    (tie.spec
-    path-of-requires
-    enum-known-by
-    enum-told
-    returns
-    enum-told-2
-    sound-answer-requires
-    enum-told-3
-    path-updates-requires
-    operate-requires
-    returns-2
-    same-length
-    returns-3)
+set-input-path-spec = tie.close (tie.spec path-of-requires enum-known-by enum-told returns enum-told-2 sound-answer-requires enum-told-3 path-updates-requires operate-requires returns-2 same-length returns-3)
