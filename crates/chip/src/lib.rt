@@ -41,8 +41,6 @@ pub const REPLIES: u8 = 10;
 
 pub const STEP: u8 = 11;
 
-pub const SECTION: u8 = 12;
-
 // What the record says of the chip's registers 0x05 to 0x1f: the shadow, and our attempt record.
 pub struct Chip {
     pub address: u8,
@@ -813,7 +811,7 @@ pub fn number_of(answer: Answer) -> u8
     match answer {
         Answer::Done(_) => 0,
         Answer::Refused(n) => n,
-        Answer::Stopped(_) => 11,
+        Answer::Stopped(_) => STEP,
     }
 }
 

@@ -449,8 +449,8 @@ impl Tuner {
     pub fn set_frequency(
         mut self,
         hz: u64,
-        replies: &[u8],
         outcomes: &[u8],
+        replies: &[u8],
         room: &mut [u8],
     ) -> Told
         ensures { λ r. ⌜ called (r .tuner) (now (room .exit)) (r .count) (r .answer)

@@ -54,7 +54,7 @@ pub fn read_section(c: &[u8]) -> Verdict {
         }
         transcript::Section::Refused => {
             let told = Answer {
-                refusal: 12,
+                refusal: transcript::SECTION as u64,
                 value: 0,
                 index: 0,
                 count: 0,

@@ -31,7 +31,7 @@ fn stepped(c: &[u8], t: Tuner, room: &mut [u8]) -> Told {
     let a = layout::eight(c, layout::A);
     match layout::one(c, layout::CALL) {
         2 => t.initialize(outcomes, room),
-        3 => t.set_frequency(a, replies, outcomes, room),
+        3 => t.set_frequency(a, outcomes, replies, room),
         4 => t.set_gain(
             wire::float_of(layout::four(c, layout::A) as u32),
             outcomes,

@@ -27,6 +27,9 @@ pub const READ: u8 = 8;
 
 pub const WAIT: u8 = 9;
 
+// Refusal 12: the number stands here, since the reader leans on nothing that has the others.
+pub const SECTION: u32 = 12;
+
 // The table of kinds, a column for each rule; kind 0 is none.
 const N_LOW: [u8; 10] = [0, 1, 1, 1, 1, 2, 1, 2, 1, 0];
 
@@ -188,7 +191,7 @@ impl Section {
     {
         match self {
             Section::Read { start: _, count: _ } => 0,
-            Section::Refused => 12,
+            Section::Refused => SECTION,
         }
     }
 }

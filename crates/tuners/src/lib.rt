@@ -226,7 +226,7 @@ pub fn set_frequency(
     if number != 0 {
         return refuse(number);
     }
-    let told = given.set_frequency(hz, replies, outcomes, room);
+    let told = given.set_frequency(hz, outcomes, replies, room);
     hand(told, next)
 }
 
