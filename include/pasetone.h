@@ -55,9 +55,9 @@ extern "C" {
 /* Refusal numbers. */
 #define PASETONE_DONE 0         /* not refused */
 #define PASETONE_SETUP 1        /* a kind, board or path that is none, a nominal reference out of 1..4,294,967,295, bytes that are no record */
-#define PASETONE_FREQUENCY 2    /* 0 Hz; Hz plus IF over 64 bits; or no divider or N in the PLL, when the mux is set already */
+#define PASETONE_FREQUENCY 2    /* 0 Hz; Hz plus IF over 64 bits; or no divider in the PLL, or N below 13 or above its cap, when the mux is set already */
 #define PASETONE_RATE 3         /* rate 0 */
-#define PASETONE_CORRECTION 4   /* a corrected reference out of 1..4,294,967,295, or a demodulator's reference of 0 */
+#define PASETONE_CORRECTION 4   /* a corrected reference out of 1..4,294,967,295, or a given reference of 0 */
 #define PASETONE_REGISTER 5     /* a register out of 0x05..0x1f */
 #define PASETONE_PIN 6          /* a GPIO above 7 */
 #define PASETONE_COEFFICIENT 7  /* an FIR value past its width, or not sixteen of them */
@@ -147,6 +147,7 @@ extern "C" {
 /* Sizes of answered bytes. */
 #define PASETONE_GAIN_TABLE_SIZE 116
 #define PASETONE_PLAN_SIZE 3
+#define PASETONE_PLL_SIZE 5
 #define PASETONE_IF_REGS_SIZE 3
 #define PASETONE_RESAMPLE_REGS_SIZE 4
 #define PASETONE_FIR_SIZE 20
@@ -373,6 +374,20 @@ pasetone_reply pasetone_set_gpio_bit(uint8_t gpio, uint8_t value, const uint8_t 
  * a notch. Value: the Hz for the tuner. Refuses 1, 8.
  */
 pasetone_reply pasetone_plan_tuning(uint64_t board, uint64_t hz, uint8_t *out, size_t out_len);
+
+/*
+ * The PLL's numbers for an oscillator at `lo` Hz (hz + IF of a tuning) and a reference in Hz, as a tuning of that kind sends them. `out`, 5 bytes:
+ * the divider m (2 to 64); N; the byte for register 0x14, from which N comes back as 13 + 4 * (its low six bits) + its top two; S, low byte first.
+ * Value: the rest, what the sum leaves of the fraction, in thousands of Hz. Refuses 1 (kind), 4 (reference 0), 2 (no divider, N below 13, N above 63
+ * on an R820T or above 127 on an R828D), 8.
+ */
+pasetone_reply pasetone_plan_pll(uint64_t kind, uint64_t lo, uint32_t reference, uint8_t *out, size_t out_len);
+
+/*
+ * The same answer for every input, worked out by the technicians' worksheet: a table of six ranges of lo and one of the sixteen steps of the sum. For
+ * checks by hand; tunings go by `plan_pll`. `out`: 5 bytes. Refuses 1, 4, 2, 8.
+ */
+pasetone_reply pasetone_plan_pll_by_worksheet(uint64_t kind, uint64_t lo, uint32_t reference, uint8_t *out, size_t out_len);
 
 /* hz * 2^22 / xtal, kept to 22 bits, high byte first (`set_if_freq_xtal` sends it negated). `out`: 3 bytes. Value 0. Refuses 4 (xtal 0), 8. */
 pasetone_reply pasetone_if_freq_regs(uint32_t hz, uint32_t xtal, uint8_t *out, size_t out_len);

@@ -39,7 +39,8 @@ echo "|---|---|---|---|---|---|"
 $beside names | while read -r name entries; do
     port=$(per_call port "$name")
     if [ "$entries" -eq 0 ]; then
-        echo "| $name | 0 | | $port | | |"
+        case $name in plan-pll*) rust=$(per_call rust "$name") ;; *) rust= ;; esac
+        echo "| $name | 0 | $rust | $port | | |"
         continue
     fi
     rust=$(per_call rust "$name")

@@ -67,7 +67,7 @@ static void refused(const char *what, pasetone_reply reply, uint32_t number)
 
 static void check_making(void)
 {
-    same("version", pasetone_version(), 0x00010000);
+    same("version", pasetone_version(), 0x00010100);
     done("fresh tuner", pasetone_tuner_new(PASETONE_R828D, 0x74, 28800000, TUNER), 0, 0);
     same("fresh kind", tuner[PASETONE_TUNER_KIND], PASETONE_R828D);
     same("fresh address", tuner[PASETONE_TUNER_ADDRESS], 0x74);
@@ -289,10 +289,29 @@ static void check_demod(void)
     refused("GPIO 8", pasetone_set_gpio_bit(8, 1, OUTCOMES, REPLIES, ROOM), PASETONE_PIN);
 }
 
+/* Both engines, at document 01's worked numbers and at the least N. */
+static void check_pll(void)
+{
+    static const uint8_t broadcast[PASETONE_PLL_SIZE] = {32, 56, 0xca, 0x56, 0xd5};
+    pasetone_reply (*const engines[2])(uint64_t, uint64_t, uint32_t, uint8_t *, size_t) = {pasetone_plan_pll, pasetone_plan_pll_by_worksheet};
+    uint8_t out[PASETONE_PLL_SIZE];
+    int i;
+    for (i = 0; i < 2; i++) {
+        done("lo 102,300,000", engines[i](PASETONE_R828D, 102300000, 28800000, out, sizeof out), 1, 0);
+        same_bytes("its numbers", out, broadcast, sizeof out);
+        refused("kind 2", engines[i](2, 0, 0, out, 0), PASETONE_SETUP);
+        refused("reference 0", engines[i](PASETONE_R820T, 0, 0, out, 0), PASETONE_CORRECTION);
+        refused("N 12", engines[i](PASETONE_R820T, 885000000, 68076924, out, 0), PASETONE_FREQUENCY);
+        refused("four bytes", engines[i](PASETONE_R820T, 885000000, 68076923, out, 4), PASETONE_ROOM);
+        same_bytes("as it was", out, broadcast, sizeof out);
+    }
+}
+
 static void check_numbers(void)
 {
     static const uint8_t if_regs[] = {0x07, 0xee, 0xee}, resample[] = {0x03, 0x84, 0, 0};
     uint8_t out[4];
+    check_pll();
     done("V4, 28,799,999", pasetone_plan_tuning(PASETONE_V4, 28799999, out, 3), 57599999, 0);
     same("inverted, HF, no notch", out[0] << 16 | out[1] << 8 | out[2], 0x010000);
     done("V4, 28,800,000", pasetone_plan_tuning(PASETONE_V4, 28800000, out, 3), 28800000, 0);

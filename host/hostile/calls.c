@@ -70,6 +70,8 @@ RUN(run_rate_xtal, pasetone_set_sample_rate_xtal((uint32_t)a->arg[0], (uint32_t)
 RUN(run_output, pasetone_set_gpio_output((uint8_t)a->arg[0], S(OUTCOMES), S(REPLIES), S(ROOM)))
 RUN(run_bit, pasetone_set_gpio_bit((uint8_t)a->arg[0], (uint8_t)a->arg[1], S(OUTCOMES), S(REPLIES), S(ROOM)))
 RUN(run_plan, pasetone_plan_tuning(a->arg[0], a->arg[1], S(OUT)))
+RUN(run_pll, pasetone_plan_pll(a->arg[0], a->arg[1], (uint32_t)a->arg[2], S(OUT)))
+RUN(run_worksheet, pasetone_plan_pll_by_worksheet(a->arg[0], a->arg[1], (uint32_t)a->arg[2], S(OUT)))
 RUN(run_if_regs, pasetone_if_freq_regs((uint32_t)a->arg[0], (uint32_t)a->arg[1], S(OUT)))
 RUN(run_resample, pasetone_resample_regs((uint32_t)a->arg[0], (uint32_t)a->arg[1], S(OUT)))
 RUN(run_pack, pasetone_pack_fir(S(INPUT), S(OUT)))
@@ -95,6 +97,7 @@ ARGUMENT(xtal_args, REFUSE((uint32_t)a->arg[1] == 0, 4))
 ARGUMENT(rate_xtal_args, (uint32_t)a->arg[0] == 0 ? 3 : REFUSE((uint32_t)a->arg[1] == 0, 4))
 ARGUMENT(pin_args, REFUSE((uint8_t)a->arg[0] > 7, 6))
 ARGUMENT(board_args, REFUSE(a->arg[0] > 1, 1))
+ARGUMENT(pll_args, a->arg[0] > 1 ? 1 : (uint32_t)a->arg[2] == 0 ? 4 : pll_model(a->arg[0], a->arg[1], (uint32_t)a->arg[2], 0))
 ARGUMENT(unpack_args, REFUSE(a->n[INPUT] != PASETONE_FIR_SIZE, 7))
 
 static uint32_t pack_args(const struct attempt *a)
@@ -125,7 +128,7 @@ static uint32_t read_args(const struct attempt *a)
     static uint64_t name(const struct attempt *a) { return (void)a, (expression); }
 
 VALUE(nothing, 0)
-VALUE(version_value, 0x00010000)
+VALUE(version_value, 0x00010100)
 VALUE(asked, a->arg[0])
 VALUE(gain_set, number_at(a->at[NEXT] + PASETONE_TUNER_GAIN, 4))
 VALUE(gain_held, number_at(a->before[TUNER] + PASETONE_TUNER_GAIN, 4))
@@ -138,6 +141,13 @@ static uint64_t shadow_value(const struct attempt *a)
     uint8_t old = a->before[TUNER][PASETONE_TUNER_SHADOW + (uint8_t)a->arg[0] - 0x05];
     uint8_t value = (uint8_t)a->arg[1], mask = (uint8_t)a->arg[2];
     return (old & ~mask & 255) | (value & mask);
+}
+
+static uint64_t rest_value(const struct attempt *a)
+{
+    uint64_t rest = 0;
+    pll_model(a->arg[0], a->arg[1], (uint32_t)a->arg[2], &rest);
+    return rest;
 }
 
 static uint64_t start_value(const struct attempt *a)
@@ -185,6 +195,8 @@ const struct call calls[] = {
     {"set_gpio_output", COMMON, FREE | HAS(REPLIES), 4, 2, 0, "6 8 9 10 11", run_output, pin_args, nothing},
     {"set_gpio_bit", COMMON, FREE | HAS(REPLIES), 2, 1, 0, "6 8 9 10 11", run_bit, pin_args, nothing},
     {"plan_tuning", COMMON, HAS(OUT), 0, 0, 3, "1 8", run_plan, board_args, plan_value},
+    {"plan_pll", COMMON, HAS(OUT), 0, 0, 5, "1 4 2 8", run_pll, pll_args, rest_value},
+    {"plan_pll_by_worksheet", COMMON, HAS(OUT), 0, 0, 5, "1 4 2 8", run_worksheet, pll_args, rest_value},
     {"if_freq_regs", COMMON, HAS(OUT), 0, 0, 3, "4 8", run_if_regs, xtal_args, nothing},
     {"resample_regs", COMMON, HAS(OUT), 0, 0, 4, "3 4 8", run_resample, rate_xtal_args, nothing},
     {"pack_fir", COMMON, HAS(INPUT) | HAS(OUT), 0, 0, 20, "7 8", run_pack, pack_args, nothing},

@@ -77,6 +77,8 @@ uint64_t number_at(const uint8_t *bytes, unsigned width);
 int tuner_is_record(const uint8_t *bytes, size_t n);
 int driver_is_record(const uint8_t *bytes, size_t n);
 uint64_t corrected(uint64_t nominal, int32_t ppm);
+/* 0 with the rest, or 2. */
+uint32_t pll_model(uint64_t kind, uint64_t lo, uint32_t reference, uint64_t *rest);
 uint32_t read_model(const uint8_t *bytes, size_t n, uint64_t *start, uint64_t *count);
 uint32_t refusal_before_steps(const struct attempt *a);
 int without_steps(const struct attempt *a);

@@ -20,6 +20,34 @@ uint64_t corrected(uint64_t nominal, int32_t ppm)
     return v < 1 || v > 4294967295 ? 0 : (uint64_t)v;
 }
 
+/* The PLL's divider, N and sum, for a kind that is one and a reference that is not 0: 0 with the rest, or 2. N from 13 on is document 02's. */
+uint32_t pll_model(uint64_t kind, uint64_t lo, uint32_t reference, uint64_t *rest)
+{
+    uint64_t m = 64, n, f, k = reference / 1000, twice = 2 * (uint64_t)reference;
+    if (lo < 27656250 || lo >= 1800000000) {
+        return 2;
+    }
+    while (m > 2 && lo * (m / 2) >= 1770000000) {
+        m /= 2;
+    }
+    if (lo * m / twice < 13 || lo * m / twice > (kind == 0 ? 63 : 127)) {
+        return 2;
+    }
+    f = lo * m % twice / 1000;
+    for (n = 2; n <= 65536 && f > 1; n *= 2) {
+        if (f > 2 * k / n) {
+            f -= 2 * k / n;
+            if (n == 32768) {
+                break;
+            }
+        }
+    }
+    if (rest != NULL) {
+        *rest = f;
+    }
+    return 0;
+}
+
 int tuner_is_record(const uint8_t *bytes, size_t n)
 {
     uint32_t gain;

@@ -1,3 +1,4 @@
+pub mod Engines
 pub mod Fir
 pub mod Giving
 pub mod Words

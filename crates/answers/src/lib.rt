@@ -1,16 +1,20 @@
 // Answers of fixed size as bytes in a slice that the host lends: what the C boundary hands out of the leaves. Ours: the Rust answers arrays.
 // Document 01, "Modules, leaves first": "callable from a C or Rust host by numbers and byte slices"; "Refusal numbers", 8: "lent slice too short".
+ghost use mathlib.Core.List.{[], _∷_};
 ghost use mathlib.Core.Path.{_≡_};
 ghost use Prim.Native.Nat.{_+_, _*_, _<_, _≤_};
 ghost use lib.ListN.{length, take, drop};
 ghost use lib.Seq.{sets};
 ghost use Rattle.answers.specs.Lent.{bitOf, ifInto, packInto, planInto, resampleInto, tableInto, unpackInto, wordBytes, wordsIn};
+ghost use Rattle.answers.specs.Sheets.{kindNamed, laidOf, pllInto, worksheetInto};
 ghost use Rattle.lending.specs.Lent.{given, lentTo};
 ghost use Rattle.board.specs.Numbers.{boardOf};
 ghost use Rattle.wire.specs.Bytes.{leValue};
 use board::BoardRead;
 use chip::Answer;
+use pll::Kind;
 use r82xx::Tuner;
+use worksheet::Filled;
 
 // All of v, four bytes each, from the start of the slice.
 fn put_words(v: &[i32], out: &mut [u8])
@@ -133,4 +137,73 @@ pub fn gain_table(tuner: Tuner, out: &mut [u8]) -> Answer
     let answer = table.answer;
     let steps = table.steps;
     lend_words(chip::number_of(answer), &steps, out)
+}
+
+fn named(kind: u64) -> Kind
+    ensures { λ r. ⌜ r ≡ kindNamed kind ⌝ }
+{
+    if kind == 0 { Kind::R820T } else { Kind::R828D }
+}
+
+// A sheet as it is lent: the rest as value, and five bytes; or the number of its refusal.
+pub struct Laid {
+    pub refusal: u8,
+    pub value: u64,
+    pub bytes: [u8; 5],
+}
+
+fn refused(number: u8) -> Laid
+    ensures { λ r. ⌜ r ≡ record { refusal = number; value = 0; bytes = 0 ∷ 0 ∷ 0 ∷ 0 ∷ 0 ∷ [] } ⌝ }
+{
+    Laid {
+        refusal: number,
+        value: 0,
+        bytes: [0; 5],
+    }
+}
+
+fn laid_out(kind: u64, reference: u32, sheet: Filled) -> Laid
+    ensures { λ r. ⌜ r ≡ laidOf kind reference sheet ⌝ }
+{
+    if 1 < kind {
+        return refused(chip::SETUP);
+    }
+    if reference == 0 {
+        return refused(chip::CORRECTION);
+    }
+    let Filled::In(s) = sheet else {
+        return refused(chip::FREQUENCY);
+    };
+    let sum = s.sum;
+    Laid {
+        refusal: 0,
+        value: s.rest,
+        bytes: [
+            (s.m % 256) as u8,
+            s.n,
+            s.setting,
+            (sum % 256) as u8,
+            (sum / 256) as u8,
+        ],
+    }
+}
+
+// The plan of the PLL, by the engine that tunings go by.
+pub fn plan_pll(kind: u64, lo: u64, reference: u32, out: &mut [u8]) -> Answer
+    ensures { λ r. ⌜ given r (now (out .exit)) ≡ pllInto kind lo reference (now (out .entry)) ⌝ }
+{
+    let plan = pll::plan_pll(named(kind), lo, reference);
+    let laid = laid_out(kind, reference, worksheet::told(plan));
+    let bytes = laid.bytes;
+    lending::lend(laid.refusal, laid.value, &bytes, out)
+}
+
+// The same by the technicians' worksheet.
+pub fn plan_pll_by_worksheet(kind: u64, lo: u64, reference: u32, out: &mut [u8]) -> Answer
+    ensures { λ r. ⌜ given r (now (out .exit)) ≡ worksheetInto kind lo reference (now (out .entry)) ⌝ }
+{
+    let sheet = worksheet::fill(named(kind), lo, reference);
+    let laid = laid_out(kind, reference, sheet);
+    let bytes = laid.bytes;
+    lending::lend(laid.refusal, laid.value, &bytes, out)
 }

@@ -3,6 +3,7 @@
 // Document 01, "Modules, leaves first": "The library is callable from a C or Rust host by numbers and byte slices".
 ghost use mathlib.Core.Path.{_≡_};
 ghost use Rattle.answers.specs.Lent.{ifInto, packInto, planInto, resampleInto, unpackInto};
+ghost use Rattle.answers.specs.Sheets.{pllInto, worksheetInto};
 ghost use Rattle.board.specs.Numbers.{boardOf};
 ghost use Rattle.demod.specs.Calls.{demodCourse};
 ghost use Rattle.demod.specs.Calls.Order.{Baseband, LowIf, ZeroIf, Reset, Direct, Start, Stop, IfXtal, RateXtal};
@@ -25,12 +26,12 @@ use replies::Parts;
 use replies::Reply;
 use replies::TuneReply;
 
-// 1.0.0: the major number times 65,536, the minor times 256, the patch.
+// 1.1.0: the major number times 65,536, the minor times 256, the patch.
 #[no_mangle]
 pub extern "C" fn pasetone_version() -> u32
-    ensures { λ r. ⌜ r ≡ 65536 ⌝ }
+    ensures { λ r. ⌜ r ≡ 65792 ⌝ }
 {
-    0x0001_0000
+    0x0001_0100
 }
 
 // The tuner: src/tuners/r82xx.rs.
@@ -416,6 +417,27 @@ pub extern "C" fn pasetone_plan_tuning(board: u64, hz: u64, out: &mut [u8]) -> R
     ensures { λ r. ⌜ lent r (now (out .exit)) ≡ lentBy (planInto (boardOf board) hz (now (out .entry))) ⌝ }
 {
     let answer = answers::plan_tuning(board, hz, out);
+    replies::numbers(answer, 0)
+}
+
+#[no_mangle]
+pub extern "C" fn pasetone_plan_pll(kind: u64, lo: u64, reference: u32, out: &mut [u8]) -> Reply
+    ensures { λ r. ⌜ lent r (now (out .exit)) ≡ lentBy (pllInto kind lo reference (now (out .entry))) ⌝ }
+{
+    let answer = answers::plan_pll(kind, lo, reference, out);
+    replies::numbers(answer, 0)
+}
+
+#[no_mangle]
+pub extern "C" fn pasetone_plan_pll_by_worksheet(
+    kind: u64,
+    lo: u64,
+    reference: u32,
+    out: &mut [u8],
+) -> Reply
+    ensures { λ r. ⌜ lent r (now (out .exit)) ≡ lentBy (worksheetInto kind lo reference (now (out .entry))) ⌝ }
+{
+    let answer = answers::plan_pll_by_worksheet(kind, lo, reference, out);
     replies::numbers(answer, 0)
 }
 

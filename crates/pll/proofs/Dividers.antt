@@ -30,7 +30,7 @@ over lo m h =
     let l : 1_770_000_000 ≤ lo * m = omega arith in
     simp (le-leb _ _ l, le-ltb _ _ h)
 
-both : (a b : Bool) → (a && b) ≡ true → (a ≡ true) × (b ≡ true)
+pub both : (a b : Bool) → (a && b) ≡ true → (a ≡ true) × (b ≡ true)
 both true b e = (refl, e)
 both false b e = (e, let z : _≡_ {A = ℕ} 0 1 = cc in absurd (omega arith))
 
@@ -180,7 +180,7 @@ only lo m k e =
     let f : Found lo m k = found lo m k e in
     (omega (arith, mul-le-mul-left lo (f .most), f .low), omega (arith, mul-le-mul-left lo (f .least), f .high))
 
-below-or : (a b : ℕ) → (a < b) ⊎ (b ≤ a)
+pub below-or : (a b : ℕ) → (a < b) ⊎ (b ≤ a)
 below-or a b = go (ltb a b) refl
   where
     go : (t : Bool) → ltb a b ≡ t → (a < b) ⊎ (b ≤ a)

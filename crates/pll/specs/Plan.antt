@@ -1,8 +1,8 @@
 -- The numbers of the PLL for a frequency of the oscillator. Document 01, "PLL": "N = lo·m / (2R). Above 127 (R828D) or 63 (R820T): refusal 2.
 -- F = (lo·m - 2RN) / 1000", and "K = R / 1000 (whole numbers throughout)".
 use Prim.Native.Nat.{ℕ, _-_, _*_, _/_}
-use mathlib.Core.Bool.{cond}
-use lib.Dec.{ltb, eqb}
+use mathlib.Core.Bool.{Bool, cond, _&&_}
+use lib.Dec.{leb, eqb}
 use Rattle.pll.specs.declared.Kind.{Kind}
 use Rattle.pll.specs.declared.Kind.the-variants.{R820T, R828D}
 use Rattle.pll.specs.declared.Mixer.{Mixer}
@@ -42,10 +42,14 @@ madeOf vco m number r =
       rest = sumOf (r / 1000) (fractionOf vco r) .rest;
     }
 
+-- an N that is taken: the cap's line above, and document 02, #111: "N below 13 is refused"
+abbrev pub taken : Kind → ℕ → Bool
+taken kind n = leb 13 n && leb n (capOf kind)
+
 unfoldable pub planWith : Kind → ℕ → ℕ → Mixer → Pll
 planWith kind lo r Missing = Refused
 planWith kind lo r (By m number) =
-    cond (ltb (capOf kind) (wholeOf (lo * m) r)) Refused (Planned (madeOf (lo * m) m number r))
+    cond (taken kind (wholeOf (lo * m) r)) (Planned (madeOf (lo * m) m number r)) Refused
 
 -- no record holds a reference of zero ("nominal and corrected reference" are 1..4,294,967,295): it is refused here so that every input has an answer
 unfoldable pub planOf : Kind → ℕ → ℕ → Pll

@@ -1,5 +1,6 @@
 // The arithmetic of the PLL, from `set_pll_raw` of src/tuners/r82xx.rs: divider, N, register 0x14, F and the sum S.
-// Document 01, "PLL"; its lines stand above the definitions of specs/. Each result is one equation with such a definition.
+// Document 01, "PLL"; its lines stand above the definitions of specs/. Each result is one equation with such a definition. The least N is
+// document 02's, #111: the Rust takes a smaller one.
 ghost use mathlib.Core.Path.{_≡_};
 ghost use Prim.Native.Nat.{_<_, _≤_, _^_};
 ghost use Rattle.pll.specs.Divide.{dividerOf};
@@ -10,6 +11,9 @@ ghost use Rattle.pll.specs.Plan.{capOf, planOf};
 pub const VCO_MIN: u64 = 1_770_000_000;
 
 pub const VCO_MAX: u64 = 3_600_000_000;
+
+// The least N that the byte for register 0x14 can tell.
+const LEAST: u64 = 13;
 
 pub enum Kind {
     R820T,
@@ -157,6 +161,9 @@ pub fn plan_pll(kind: Kind, lo: u64, r: u32) -> Pll
     let wide = r as u64;
     let vco = lo * m;
     let n = vco / (2 * wide);
+    if n < LEAST {
+        return Pll::Refused;
+    }
     if cap(kind) < n {
         return Pll::Refused;
     }

@@ -1,5 +1,5 @@
-// Calls that are numbers in and numbers or bytes out: `plan_tuning` (33), `if_freq_regs` (34), `resample_regs` (35), the section reader (38). Answered
-// bytes go to a lent slice, which may be too short.
+// Calls that are numbers in and numbers or bytes out: `plan_tuning` (33), `if_freq_regs` (34), `resample_regs` (35), the section reader (38), the PLL's
+// numbers by both engines (39, 40). Answered bytes go to a lent slice, which may be too short.
 use crate::compare;
 use crate::handed;
 use crate::layout;
@@ -14,6 +14,32 @@ pub fn plan_tuning(c: &[u8]) -> Verdict {
     }
     let mut out = [0xa5u8; 1024];
     let a = answers::plan_tuning(number, layout::eight(c, layout::A), &mut out[0..n]);
+    handed::answered(c, a, &out, n)
+}
+
+pub fn plan_pll(c: &[u8]) -> Verdict {
+    let lo = layout::eight(c, layout::A);
+    let reference = layout::eight(c, layout::B);
+    let n = layout::two(c, layout::ROOM);
+    if 0xffff_ffff < reference || 1024 < n {
+        return Verdict::Differ;
+    }
+    let mut out = [0xa5u8; 1024];
+    let kind = layout::eight(c, layout::C);
+    let a = answers::plan_pll(kind, lo, reference as u32, &mut out[0..n]);
+    handed::answered(c, a, &out, n)
+}
+
+pub fn plan_pll_by_worksheet(c: &[u8]) -> Verdict {
+    let lo = layout::eight(c, layout::A);
+    let reference = layout::eight(c, layout::B);
+    let n = layout::two(c, layout::ROOM);
+    if 0xffff_ffff < reference || 1024 < n {
+        return Verdict::Differ;
+    }
+    let mut out = [0xa5u8; 1024];
+    let kind = layout::eight(c, layout::C);
+    let a = answers::plan_pll_by_worksheet(kind, lo, reference as u32, &mut out[0..n]);
     handed::answered(c, a, &out, n)
 }
 

@@ -36,6 +36,8 @@ fn judge(c: &[u8]) -> Verdict {
         36 => filter::pack(c),
         37 => filter::unpack(c),
         38 => leaves::read_section(c),
+        39 => leaves::plan_pll(c),
+        40 => leaves::plan_pll_by_worksheet(c),
         _ => Verdict::Later,
     }
 }

@@ -38,7 +38,7 @@ fn record_name(call: u64) {
     }
 }
 
-// Calls 21 to 38: the demodulator, GPIO, and what takes no record.
+// Calls 21 to 40: the demodulator, GPIO, and what takes no record.
 fn other_name(call: u64) {
     match call {
         21 => text(b"init_baseband"),
@@ -59,6 +59,8 @@ fn other_name(call: u64) {
         36 => text(b"FIR packer"),
         37 => text(b"FIR unpacker"),
         38 => text(b"section reader"),
+        39 => text(b"plan_pll"),
+        40 => text(b"plan_pll_by_worksheet"),
         _ => text(b"no such call"),
     }
 }
@@ -146,7 +148,7 @@ fn row(tally: &[u64; 192], call: usize)
 
 pub fn rows(tally: &[u64; 192]) {
     let mut call = 1;
-    while call < 39 {
+    while call < 41 {
         row(tally, call);
         call += 1;
     }

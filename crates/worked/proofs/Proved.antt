@@ -6,23 +6,29 @@ use Rattle.fir.proofs.Worked.{default-packed}
 use Rattle.gain.proofs.Worked.{three-two-index, three-two-answer, nan-index, far-below-tenths, far-below-index}
 use Rattle.pll.specs.declared.Kind.{Kind}
 use Rattle.pll.specs.declared.Kind.the-variants.{R820T, R828D}
+use Rattle.pll.specs.declared.Pll.the-variants.{Refused}
 use Rattle.pll.specs.Divide.{inVco, firstOf}
 use Rattle.pll.specs.Setting.{settingOf}
 use Rattle.pll.specs.Fraction.{turnOf, turnsOf}
 use Rattle.pll.specs.Plan.{planWith, planOf}
 use Rattle.reference.specs.Correct.{correctedOf}
 use Rattle.registers.specs.Rates.{ifRegsOf, sentOf}
-use Rattle.worked.specs.Numbers.{wholeIn, settingIn, Worked}
+use Rattle.worked.specs.Numbers.{wholeIn, Worked}
 
-small-whole : (kind : Kind) → wholeIn (planOf kind 885_000_000 100_000_000) ≡ 8
+too-small : (kind : Kind) → planOf kind 885_000_000 100_000_000 ≡ Refused
 unfolding inVco firstOf settingOf turnOf turnsOf planWith planOf
-small-whole R820T = refl
-small-whole R828D = refl
+too-small R820T = refl
+too-small R828D = refl
 
-wrapped : (kind : Kind) → settingIn (planOf kind 885_000_000 100_000_000) ≡ 0xc0
+least-whole : (kind : Kind) → wholeIn (planOf kind 885_000_000 68_076_923) ≡ 13
 unfolding inVco firstOf settingOf turnOf turnsOf planWith planOf
-wrapped R820T = refl
-wrapped R828D = refl
+least-whole R820T = refl
+least-whole R828D = refl
+
+below-least : (kind : Kind) → planOf kind 885_000_000 68_076_924 ≡ Refused
+unfolding inVco firstOf settingOf turnOf turnsOf planWith planOf
+below-least R820T = refl
+below-least R828D = refl
 
 pub worked : Worked
 unfolding inVco firstOf settingOf turnOf turnsOf planWith planOf correctedOf ifRegsOf sentOf
@@ -37,8 +43,11 @@ worked =
       at-cap = refl;
       past-cap = refl;
       broadcast = refl;
-      small-whole = small-whole;
-      wrapped = wrapped;
+      small-whole = refl;
+      wrapped = refl;
+      too-small = too-small;
+      least-whole = least-whole;
+      below-least = below-least;
       minus-one = refl;
       minus-all = refl;
       three-two = three-two-index;

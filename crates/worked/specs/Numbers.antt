@@ -1,5 +1,5 @@
 -- Document 01, "Worked numbers (marked * are proved)": each starred line, in its order, a field for each number.
-use Prim.Native.Nat.{ℕ}
+use Prim.Native.Nat.{ℕ, _*_}
 use mathlib.Core.Path.{_≡_}
 use mathlib.Core.Bool.{Bool, true, false}
 use mathlib.Core.List.{[], _∷_}
@@ -16,12 +16,13 @@ use Rattle.pll.specs.declared.Kind.{Kind}
 use Rattle.pll.specs.declared.Kind.the-variants.{R820T, R828D}
 use Rattle.pll.specs.declared.Pll.{Pll}
 use Rattle.pll.specs.declared.Pll.the-variants as pll
-use Rattle.pll.specs.Plan.{planOf}
+use Rattle.pll.specs.Plan.{wholeOf, planOf}
+use Rattle.pll.specs.Setting.{settingOf}
 use Rattle.reference.specs.declared.Corrected.the-variants as reference
 use Rattle.reference.specs.Correct.{correctedOf}
 use Rattle.registers.specs.Rates.{ifValueOf, ifRegsOf, ratioOf, sentOf, threeOf}
 
--- the divider, N and the byte of 0x14 of a plan; of a refusal 0, which no line below names
+-- the divider and N of a plan; of a refusal 0, which no line below names
 abbrev pub dividerIn : Pll → ℕ
 dividerIn (pll.Planned p) = p .m
 dividerIn pll.Refused = 0
@@ -29,10 +30,6 @@ dividerIn pll.Refused = 0
 abbrev pub wholeIn : Pll → ℕ
 wholeIn (pll.Planned p) = p .n
 wholeIn pll.Refused = 0
-
-abbrev pub settingIn : Pll → ℕ
-settingIn (pll.Planned p) = p .setting
-settingIn pll.Refused = 0
 
 abbrev pub taken : Pll → Bool
 taken (pll.Planned p) = true
@@ -54,9 +51,13 @@ pub record Worked : Type 0 where
   -- R828D, R 28,800,000, lo 102,300,000: m 32, N 56, 0x14 = 0xca, F 48,000, S 0xd556, rest 1
   pub broadcast :
       planOf R828D 102_300_000 28_800_000 ≡ pll.Planned (record { m = 32; number = 4; n = 56; setting = 0xca; fraction = 48_000; sum = 0xd556; rest = 1 })
-  -- R 100,000,000, lo 885,000,000: N 8, 0x14 = 0xc0
-  pub small-whole : (kind : Kind) → wholeIn (planOf kind 885_000_000 100_000_000) ≡ 8
-  pub wrapped : (kind : Kind) → settingIn (planOf kind 885_000_000 100_000_000) ≡ 0xc0
+  -- R 100,000,000, lo 885,000,000: N 8, 0x14 = 0xc0. Document 02, #111: "document 01's line with N 8 becomes a refusal". The formulas give both still
+  pub small-whole : wholeOf (885_000_000 * 2) 100_000_000 ≡ 8
+  pub wrapped : settingOf 8 ≡ 0xc0
+  pub too-small : (kind : Kind) → planOf kind 885_000_000 100_000_000 ≡ pll.Refused
+  -- the first reference at which an N is below 13, and the one before it
+  pub least-whole : (kind : Kind) → wholeIn (planOf kind 885_000_000 68_076_923) ≡ 13
+  pub below-least : (kind : Kind) → planOf kind 885_000_000 68_076_924 ≡ pll.Refused
   -- 28,800,000 at -1 ppm: 28,799,972; at -1,000,000: refused
   pub minus-one : correctedOf 28_800_000 (negℤ (pos 1)) ≡ reference.Is 28_799_972
   pub minus-all : correctedOf 28_800_000 (negℤ (pos 1_000_000)) ≡ reference.Refused

@@ -128,12 +128,32 @@ mod tests {
         assert_eq!(reached(&super::tests::tuner(TunerKind::R820t, 1), Board::V4), []);
     }
 
+    /// N from 13: at 100,000,000 Hz lo * m is from 2,600,000,000, so each divider keeps the high end of its stretch. From 138,461,539 Hz on nothing is left.
+    #[test]
+    fn high_reference() {
+        let last = [55_312_499, 110_624_999, 221_249_999, 442_499_999, 884_999_999, 1_799_999_999];
+        let wanted: Vec<Stretch> =
+            [64, 32, 16, 8, 4, 2].iter().zip(last).map(|(m, last)| 2_600_000_000 / m - 2_300_000..=last - 2_300_000).collect();
+        for kind in [TunerKind::R820t, TunerKind::R828d] {
+            assert_eq!(reached(&tuner(kind, 100_000_000), Board::Generic), wanted);
+            assert_eq!(reached(&tuner(kind, 68_076_923), Board::Generic), [25_356_250..=1_797_699_999]);
+            assert_eq!(reached(&tuner(kind, 68_076_924), Board::Generic)[0], 25_356_251..=53_012_499);
+            assert_eq!(reached(&tuner(kind, 138_461_538), Board::Generic), [1_797_699_994..=1_797_699_999]);
+            assert_eq!(reached(&tuner(kind, 138_461_539), Board::Generic), []);
+        }
+    }
+
     /// Each border holds: the library takes it, and refuses what stands beside it.
     #[test]
     fn borders_hold() {
-        for (kind, reference) in
-            [(TunerKind::R820t, 14_400_000), (TunerKind::R828d, 7_000_000), (TunerKind::R828d, 13_950_000), (TunerKind::R820t, 28_800_000)]
-        {
+        for (kind, reference) in [
+            (TunerKind::R820t, 14_400_000),
+            (TunerKind::R828d, 7_000_000),
+            (TunerKind::R828d, 13_950_000),
+            (TunerKind::R820t, 28_800_000),
+            (TunerKind::R820t, 100_000_000),
+            (TunerKind::R828d, 68_076_924),
+        ] {
             for board in [Board::Generic, Board::V4] {
                 let tuner = tuner(kind, reference);
                 for stretch in reached(&tuner, board) {
@@ -148,7 +168,11 @@ mod tests {
     /// What is not in a stretch is refused: one frequency in each 9,973 is asked.
     #[test]
     fn nothing_else_is_reached() {
-        for (kind, reference, board) in [(TunerKind::R820t, 14_400_000, Board::V4), (TunerKind::R828d, 7_000_000, Board::Generic)] {
+        for (kind, reference, board) in [
+            (TunerKind::R820t, 14_400_000, Board::V4),
+            (TunerKind::R828d, 7_000_000, Board::Generic),
+            (TunerKind::R828d, 100_000_000, Board::V4),
+        ] {
             let tuner = tuner(kind, reference);
             let stretches = reached(&tuner, board);
             for hz in (0..1_900_000_000).step_by(9_973) {

@@ -8,11 +8,11 @@ use core::fmt;
 pub enum Error {
     /// 1: a nominal reference of 0, or bytes that are no record.
     Setup,
-    /// 2: 0 Hz, Hz plus IF over 64 bits, or a frequency that the PLL cannot make.
+    /// 2: 0 Hz, Hz plus IF over 64 bits, or a frequency that the PLL cannot make with its reference.
     Frequency,
     /// 3: rate 0.
     Rate,
-    /// 4: a corrected reference out of 1..=4,294,967,295, or a demodulator's reference of 0.
+    /// 4: a corrected reference out of 1..=4,294,967,295, or a given reference of 0.
     Correction,
     /// 5: a register out of 0x05..=0x1f.
     Register,
@@ -99,7 +99,7 @@ impl Error {
         match self {
             Error::Setup => "a reference of 0, or bytes that are no record: give a reference from 1 Hz, or a record's own bytes",
             Error::Frequency => {
-                "0 Hz, or one that the PLL cannot make: ask for one whose sum with the IF is from 27656250 to 1799999999 Hz (less where the reference is low)"
+                "0 Hz, or one that the PLL cannot make: ask for one whose sum with the IF is from 27656250 to 1799999999 Hz (not all of them where the reference is below 28125000 or above 68076923 Hz)"
             }
             Error::Rate => "the rate is 0: give one from 1",
             Error::Correction => "the corrected reference is not from 1 to 4294967295 Hz: give another correction, and no reference of 0",

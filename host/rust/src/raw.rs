@@ -177,6 +177,8 @@ unsafe extern "C" {
     pub fn pasetone_resample_regs(rate: u32, xtal: u32, out: BytesMut, n: usize) -> Reply;
     pub fn pasetone_pack_fir(values: Bytes, v: usize, out: BytesMut, n: usize) -> Reply;
     pub fn pasetone_unpack_fir(bytes: Bytes, b: usize, out: BytesMut, n: usize) -> Reply;
+    pub fn pasetone_plan_pll(kind: u64, lo: u64, reference: u32, out: BytesMut, n: usize) -> Reply;
+    pub fn pasetone_plan_pll_by_worksheet(kind: u64, lo: u64, reference: u32, out: BytesMut, n: usize) -> Reply;
     pub fn pasetone_read_section(bytes: Bytes, b: usize) -> Section;
 }
 

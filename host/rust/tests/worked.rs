@@ -1,7 +1,7 @@
 //! Document 01's worked numbers, and what a call leaves where it is refused.
 use pasetone::{
-    Board, Driver, EntryKind, Error, InputPath, Script, Transcript, Tuner, TunerKind, demod, gpio, if_freq_regs, pack_fir, resample_regs,
-    unpack_fir,
+    Board, Driver, EntryKind, Error, InputPath, PllPlan, Script, Transcript, Tuner, TunerKind, demod, gpio, if_freq_regs, pack_fir,
+    resample_regs, unpack_fir,
 };
 
 fn r828d() -> Tuner {
@@ -184,6 +184,24 @@ fn plans() {
     assert_eq!(Board::Generic.plan_tuning(1).path, None);
 }
 
+/// Both engines, at document 01's worked numbers and at the least N.
+#[test]
+fn pll_plans() {
+    for engine in [TunerKind::plan_pll, TunerKind::plan_pll_by_worksheet] {
+        let broadcast = PllPlan { divider: 32, n: 56, setting: 0xca, sum: 0xd556, rest: 1 };
+        assert_eq!(engine(TunerKind::R828d, 102_300_000, 28_800_000), Ok(broadcast));
+        assert_eq!(engine(TunerKind::R820t, 885_000_000, 68_076_923).map(|plan| (plan.divider, plan.n, plan.setting)), Ok((2, 13, 0)));
+        for (lo, reference) in
+            [(885_000_000, 68_076_924), (885_000_000, 100_000_000), (27_656_249, 28_800_000), (1_800_000_000, 28_800_000)]
+        {
+            assert_eq!(engine(TunerKind::R828d, lo, reference), Err(Error::Frequency));
+        }
+        assert_eq!(engine(TunerKind::R820t, 1_024_000_000, 16_000_000), Err(Error::Frequency));
+        assert_eq!(engine(TunerKind::R828d, 1_024_000_000, 16_000_000).map(|plan| plan.n), Ok(64));
+        assert_eq!(engine(TunerKind::R828d, 0, 0), Err(Error::Correction));
+    }
+}
+
 #[test]
 fn demodulator_and_gpio() {
     let counts = [
@@ -228,5 +246,5 @@ fn errors_have_numbers_and_words() {
     assert_eq!((Error::Step { index: 7 }.number(), Error::Step { index: 7 }.word()), (11, "step"));
     assert_eq!((Error::Coefficient.number(), Error::Coefficient.word()), (7, "coefficient"));
     assert_eq!(Transcript::read(&[]).map(|_| ()).unwrap_err().number(), 12);
-    assert_eq!(pasetone::version(), (1, 0, 0));
+    assert_eq!(pasetone::version(), (1, 1, 0));
 }

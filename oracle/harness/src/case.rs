@@ -25,7 +25,7 @@ pub enum By {
     Rust = 0,
     /// Document 01, before the Rust is asked.
     Page = 1,
-    /// Document 01, over a Rust that panics, wraps or cuts.
+    /// Document 01, over a Rust that panics, wraps or cuts; or document 02, over one that answers as document 01.
     PageOverRust = 2,
 }
 

@@ -11,6 +11,7 @@ use crate::case::Case;
 use crate::dice::Dice;
 use crate::page;
 use crate::records::{Driver, Tuner};
+use crate::requests;
 
 pub use lists::{fir, sections};
 
@@ -21,7 +22,7 @@ const TUNED: u64 = 100 * MHZ;
 /// A case that is well lent and all done, on fresh records.
 pub fn plain(call: u8) -> Case {
     let (entries, replies) = page::most(call).unwrap_or((0, 0));
-    let room = if entries > 0 { 16 * entries + 8 } else { page::answered(call).unwrap_or(0) };
+    let room = if entries > 0 { 16 * entries + 8 } else { requests::answered(call).unwrap_or(0) };
     let mut case = Case { call, room, outcomes: vec![0; entries], replies: vec![0; replies], ..Case::default() };
     if takes_tuner(call) {
         case.tuner = Tuner::fresh(1, 28_800_000, 0x74).bytes();
@@ -49,6 +50,7 @@ pub fn plain(call: u8) -> Case {
         28 | 35 => (case.a, case.b) = (2_048_000, 28_800_000),
         31 | 32 => (case.a, case.b) = (5, 1),
         33 => (case.a, case.c) = (TUNED, 1),
+        39 | 40 => (case.a, case.b, case.c) = (102_300_000, 28_800_000, 1),
         _ => {}
     }
     case
@@ -155,6 +157,11 @@ pub fn random(call: u8, dice: &mut Dice) -> Case {
         28 | 35 => (case.a, case.b) = ((dice.spread() as u32).max(1) as u64, (dice.spread() as u32).max(1) as u64),
         31 | 32 => (case.a, case.b) = (dice.below(8), dice.below(3)),
         33 => (case.a, case.c) = (dice.spread(), dice.below(2)),
+        39 | 40 => {
+            let tuner = random_tuner(dice);
+            let lo = if dice.below(12) == 0 { dice.spread() } else { dice.within(26 * MHZ, 1_800 * MHZ) };
+            (case.a, case.b, case.c) = (lo, tuner.corrected as u64, dice.below(2));
+        }
         _ => {}
     }
     // More than is needed may be lent; it is not looked at.
@@ -205,5 +212,6 @@ pub fn calls() -> Vec<Case> {
         };
         all.extend((0..times).map(|_| random(call, &mut dice)));
     }
+    tune::figures(&mut all, &mut dice);
     all
 }

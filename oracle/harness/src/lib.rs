@@ -1,5 +1,5 @@
 //! The judge: document 01's calls answered by the original Rust (run.rs), by document 01's own rules where the Rust is
-//! not asked or has no answer (page.rs), and both put together for one case (answer.rs).
+//! not asked or has no answer (page.rs), and both put together for one case (answer.rs); document 02 over them (requests.rs).
 pub mod answer;
 pub mod case;
 pub mod cases;
@@ -7,6 +7,7 @@ pub mod dice;
 pub mod judge;
 pub mod page;
 pub mod records;
+pub mod requests;
 pub mod run;
 pub mod speed;
 pub mod steps;

@@ -1,6 +1,7 @@
 //! What the speed of the original is measured on: one row for each call, its work over the recorder, and the clock.
 //! Every row has a twin without the original: the same count of entries put into the recorder by hand.
 use crate::cases::replies_for;
+use crate::page;
 use crate::records::{Driver, Tuner};
 use crate::run::{self, block_on};
 use original::demod;
@@ -64,7 +65,16 @@ pub fn rows() -> Vec<(&'static str, usize, Work)> {
                 let _ = black_box(demod::init_baseband(run::usb().as_hw()));
             }),
         ),
+        ("plan-pll", 0, planned()),
+        ("plan-pll-by-worksheet", 0, planned()),
     ]
+}
+
+/// The original has no such call: a plain writing of the same numbers (page.rs).
+fn planned() -> Work {
+    Box::new(|| {
+        black_box(page::pll(black_box(1), black_box(28_800_000), black_box(102_300_000)));
+    })
 }
 
 /// The recorder's own share: begin, then `n` entries of two bytes with one transfer each.

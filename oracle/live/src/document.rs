@@ -1,8 +1,8 @@
-//! What must come back from a call at the byte boundary: the harness's answer, and document 01's rule for what the harness
+//! What must come back from a call at the byte boundary: the harness's answer by documents 01 and 02, and document 01's rule for what the harness
 //! has no place for (slices for next records that are too short, FIR bytes of another length).
 use crate::given::Given;
-use harness::answer::answer;
 use harness::case::{Answer, By, Case};
+use harness::requests::answer;
 
 pub fn wanted(given: &Given) -> Answer {
     let case = &given.case;

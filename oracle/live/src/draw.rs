@@ -8,6 +8,7 @@ use harness::cases::{self, MHZ, replies_for};
 use harness::dice::Dice;
 use harness::page;
 use harness::records::{Driver, Tuner};
+use harness::requests;
 
 /// What a host would hold of one receiver: the records last handed back, and the last section made.
 #[derive(Debug, Clone)]
@@ -29,8 +30,9 @@ impl Receiver {
 
 /// How often each call is drawn, by its number: those with more to go wrong more often.
 pub fn pick_call(dice: &mut Dice) -> u8 {
-    const HEAVY: [(u8, u64); 11] = [(3, 22), (4, 6), (2, 3), (9, 3), (19, 6), (20, 4), (10, 2), (21, 3), (22, 2), (33, 3), (38, 3)];
-    let mut at = dice.below(HEAVY.iter().map(|heavy| heavy.1).sum::<u64>() + 38);
+    const HEAVY: [(u8, u64); 13] =
+        [(3, 22), (4, 6), (2, 3), (9, 3), (19, 6), (20, 4), (10, 2), (21, 3), (22, 2), (33, 3), (38, 3), (39, 3), (40, 3)];
+    let mut at = dice.below(HEAVY.iter().map(|heavy| heavy.1).sum::<u64>() + 40);
     for (call, weight) in HEAVY {
         if at < weight {
             return call;
@@ -169,6 +171,7 @@ fn fit(case: &mut Case) {
         11 | 31 | 32 => (case.a, case.b) = (case.a & byte, case.b & byte),
         12 => (case.a, case.b, case.c) = (case.a & byte, case.b & byte, case.c & byte),
         26 => (case.a, case.b, case.c) = (case.a & byte, case.b & u16::MAX as u64, case.c & byte),
+        39 | 40 => case.b &= word,
         _ => {}
     }
 }
@@ -221,7 +224,7 @@ fn lengths(given: &mut Given, dice: &mut Dice) {
     }
     let which = if dice.below(4) == 0 { dice.byte() } else { 1 << dice.below(5) };
     let (entries, replies) = page::most(call).unwrap_or((0, 0));
-    let room = if entries > 0 { 16 * entries + 8 } else { page::answered(call).unwrap_or(0) };
+    let room = if entries > 0 { 16 * entries + 8 } else { requests::answered(call).unwrap_or(0) };
     if which & 1 != 0 {
         given.case.room = shorter(room, dice);
     }

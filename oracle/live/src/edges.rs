@@ -28,8 +28,8 @@ fn lo(dice: &mut Dice, tuner: &Tuner) -> u64 {
             (product / step * step + dice.below(4_000)).div_ceil(m)
         }
         1 => {
-            // N one less, at, and one more than the most that is taken.
-            let most = if tuner.kind == 1 { 128 } else { 64 };
+            // N one less, at, and one more than the most and the least that is taken.
+            let most = dice.pick(&[if tuner.kind == 1 { 128 } else { 64 }, 13]);
             (2 * tuner.corrected as u64 * most / m).wrapping_add(dice.below(5)).wrapping_sub(2)
         }
         2 => near(dice, &[1 << 58, 1 << 59, 1 << 63, 0]),
@@ -92,6 +92,19 @@ fn xtal(dice: &mut Dice) -> u64 {
 
 const BANDS: [u64; 8] = [2_200_000, 28_800_000, 85_000_000, 112_000_000, 172_000_000, 242_000_000, 250_000_000, u64::MAX - 28_800_000];
 
+/// lo, reference and kind of the two leaves of #111: those of a tune, on a record with such a reference.
+fn figures(dice: &mut Dice) -> (u64, u64, u64) {
+    let reference = match dice.below(4) {
+        0 => xtal(dice),
+        1 => near(dice, &[68_076_924, 138_461_538, 16_000_000, 7_031_250]),
+        2 => dice.within(60_000_000, 150_000_000),
+        _ => 28_800_000,
+    };
+    let kind = dice.below(2) as u8;
+    let tuner = Tuner::fresh(kind, (reference as u32).max(1), 0x74);
+    (lo(dice, &tuner), reference, if dice.below(6) == 0 { dice.pick(&[2, 255, 256, 1 << 32, u64::MAX]) } else { kind as u64 })
+}
+
 /// Puts edges in the place of a case's arguments. Its records are there already.
 pub fn arguments(case: &mut Case, dice: &mut Dice) {
     match case.call {
@@ -116,6 +129,7 @@ pub fn arguments(case: &mut Case, dice: &mut Dice) {
         28 | 35 => (case.a, case.b) = (rate(dice), xtal(dice)),
         31 | 32 => (case.a, case.b) = (dice.pick(&[7, 8, 9, 16, 128, 255]), dice.pick(&[0, 1, 2, 255])),
         33 => (case.a, case.c) = (near(dice, &BANDS), dice.pick(&[0, 1, 1, 1, 2, 255, 256, u64::MAX])),
+        39 | 40 => (case.a, case.b, case.c) = figures(dice),
         _ => {}
     }
 }

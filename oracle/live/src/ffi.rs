@@ -67,5 +67,7 @@ unsafe extern "C" {
     pub fn pasetone_resample_regs(rate: u32, xtal: u32, out: Out, mn: N) -> Reply;
     pub fn pasetone_pack_fir(values: In, vn: N, out: Out, mn: N) -> Reply;
     pub fn pasetone_unpack_fir(bytes: In, bn: N, out: Out, mn: N) -> Reply;
+    pub fn pasetone_plan_pll(kind: u64, lo: u64, reference: u32, out: Out, mn: N) -> Reply;
+    pub fn pasetone_plan_pll_by_worksheet(kind: u64, lo: u64, reference: u32, out: Out, mn: N) -> Reply;
     pub fn pasetone_read_section(bytes: In, bn: N) -> Section;
 }

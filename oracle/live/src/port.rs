@@ -112,6 +112,8 @@ fn leaf(c: &Case, f: &mut Found) -> Reply {
             35 => pasetone_resample_regs(c.a as u32, c.b as u32, m, mn),
             36 => pasetone_pack_fir(i, n, m, mn),
             37 => pasetone_unpack_fir(i, n, m, mn),
+            39 => pasetone_plan_pll(c.c, c.a, c.b as u32, m, mn),
+            40 => pasetone_plan_pll_by_worksheet(c.c, c.a, c.b as u32, m, mn),
             _ => {
                 // The reader's answer in the harness's form: value is where the entries start.
                 let Section { start, count, refusal, zero } = pasetone_read_section(i, n);

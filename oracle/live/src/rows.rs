@@ -81,6 +81,14 @@ unsafe fn baseband(m: &mut Memory) -> Reply {
     let (o, on) = part(&m.outcomes);
     unsafe { pasetone_init_baseband(o, on, m.room.as_mut_ptr(), m.room.len()) }
 }
+unsafe fn plan(m: &mut Memory) -> Reply {
+    unsafe { pasetone_plan_pll(black_box(1), black_box(102_300_000), black_box(28_800_000), m.room.as_mut_ptr(), m.room.len()) }
+}
+unsafe fn plan_by_worksheet(m: &mut Memory) -> Reply {
+    unsafe {
+        pasetone_plan_pll_by_worksheet(black_box(1), black_box(102_300_000), black_box(28_800_000), m.room.as_mut_ptr(), m.room.len())
+    }
+}
 unsafe fn read(m: &mut Memory) -> Reply {
     let (t, tn) = part(&m.tuner);
     unsafe { pasetone_get_if_freq(t, tn) }
@@ -105,6 +113,8 @@ pub fn rows() -> Vec<(&'static str, usize, Work)> {
         ("sample-rate", 17, work(19, vec![], 17, rate)),
         ("initialise", 19, work(2, vec![], 19, initialise)),
         ("baseband", 45, work(21, vec![], 45, baseband)),
+        ("plan-pll", 0, work(39, vec![], 0, plan)),
+        ("plan-pll-by-worksheet", 0, work(40, vec![], 0, plan_by_worksheet)),
         ("read-record", 0, work(14, vec![], 0, read)),
         ("read-and-write-record", 0, work(12, vec![], 0, read_and_write)),
     ]

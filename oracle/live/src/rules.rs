@@ -1,9 +1,10 @@
 //! The rows of docs/DIFFERENCES.md that a call at the boundary can reach, each by its exact inputs. Such a case is held to
-//! document 01's answer like any other; what a row excuses is that the original answers otherwise. That it does is looked at
+//! the documents' answer like any other; what a row excuses is that the original answers otherwise. That it does is looked at
 //! too (raw.rs): a row that names an input on which the original agrees is a fault here, and so is one that no case reached.
 use crate::given::Given;
 use harness::page;
 use harness::records::{Driver, Tuner};
+use harness::requests;
 
 /// Overflow panics in this build of the original, as in a debug build.
 pub const PANICS: bool = cfg!(debug_assertions);
@@ -14,7 +15,7 @@ pub struct Rule {
 }
 
 #[rustfmt::skip]
-pub const RULES: [Rule; 18] = [
+pub const RULES: [Rule; 19] = [
     Rule { row: 1, inputs: "tune: hz not 0, hz + IF of 2^64 or more, and the wrapped sum is not tunable" },
     Rule { row: 2, inputs: "tune: the same, and the wrapped sum is tunable" },
     Rule { row: 3, inputs: "tune: lo of 2^58 or more, all lent, entries 0 to 11 done, no wrapped product tunable; differs where overflow panics" },
@@ -33,6 +34,7 @@ pub const RULES: [Rule; 18] = [
     Rule { row: 16, inputs: "resample_regs, set_sample_rate_xtal: rate not 0, reference 0" },
     Rule { row: 18, inputs: "fresh tuner: kind above 1, or nominal not 1 to 4,294,967,295" },
     Rule { row: 19, inputs: "FIR packer: 64 bytes, a value past its width" },
+    Rule { row: 20, inputs: "tune: N below 13, all lent, entries 0 to 11 done" },
 ];
 
 /// The row that names this case, if one does.
@@ -83,6 +85,7 @@ fn tune(given: &Given) -> Option<u8> {
     match (hz, wraps) {
         (0, _) => None,
         (_, true) => Some(if tunable { 2 } else { 1 }),
+        _ if requests::too_small(&given.case) => (all_lent(given) && done(given, 12)).then_some(20),
         _ if lo >= 1 << 58 && all_lent(given) && done(given, 12) => Some(if tunable { 4 } else { 3 }),
         _ => None,
     }

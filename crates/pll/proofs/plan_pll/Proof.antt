@@ -8,7 +8,7 @@ use Rattle.pll.specs.declared.Sum.{Sum}
 use Rattle.pll.specs.Divide.{dividerOf}
 use Rattle.pll.proofs.Dividers.{found}
 use Rattle.pll.proofs.Fractions.{sum-fits}
-use Rattle.pll.proofs.Plans.{cap-most, no-reference, no-divider, too-fast, planned, put-together}
+use Rattle.pll.proofs.Plans.{cap-most, no-reference, no-divider, too-slow, too-fast, planned, put-together}
 use borrow.Author.Needs.{needs}
 use Rattle.pll.proofs.plan_pll.Statement.{statement}
 use Rattle.pll.proofs.plan_pll.Tie as tie
@@ -36,8 +36,8 @@ bounded : (c : tie.After-known-told) → c .before .before .before .before .befo
 bounded c = found _ _ _ (came c) .high
 
 -- where the cap was passed: N is below 128
-within : (c : tie.Else2) → c .before .before .before .before .before .before .before .args .lo * c .before .before .before .m .given .0 .0 / (2 * c .before .before .before .before .before .before .before .args .r) < 128
-within c = omega (arith, c .if2 .left, c .before .cap .ensures, cap-most (c .before .before .before .before .before .before .before .args .kind))
+within : (c : tie.Else3) → c .before .before .before .before .before .before .before .before .args .lo * c .before .before .before .before .m .given .0 .0 / (2 * c .before .before .before .before .before .before .before .before .args .r) < 128
+within c = omega (arith, c .if3 .left, c .before .cap .ensures, cap-most (c .before .before .before .before .before .before .before .before .args .kind))
 
 mul-vco : tie.Need-mul-vco
 mul-vco c = omega (arith, bounded c)
@@ -48,18 +48,22 @@ mul-n c = search needs
 div-n : tie.Need-div-n
 div-n c = search needs
 
+returns-3 : tie.Need-returns-3
+returns-3 c = sym (too-slow _ _ _ _ _ (came (c .before)) (c .if2 .taken))
+
 cap-requires : tie.Need-cap-requires
 cap-requires c κs = search needs
 
-returns-3 : tie.Need-returns-3
-returns-3 c = sym (too-fast _ _ _ _ _ (came (c .before .before)) (omega (arith, c .if2 .taken, c .before .cap .ensures)))
+returns-4 : tie.Need-returns-4
+returns-4 c =
+    sym (too-fast _ _ _ _ _ (came (c .before .before .before)) (c .before .before .if2 .left) (omega (arith, c .if3 .taken, c .before .cap .ensures)))
 
 mul-f : tie.Need-mul-f
 mul-f c = search needs
 
 mul-f-2 : tie.Need-mul-f-2
 mul-f-2 c =
-    omega (arith, bounded (c .before .before), mul-div-le (c .before .before .before .before .before .before .before .args .lo * c .before .before .before .m .given .0 .0) (2 * c .before .before .before .before .before .before .before .args .r))
+    omega (arith, bounded (c .before .before .before), mul-div-le (c .before .before .before .before .before .before .before .before .args .lo * c .before .before .before .before .m .given .0 .0) (2 * c .before .before .before .before .before .before .before .before .args .r))
 
 sub-f : tie.Need-sub-f
 sub-f c = mul-div-le _ _
@@ -76,11 +80,11 @@ cast-small c = omega (arith, within (c .before .before))
 cast-short : tie.Need-cast-short
 cast-short c = record { fits = subst (λ (s : Sum). s .sum < 2 ^ 16) (sym (c .fraction .ensures)) (sum-fits _ _) }
 
-returns-4 : tie.Need-returns-4
-returns-4 c =
+returns-5 : tie.Need-returns-5
+returns-5 c =
     put-together _ _ _ _ _ _ (c .before .setting .ensures) (c .fraction .ensures)
     ∙ sym
-    (planned _ _ _ _ _ (c .before .before .before .before .before .before .before .before .if1 .left) (came (c .before .before .before .before)) (omega (arith, c .before .before .if2 .left, c .before .before .before .cap .ensures)))
+    (planned _ _ _ _ _ (c .before .before .before .before .before .before .before .before .before .if1 .left) (came (c .before .before .before .before .before)) (c .before .before .before .before .if2 .left) (omega (arith, c .before .before .if3 .left, c .before .before .before .cap .ensures)))
 
 pub plan-pll-spec : {M : Type 1} → statement M
 plan-pll-spec =
@@ -94,8 +98,9 @@ plan-pll-spec =
     mul-vco
     mul-n
     div-n
-    cap-requires
     returns-3
+    cap-requires
+    returns-4
     mul-f
     mul-f-2
     sub-f
@@ -103,4 +108,4 @@ plan-pll-spec =
     fraction-requires
     cast-small
     cast-short
-    returns-4)
+    returns-5)

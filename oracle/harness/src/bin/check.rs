@@ -6,7 +6,7 @@ use harness::cases::{self, plain, replies_for};
 use harness::dice::Dice;
 use harness::records::{Driver, Tuner};
 use harness::tally::Tally;
-use harness::{judge, page, run, steps};
+use harness::{judge, page, requests, run, steps};
 use original::tuners::r82xx;
 
 const MHZ: u64 = 1_000_000;
@@ -261,11 +261,11 @@ fn refusals(tally: &mut Tally) {
     want(Case { d: -1_000_000i32 as u32, ..plain(16) }, 4, "correction at the driver's making");
 }
 
-/// The stored list's own cases, all of them, with the USB transfers of each run held against its entries.
+/// The stored list's own cases, all of them, by documents 01 and 02, with the USB transfers of each run held against its entries.
 fn listed(tally: &mut Tally) {
     rusb::rec::with(|r| r.keep = true);
     for case in [cases::calls(), cases::fir(), cases::sections()].concat() {
-        let found = answer(&case);
+        let found = requests::answer(&case);
         let transfers = rusb::rec::with(|r| std::mem::take(&mut r.transfers));
         if found.section.is_some() {
             let wanted: Vec<_> = judge::entries(&found).iter().flat_map(steps::transfers).collect();

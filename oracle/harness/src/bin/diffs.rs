@@ -5,6 +5,7 @@ use harness::case::Case;
 use harness::cases::{plain, replies_for};
 use harness::judge;
 use harness::records::{Driver, Tuner};
+use harness::requests;
 use harness::run::{self, block_on};
 use original::device::HardwareInterface;
 use original::tuner::{Tuner as Calls, TunerType};
@@ -242,15 +243,18 @@ fn makings() {
         let found = rust(|| demod::packer::pack_with(fir(at, value)).iter().map(|byte| format!("{byte:02x}")).collect::<String>());
         row(number, &format!("FIR value {at} is {value}"), found, page(Case { input, ..plain(36) }));
     }
-    let low = Tuner { intermediate: 0, ..Tuner::fresh(1, 100_000_000, 0x74) };
-    let ruling = answer(&Case { a: 885 * MHZ, tuner: low.bytes(), ..plain(3) });
-    let byte = judge::entries(&ruling)[13][9];
-    row(
-        "20",
-        "N below 13: reference 100000000, lo 885000000",
-        rust(|| tuned(&run::chip(&low), 885 * MHZ)),
-        format!("the same: 0x14 gets {byte:#04x}"),
-    );
+    for (number, reference) in [("20", 68_076_924), ("20a", 100_000_000)] {
+        let low = Tuner { intermediate: 0, ..Tuner::fresh(1, reference, 0x74) };
+        let case = Case { a: 885 * MHZ, tuner: low.bytes(), ..plain(3) };
+        let byte = judge::entries(&answer(&case))[13][9];
+        let later = requests::answer(&case);
+        row(
+            number,
+            &format!("N below 13: reference {reference}, lo 885000000"),
+            rust(|| tuned(&run::chip(&low), 885 * MHZ)),
+            format!("the same: 0x14 gets {byte:#04x}; document 02: refused {}, {} entries", later.refusal, later.count),
+        );
+    }
 }
 
 /// The packets of pages above 15 and registers above 0xff are those of others; the entries tell them apart.

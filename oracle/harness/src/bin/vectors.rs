@@ -1,6 +1,6 @@
 //! Writes the stored list (docs/VECTORS.md) to the path given: calls, FIR, section reader.
 use harness::case::{Answer, By, Case, list};
-use harness::{answer::answer, cases};
+use harness::{cases, requests::answer};
 
 fn answered(name: &str, cases: Vec<Case>) -> Vec<u8> {
     let all: Vec<(Case, Answer)> = cases.into_iter().map(|case| (case.clone(), answer(&case))).collect();
@@ -13,7 +13,7 @@ fn answered(name: &str, cases: Vec<Case>) -> Vec<u8> {
         .collect();
     let bytes = list(&all);
     println!(
-        "{name}: {} cases, {entries} entries, {} bytes; by the Rust {}, by document 01 before it {}, over it {}; refusals {}",
+        "{name}: {} cases, {entries} entries, {} bytes; by the Rust {}, by the documents before it {}, over it {}; refusals {}",
         all.len(),
         bytes.len(),
         by(By::Rust),

@@ -1,5 +1,5 @@
 //! Tune: rows, dividers, N, F, repair, lock, failures, refusals.
-use super::{MHZ, TUNED, around, at_every_step, plain, random_tuner, replies_for};
+use super::{MHZ, TUNED, around, at_every_step, plain, random, random_tuner, replies_for};
 use crate::case::Case;
 use crate::dice::Dice;
 use crate::records::Tuner;
@@ -120,5 +120,48 @@ fn tune_refused(all: &mut Vec<Case>) {
         all.push(case.clone());
         case.outcomes[3] = 9;
         all.push(case);
+    }
+}
+
+/// Document 02, #111: tunes about an N of 13, and the two leaves that answer the PLL's numbers, at the same places.
+pub fn figures(all: &mut Vec<Case>, dice: &mut Dice) {
+    let mut places = vec![(1, 28_800_000, 102_300_000)];
+    for (i, lo) in DIVIDERS.into_iter().enumerate() {
+        places.extend(around(lo).map(|lo| ((i % 2) as u8, 28_800_000, lo)));
+    }
+    // About the first reference at which an N is below 13, at the lowest lo·m, and about the last at which one is not, at the highest.
+    let least = [
+        (68_076_923, 885_000_000),
+        (68_076_924, 885_000_000),
+        (68_076_924, 885_000_012),
+        (138_461_538, 1_799_999_999),
+        (138_461_539, 1_799_999_999),
+    ];
+    let other = [
+        (100_000_000, 885_000_000),
+        (68_076_924, 27_656_250),
+        (16_000_000, 1_023_999_999),
+        (16_000_000, 1_024_000_000),
+        (u32::MAX, 900_000_000),
+        (1, 885_000_000),
+    ];
+    for (reference, lo) in least.into_iter().chain(other) {
+        places.extend((0..2).flat_map(|kind| around(lo).map(move |lo| (kind, reference, lo))));
+    }
+    for (kind, reference, lo) in places {
+        if reference > 28_800_000 {
+            all.push(at_lo(kind, reference, lo, 1));
+        }
+        all.extend([39, 40].map(|call| Case { a: lo, b: reference as u64, c: kind as u64, ..plain(call) }));
+    }
+    let low = at_lo(1, 100_000_000, 885_000_000, 1);
+    all.extend(at_every_step(&low).into_iter().take(14));
+    for call in [39, 40] {
+        let kinds = [2, 256, u64::MAX].map(|c| Case { c, ..plain(call) });
+        all.extend(kinds);
+        all.extend([Case { b: 0, ..plain(call) }, Case { b: 0, c: 2, ..plain(call) }, Case { b: 0, a: 0, ..plain(call) }]);
+        all.extend([0, 1, 4].map(|room| Case { room, ..plain(call) }));
+        all.extend([Case { a: 0, room: 0, ..plain(call) }, Case { a: u64::MAX, ..plain(call) }, Case { a: 1 << 58, ..plain(call) }]);
+        all.extend((0..12).map(|_| random(call, dice)));
     }
 }

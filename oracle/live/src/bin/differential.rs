@@ -16,8 +16,8 @@ use live::sabotage::{SPOILS, spoiled};
 use live::{document, ffi, numbers, port, raw, rules};
 use std::collections::BTreeMap;
 
-/// The version that the boundary is written against: 1.0.0.
-const VERSION: u32 = 0x0001_0000;
+/// The version that the boundary is written against: 1.1.0.
+const VERSION: u32 = 0x0001_0100;
 
 fn class(given: &Given, wanted: &Answer, tally: &mut Tally) -> Class {
     let row = rules::row(given);
@@ -86,8 +86,8 @@ fn self_test() -> ! {
     let (mut tally, mut found_by) = (Tally::default(), BTreeMap::new());
     let mut dice = Dice(0x7370_6f69_6c);
     let mut receiver = Receiver::fresh(&mut dice);
-    for turn in 0..38 * 40u32 {
-        let given = draw::draw((turn % 38) as u8 + 1, &receiver, &mut dice);
+    for turn in 0..40 * 40u32 {
+        let given = draw::draw((turn % 40) as u8 + 1, &receiver, &mut dice);
         let (wanted, found) = (document::wanted(&given), port::call(&given));
         for (name, bad) in (0..SPOILS).filter_map(|how| spoiled(&found, how)) {
             let seen = bad.against(&given, &wanted).is_some();

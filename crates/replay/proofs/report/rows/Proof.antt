@@ -5,10 +5,10 @@ use Rattle.replay.proofs.report.rows.Statement.{statement}
 use Rattle.replay.proofs.report.rows.Tie as tie
 
 abbrev Inv-loop : tie.InvT-loop
-Inv-loop tally call₀ call = call ≤ 39
+Inv-loop tally call₀ call = call ≤ 41
 
 abbrev μ-loop : tie.MeasureT-loop
-μ-loop tally call₀ call = 39 - call
+μ-loop tally call₀ call = 41 - call
 
 loop-holds : tie.Need-loop-holds Inv-loop μ-loop
 loop-holds c = search needs

@@ -1,0 +1,4 @@
+pub mod Agree
+pub mod Cases
+pub mod Parts
+pub mod Tables

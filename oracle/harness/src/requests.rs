@@ -1,0 +1,76 @@
+//! Document 02's rules, written from its text: what the answers, the vectors and the live runs go by. page.rs and answer.rs
+//! stay document 01; this file answers first where a request asks for something else.
+use crate::answer;
+use crate::case::{Answer, By, Case};
+use crate::page;
+use crate::records::Tuner;
+use crate::run::{self, run};
+use original::tuner::Tuner as Calls;
+
+/// Length of a call's answered bytes.
+pub fn answered(call: u8) -> Option<usize> {
+    if matches!(call, 39 | 40) { Some(5) } else { page::answered(call) }
+}
+
+pub fn answer(case: &Case) -> Answer {
+    match case.call {
+        3 if too_small(case) => as_above_the_band(case),
+        39 | 40 => figures(case),
+        _ => answer::answer(case),
+    }
+}
+
+/// #111: "N below 13 is refused, which the Rust takes".
+pub fn below_least(kind: u8, reference: u64, lo: u64) -> bool {
+    page::pll(kind, reference, lo).is_some_and(|plan| plan.n < 13)
+}
+
+/// A tune that gets as far as the PLL, on a record that is one, and has such an N there.
+pub fn too_small(case: &Case) -> bool {
+    let Some(tuner) = Tuner::read(&case.tuner) else { return false };
+    let lo = case.a.checked_add(tuner.intermediate);
+    case.a != 0 && lo.is_some_and(|lo| below_least(tuner.kind, tuner.corrected as u64, lo))
+}
+
+/// "It leaves the mux's writes, like the cap": the Rust on the same hz, with an IF that puts lo above the band. The mux sees hz alone.
+fn as_above_the_band(case: &Case) -> Answer {
+    let mut tuner = Tuner::read(&case.tuner).expect("looked at before");
+    let own = std::mem::replace(&mut tuner.intermediate, 1_800_000_000);
+    let mut answer = answer::answer(&Case { tuner: tuner.bytes(), ..case.clone() });
+    answer.tuner = answer.tuner.map(|bytes| Tuner { intermediate: own, ..Tuner::read(&bytes).expect("a record") }.bytes());
+    if answer.section.is_some() {
+        answer.by = By::PageOverRust;
+    }
+    answer
+}
+
+/// The two leaves of #111: "the same divider, N, S, rest and refusal". "At the host's leaves: a kind that is none 1, a reference of 0 is 4, then 2"
+/// (docs/DECISIONS.md). What is sent to the chip is the Rust's; the rest, which it does not send, is the page's.
+fn figures(case: &Case) -> Answer {
+    let (lo, reference, kind) = (case.a, case.b as u32, case.c);
+    if kind > 1 {
+        return Answer::refused(1, By::Page);
+    }
+    if reference == 0 {
+        return Answer::refused(4, By::Page);
+    }
+    let plan = page::pll(kind as u8, reference as u64, lo).filter(|plan| plan.n >= 13);
+    let Some(plan) = plan else { return Answer::refused(2, By::Page) };
+    if case.room < 5 {
+        return Answer::refused(8, By::Page);
+    }
+    let (m, byte, sum) = sent(kind as u8, reference, lo);
+    let n = 13 + 4 * (byte & 0x3f) + (byte >> 6);
+    assert_eq!((m as u64, n as u64, sum as u64), (plan.m, plan.n, plan.s), "the Rust and the page part");
+    let [low, high] = sum.to_le_bytes();
+    Answer { by: By::Page, value: plan.rest, answered: vec![m, n, byte, low, high], ..Answer::default() }
+}
+
+/// m, 0x14's byte and S as the Rust sends them in a tune to this lo at an IF of 0: entries 12, 13, 14, 15.
+fn sent(kind: u8, reference: u32, lo: u64) -> (u8, u8, u16) {
+    let mut tuner = Tuner::fresh(kind, reference, 0x74);
+    tuner.intermediate = 0;
+    let (result, made) = run(&[0; 53], &[0; 35], || run::chip(&tuner).set_frequency(lo));
+    result.expect("a lo that is taken");
+    (2 << (made[12][9] >> 5), made[13][9], (made[14][9] as u16) << 8 | made[15][9] as u16)
+}
