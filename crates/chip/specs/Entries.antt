@@ -3,12 +3,11 @@
 use Prim.Native.Nat.{ℕ, _+_, _%_, _^_}
 use mathlib.Core.Bool.{Bool, true, false, cond, not, _&&_, _||_}
 use mathlib.Core.List.{List, [], _∷_}
-use lib.Bits.{bitAnd}
 use lib.Dec.{eqb}
 use lib.ListN.{getD}
 use Rattle.transcript.specs.declared.Entry.{Entry}
 use Rattle.transcript.specs.Entries.{zeros8}
-use Rattle.status.specs.Reversal.{reversed}
+use Rattle.status.specs.Reversal.{lockedBy}
 use Rattle.chip.specs.declared.Seen.{Seen}
 
 -- "outcome (0 done, 1 failed)"
@@ -57,10 +56,7 @@ settled e ok =
       bytes = cond ((eqb (e .kind) 3 || eqb (e .kind) 8) && not ok) zeros8 (e .bytes);
     }
 
--- the lock bit of a status of three bytes, whose bits are reversed
-abbrev pub lockedBy : ℕ → Bool
-lockedBy byte = not (eqb (bitAnd (reversed byte) 0x40) 0)
-
+-- the lock bit of a status of three bytes
 abbrev pub lockBit : Entry → Bool
 lockBit e = lockedBy (getD (e .bytes) 2 0)
 

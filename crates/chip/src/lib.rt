@@ -222,7 +222,7 @@ fn looked(s: Seen, e: Entry) -> Seen
     if (e.kind == transcript::I2C_READ) & (e.n == 3) & (e.outcome == 0) {
         return Seen {
             tries: std::num::wrapping_add_u16(s.tries, 1),
-            locked: s.locked | (status::bit_reverse(e.bytes[2]) & 0x40 != 0),
+            locked: s.locked | status::locks(e.bytes[2]),
         };
     }
     s

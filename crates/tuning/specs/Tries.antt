@@ -8,10 +8,10 @@ use lib.Bits.{bitAnd}
 use lib.Dec.{eqb, ltb}
 use lib.ListN.{getD, take, drop}
 use lib.Seq.{sets}
-use Rattle.status.specs.Reversal.{reversed}
+use Rattle.status.specs.Reversal.{lockedBy, reversed}
 use Rattle.chip.specs.declared.Update.{Update}
 use Rattle.transcript.specs.Entries.{zeros8}
-use Rattle.chip.specs.Entries.{lockedBy, pointer, readEntry, wait}
+use Rattle.chip.specs.Entries.{pointer, readEntry, wait}
 use Rattle.chip.specs.Steps.{Step, masked, updates}
 use Rattle.chip.specs.Steps.Step.{Mask, Plain}
 use Rattle.pll.specs.declared.Kind.{Kind}

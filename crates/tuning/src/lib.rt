@@ -8,7 +8,7 @@ ghost use Prim.Native.Nat.{_+_, _-_, _*_, _≤_, _<_};
 ghost use lib.Dec.{eqb};
 ghost use lib.ListN.{length, getD};
 ghost use Rattle.chip.specs.declared.Chip.{Chip};
-ghost use Rattle.chip.specs.Entries.{lockedBy, pointer, readEntry, wait};
+ghost use Rattle.chip.specs.Entries.{pointer, readEntry, wait};
 ghost use Rattle.chip.specs.Steps.{closing, due, inRoom, listed, masked, onLog, onRoom, run, updates};
 ghost use Rattle.chip.specs.Steps.Step.{Plain};
 ghost use Rattle.tuning.specs.Mux.{laterOf, muxUpdates, pllUpdates, rangeOf};
@@ -260,13 +260,6 @@ fn repair(kind: Kind, number: u8, byte: u8) -> Updates
     chip::NO_UPDATES
 }
 
-// The third status byte's lock bit.
-fn locks(byte: u8) -> bool
-    ensures { λ r. ⌜ r ≡ lockedBy byte ⌝ }
-{
-    status::bit_reverse(byte) & 0x40 != 0
-}
-
 // The entries of a try's read.
 fn try_entries(l: Log, address: u8, bytes: [u8; 8], outcomes: &[u8], room: &mut [u8]) -> Log
     requires { ⌜ (l .count + 2 + due (l .held) ≤ length (now outcomes)) × (16 * (l .count + 2 + due (l .held)) ≤ length (now room)) ⌝ }
@@ -366,13 +359,15 @@ fn wait_pll_lock_raw(f: Flow, outcomes: &[u8], replies: &[u8], room: &mut [u8]) 
     };
     let mut i: usize = 0;
     while i < 10 {
+        // Looked at after the try, but read before it: there its byte is at hand from the try's own.
+        let locked = status::locks(replies[7 + 3 * i]);
         f = read_try(f, i, outcomes, replies, room);
         let log = f.log;
         let went = log.went;
         let Went::Going = went else {
             return chip::close_repeater(f, outcomes, room);
         };
-        if locks(replies[7 + 3 * i]) {
+        if locked {
             return after_lock(f, outcomes, room);
         }
         f = after_try(f, i, outcomes, room);

@@ -7,15 +7,15 @@ use Rattle.chip.proofs.looked.Tie as tie
 wrapping-add-u16-requires : tie.Need-wrapping-add-u16-requires
 wrapping-add-u16-requires c κs = search needs
 
-element-copy-out-bit-reverse : tie.Need-element-copy-out-bit-reverse
-element-copy-out-bit-reverse c = search needs
+element-copy-out-locks : tie.Need-element-copy-out-locks
+element-copy-out-locks c = search needs
 
-bit-reverse-requires : tie.Need-bit-reverse-requires
-bit-reverse-requires c κs = search needs
+locks-requires : tie.Need-locks-requires
+locks-requires c κs = search needs
 
 returns : tie.Need-returns
 unfolding look
-returns c = simp (c .before .before .before .wrapping-add-u16 .ensures, c .before .bit-reverse .ensures, c .before .before .before .before .if1 .taken)
+returns c = simp (c .before .before .before .wrapping-add-u16 .ensures, c .before .locks .ensures, c .before .before .before .before .if1 .taken)
 
 returns-2 : tie.Need-returns-2
 unfolding look
@@ -26,7 +26,7 @@ looked-spec =
     tie.close
     (tie.spec
     wrapping-add-u16-requires
-    element-copy-out-bit-reverse
-    bit-reverse-requires
+    element-copy-out-locks
+    locks-requires
     returns
     returns-2)

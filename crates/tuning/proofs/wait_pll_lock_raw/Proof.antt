@@ -37,24 +37,6 @@ returns c = (c .before .before .close-repeater .ensures .0 ∙ stop inRoom _ (tr
 loop-holds : tie.Need-loop-holds Inv-loop μ-loop
 loop-holds c = (search needs, (refl, (search needs, (closing-going inRoom _ _ (ap goes (c .enum-told .given .1)), (refl, refl)))))
 
-read-try-requires : tie.Need-read-try-requires Inv-loop μ-loop
-read-try-requires c κs = search needs
-
-enum-told-3 : tie.Need-enum-told-3 Inv-loop μ-loop
-enum-told-3 c = search needs
-
-enum-told-4 : tie.Need-enum-told-4 Inv-loop μ-loop
-enum-told-4 c = search needs
-
-close-repeater-requires-2 : tie.Need-close-repeater-requires-2 Inv-loop μ-loop
-close-repeater-requires-2 c κs = omega (arith, c .before .before .before .before .before .before .read-try .ensures .1, c .before .before .before .before .before .before .read-try .kept, c .before .before .before .before .before .before .before .before .before .loop .inv, c .before .before .before .before .before .before .before .before .loop-test .taken, c .before .before .before .before .before .before .before .before .before .before .before .before .before .before .before .before .pre)
-
-same-length-2 : tie.Need-same-length-2 Inv-loop μ-loop
-same-length-2 c = omega (arith, c .before .before .close-repeater2 .kept, c .before .before .before .before .before .before .before .before .before .read-try .kept, c .before .before .before .before .before .before .before .before .before .before .before .before .loop .inv)
-
-returns-2 : tie.Need-returns-2 Inv-loop μ-loop
-returns-2 c = (c .before .before .close-repeater2 .ensures .0 ∙ cut-try inRoom _ (c .before .before .before .before .before .before .before .before .before .before .before .before .before .before .before .before .before .before .before .args .f .chip .address) (now (c .before .before .before .before .before .before .before .before .before .before .before .before .before .before .before .before .before .before .before .args .replies)) (c .before .before .before .before .before .before .before .before .before .before .before .before .loop .i) (omega (arith, c .before .before .before .before .before .before .before .before .before .before .before .loop-test .taken)) _ _ (swap inRoom _ _ _ _ _ (try-address _ _ (now (c .before .before .before .before .before .before .before .before .before .before .before .before .before .before .before .before .before .before .before .args .replies)) (c .before .before .before .before .before .before .before .before .before .before .before .before .loop .i) (c .before .before .before .before .before .before .before .before .before .before .before .before .loop .inv .1 .1 .1 .1 .1)) (c .before .before .before .before .before .before .before .before .before .read-try .ensures .0)) (ap goes (c .before .before .before .before .enum-told4 .given .1)) ∙ c .before .before .before .before .before .before .before .before .before .before .before .before .loop .inv .1 .1 .1 .1 .0, omega (arith, c .before .before .close-repeater2 .ensures .1, c .before .before .before .before .before .before .before .before .before .read-try .ensures .1, c .before .before .before .before .before .before .before .before .before .read-try .kept, c .before .before .before .before .before .before .before .before .before .before .before .before .loop .inv, c .before .before .before .before .before .before .before .before .before .before .before .loop-test .taken, c .before .before .before .before .before .before .before .before .before .before .before .before .before .before .before .before .before .before .before .pre))
-
 mul-locks : tie.Need-mul-locks Inv-loop μ-loop
 mul-locks c = search needs
 
@@ -67,17 +49,35 @@ shared-slice-read-locks c = search needs
 locks-requires : tie.Need-locks-requires Inv-loop μ-loop
 locks-requires c κs = search needs
 
+read-try-requires : tie.Need-read-try-requires Inv-loop μ-loop
+read-try-requires c κs = search needs
+
+enum-told-3 : tie.Need-enum-told-3 Inv-loop μ-loop
+enum-told-3 c = search needs
+
+enum-told-4 : tie.Need-enum-told-4 Inv-loop μ-loop
+enum-told-4 c = search needs
+
+close-repeater-requires-2 : tie.Need-close-repeater-requires-2 Inv-loop μ-loop
+close-repeater-requires-2 c κs = omega (arith, c .before .before .before .before .before .before .read-try .ensures .1, c .before .before .before .before .before .before .read-try .kept, c .before .before .before .before .before .before .before .before .before .before .before .loop .inv, c .before .before .before .before .before .before .before .before .before .before .loop-test .taken, c .before .before .before .before .before .before .before .before .before .before .before .before .before .before .before .before .before .before .pre)
+
+same-length-2 : tie.Need-same-length-2 Inv-loop μ-loop
+same-length-2 c = omega (arith, c .before .before .close-repeater2 .kept, c .before .before .before .before .before .before .before .before .before .read-try .kept, c .before .before .before .before .before .before .before .before .before .before .before .before .before .before .loop .inv)
+
+returns-2 : tie.Need-returns-2 Inv-loop μ-loop
+returns-2 c = (c .before .before .close-repeater2 .ensures .0 ∙ cut-try inRoom _ (c .before .before .before .before .before .before .before .before .before .before .before .before .before .before .before .before .before .before .before .before .before .args .f .chip .address) (now (c .before .before .before .before .before .before .before .before .before .before .before .before .before .before .before .before .before .before .before .before .before .args .replies)) (c .before .before .before .before .before .before .before .before .before .before .before .before .before .before .loop .i) (omega (arith, c .before .before .before .before .before .before .before .before .before .before .before .before .before .loop-test .taken)) _ _ (swap inRoom _ _ _ _ _ (try-address _ _ (now (c .before .before .before .before .before .before .before .before .before .before .before .before .before .before .before .before .before .before .before .before .before .args .replies)) (c .before .before .before .before .before .before .before .before .before .before .before .before .before .before .loop .i) (c .before .before .before .before .before .before .before .before .before .before .before .before .before .before .loop .inv .1 .1 .1 .1 .1)) (c .before .before .before .before .before .before .before .before .before .read-try .ensures .0)) (ap goes (c .before .before .before .before .enum-told4 .given .1)) ∙ c .before .before .before .before .before .before .before .before .before .before .before .before .before .before .loop .inv .1 .1 .1 .1 .0, omega (arith, c .before .before .close-repeater2 .ensures .1, c .before .before .before .before .before .before .before .before .before .read-try .ensures .1, c .before .before .before .before .before .before .before .before .before .read-try .kept, c .before .before .before .before .before .before .before .before .before .before .before .before .before .before .loop .inv, c .before .before .before .before .before .before .before .before .before .before .before .before .before .loop-test .taken, c .before .before .before .before .before .before .before .before .before .before .before .before .before .before .before .before .before .before .before .before .before .pre))
+
 after-lock-requires : tie.Need-after-lock-requires Inv-loop μ-loop
-after-lock-requires c κs = omega (arith, c .before .before .before .before .before .before .before .before .before .read-try .ensures .1, c .before .before .before .before .before .before .before .before .before .read-try .kept, c .before .before .before .before .before .before .before .before .before .before .before .before .loop .inv, c .before .before .before .before .before .before .before .before .before .before .before .loop-test .taken, c .before .before .before .before .before .before .before .before .before .before .before .before .before .before .before .before .before .before .before .pre)
+after-lock-requires c κs = omega (arith, c .before .before .before .before .before .before .before .read-try .ensures .1, c .before .before .before .before .before .before .before .read-try .kept, c .before .before .before .before .before .before .before .before .before .before .before .before .loop .inv, c .before .before .before .before .before .before .before .before .before .before .before .loop-test .taken, c .before .before .before .before .before .before .before .before .before .before .before .before .before .before .before .before .before .before .before .pre)
 
 same-length-3 : tie.Need-same-length-3 Inv-loop μ-loop
-same-length-3 c = omega (arith, c .before .before .after-lock .kept, c .before .before .before .before .before .before .before .before .before .before .before .before .read-try .kept, c .before .before .before .before .before .before .before .before .before .before .before .before .before .before .before .loop .inv)
+same-length-3 c = omega (arith, c .before .before .after-lock .kept, c .before .before .before .before .before .before .before .before .before .before .read-try .kept, c .before .before .before .before .before .before .before .before .before .before .before .before .before .before .before .loop .inv)
 
 returns-3 : tie.Need-returns-3 Inv-loop μ-loop
-returns-3 c = (lock-try inRoom _ (c .before .before .before .before .before .before .before .before .before .before .before .before .before .before .before .before .before .before .before .before .before .before .args .f .chip .address) (now (c .before .before .before .before .before .before .before .before .before .before .before .before .before .before .before .before .before .before .before .before .before .before .args .replies)) (c .before .before .before .before .before .before .before .before .before .before .before .before .before .before .before .loop .i) (omega (arith, c .before .before .before .before .before .before .before .before .before .before .before .before .before .before .loop-test .taken)) _ _ (swap inRoom _ _ _ _ _ (try-address _ _ (now (c .before .before .before .before .before .before .before .before .before .before .before .before .before .before .before .before .before .before .before .before .before .before .args .replies)) (c .before .before .before .before .before .before .before .before .before .before .before .before .before .before .before .loop .i) (c .before .before .before .before .before .before .before .before .before .before .before .before .before .before .before .loop .inv .1 .1 .1 .1 .1)) (c .before .before .before .before .before .before .before .before .before .before .before .before .read-try .ensures .0)) _ (sym (c .before .before .before .before .before .locks .ensures) ∙ c .before .before .before .before .if1 .taken) (c .before .before .after-lock .ensures .0) ∙ c .before .before .before .before .before .before .before .before .before .before .before .before .before .before .before .loop .inv .1 .1 .1 .1 .0, omega (arith, c .before .before .after-lock .ensures .1, c .before .before .before .before .before .before .before .before .before .before .before .before .read-try .ensures .1, c .before .before .before .before .before .before .before .before .before .before .before .before .read-try .kept, c .before .before .before .before .before .before .before .before .before .before .before .before .before .before .before .loop .inv, c .before .before .before .before .before .before .before .before .before .before .before .before .before .before .loop-test .taken, c .before .before .before .before .before .before .before .before .before .before .before .before .before .before .before .before .before .before .before .before .before .before .pre))
+returns-3 c = (lock-try inRoom _ (c .before .before .before .before .before .before .before .before .before .before .before .before .before .before .before .before .before .before .before .before .before .before .args .f .chip .address) (now (c .before .before .before .before .before .before .before .before .before .before .before .before .before .before .before .before .before .before .before .before .before .before .args .replies)) (c .before .before .before .before .before .before .before .before .before .before .before .before .before .before .before .loop .i) (omega (arith, c .before .before .before .before .before .before .before .before .before .before .before .before .before .before .loop-test .taken)) _ _ (swap inRoom _ _ _ _ _ (try-address _ _ (now (c .before .before .before .before .before .before .before .before .before .before .before .before .before .before .before .before .before .before .before .before .before .before .args .replies)) (c .before .before .before .before .before .before .before .before .before .before .before .before .before .before .before .loop .i) (c .before .before .before .before .before .before .before .before .before .before .before .before .before .before .before .loop .inv .1 .1 .1 .1 .1)) (c .before .before .before .before .before .before .before .before .before .before .read-try .ensures .0)) _ (sym (c .before .before .before .before .before .before .before .before .before .before .before .before .locks .ensures) ∙ c .before .before .before .before .if1 .taken) (c .before .before .after-lock .ensures .0) ∙ c .before .before .before .before .before .before .before .before .before .before .before .before .before .before .before .loop .inv .1 .1 .1 .1 .0, omega (arith, c .before .before .after-lock .ensures .1, c .before .before .before .before .before .before .before .before .before .before .read-try .ensures .1, c .before .before .before .before .before .before .before .before .before .before .read-try .kept, c .before .before .before .before .before .before .before .before .before .before .before .before .before .before .before .loop .inv, c .before .before .before .before .before .before .before .before .before .before .before .before .before .before .loop-test .taken, c .before .before .before .before .before .before .before .before .before .before .before .before .before .before .before .before .before .before .before .before .before .before .pre))
 
 after-try-requires : tie.Need-after-try-requires Inv-loop μ-loop
-after-try-requires c κs = omega (arith, c .before .before .before .before .before .before .before .before .before .read-try .ensures .1, c .before .before .before .before .before .before .before .before .before .read-try .kept, c .before .before .before .before .before .before .before .before .before .before .before .before .loop .inv, c .before .before .before .before .before .before .before .before .before .before .before .loop-test .taken, c .before .before .before .before .before .before .before .before .before .before .before .before .before .before .before .before .before .before .before .pre)
+after-try-requires c κs = omega (arith, c .before .before .before .before .before .before .before .read-try .ensures .1, c .before .before .before .before .before .before .before .read-try .kept, c .before .before .before .before .before .before .before .before .before .before .before .before .loop .inv, c .before .before .before .before .before .before .before .before .before .before .before .loop-test .taken, c .before .before .before .before .before .before .before .before .before .before .before .before .before .before .before .before .before .before .before .pre)
 
 add-i : tie.Need-add-i Inv-loop μ-loop
 add-i c = search needs
@@ -86,7 +86,7 @@ loop-less : tie.Need-loop-less Inv-loop μ-loop
 loop-less c = search needs
 
 loop-again : tie.Need-loop-again Inv-loop μ-loop
-loop-again c = (omega (arith, c .before .before .before .before .before .before .before .before .before .before .before .before .before .before .loop-test .taken), (omega (arith, c .before .before .after-try .kept, c .before .before .before .before .before .before .before .before .before .before .before .before .read-try .kept, c .before .before .before .before .before .before .before .before .before .before .before .before .before .before .before .loop .inv), (omega (arith, c .before .before .after-try .ensures .1, c .before .before .before .before .before .before .before .before .before .before .before .before .read-try .ensures .1, c .before .before .before .before .before .before .before .before .before .before .before .before .read-try .kept, c .before .before .before .before .before .before .before .before .before .before .before .before .before .before .before .loop .inv, c .before .before .before .before .before .before .before .before .before .before .before .before .before .before .loop-test .taken, c .before .before .before .before .before .before .before .before .before .before .before .before .before .before .before .before .before .before .before .before .before .before .pre), (ap (closing inRoom _) (c .before .before .after-try .ensures .0) ∙ closing-closing inRoom _ _ ∙ sym (c .before .before .after-try .ensures .0), (next-try inRoom _ (c .before .before .before .before .before .before .before .before .before .before .before .before .before .before .before .before .before .before .before .before .before .before .args .f .chip .address) (now (c .before .before .before .before .before .before .before .before .before .before .before .before .before .before .before .before .before .before .before .before .before .before .args .replies)) (c .before .before .before .before .before .before .before .before .before .before .before .before .before .before .before .loop .i) (omega (arith, c .before .before .before .before .before .before .before .before .before .before .before .before .before .before .loop-test .taken)) _ _ (swap inRoom _ _ _ _ _ (try-address _ _ (now (c .before .before .before .before .before .before .before .before .before .before .before .before .before .before .before .before .before .before .before .before .before .before .args .replies)) (c .before .before .before .before .before .before .before .before .before .before .before .before .before .before .before .loop .i) (c .before .before .before .before .before .before .before .before .before .before .before .before .before .before .before .loop .inv .1 .1 .1 .1 .1)) (c .before .before .before .before .before .before .before .before .before .before .before .before .read-try .ensures .0)) _ (sym (c .before .before .before .before .before .locks .ensures) ∙ c .before .before .before .before .if1 .left) (c .before .before .after-try .ensures .0) ∙ c .before .before .before .before .before .before .before .before .before .before .before .before .before .before .before .loop .inv .1 .1 .1 .1 .0, part-address inRoom _ _ _ _ (c .before .before .after-try .ensures .0) ∙ part-address inRoom _ _ _ _ (c .before .before .before .before .before .before .before .before .before .before .before .before .read-try .ensures .0) ∙ c .before .before .before .before .before .before .before .before .before .before .before .before .before .before .before .loop .inv .1 .1 .1 .1 .1)))))
+loop-again c = (omega (arith, c .before .before .before .before .before .before .before .before .before .before .before .before .before .before .loop-test .taken), (omega (arith, c .before .before .after-try .kept, c .before .before .before .before .before .before .before .before .before .before .read-try .kept, c .before .before .before .before .before .before .before .before .before .before .before .before .before .before .before .loop .inv), (omega (arith, c .before .before .after-try .ensures .1, c .before .before .before .before .before .before .before .before .before .before .read-try .ensures .1, c .before .before .before .before .before .before .before .before .before .before .read-try .kept, c .before .before .before .before .before .before .before .before .before .before .before .before .before .before .before .loop .inv, c .before .before .before .before .before .before .before .before .before .before .before .before .before .before .loop-test .taken, c .before .before .before .before .before .before .before .before .before .before .before .before .before .before .before .before .before .before .before .before .before .before .pre), (ap (closing inRoom _) (c .before .before .after-try .ensures .0) ∙ closing-closing inRoom _ _ ∙ sym (c .before .before .after-try .ensures .0), (next-try inRoom _ (c .before .before .before .before .before .before .before .before .before .before .before .before .before .before .before .before .before .before .before .before .before .before .args .f .chip .address) (now (c .before .before .before .before .before .before .before .before .before .before .before .before .before .before .before .before .before .before .before .before .before .before .args .replies)) (c .before .before .before .before .before .before .before .before .before .before .before .before .before .before .before .loop .i) (omega (arith, c .before .before .before .before .before .before .before .before .before .before .before .before .before .before .loop-test .taken)) _ _ (swap inRoom _ _ _ _ _ (try-address _ _ (now (c .before .before .before .before .before .before .before .before .before .before .before .before .before .before .before .before .before .before .before .before .before .before .args .replies)) (c .before .before .before .before .before .before .before .before .before .before .before .before .before .before .before .loop .i) (c .before .before .before .before .before .before .before .before .before .before .before .before .before .before .before .loop .inv .1 .1 .1 .1 .1)) (c .before .before .before .before .before .before .before .before .before .before .read-try .ensures .0)) _ (sym (c .before .before .before .before .before .before .before .before .before .before .before .before .locks .ensures) ∙ c .before .before .before .before .if1 .left) (c .before .before .after-try .ensures .0) ∙ c .before .before .before .before .before .before .before .before .before .before .before .before .before .before .before .loop .inv .1 .1 .1 .1 .0, part-address inRoom _ _ _ _ (c .before .before .after-try .ensures .0) ∙ part-address inRoom _ _ _ _ (c .before .before .before .before .before .before .before .before .before .before .read-try .ensures .0) ∙ c .before .before .before .before .before .before .before .before .before .before .before .before .before .before .before .loop .inv .1 .1 .1 .1 .1)))))
 
 same-length-4 : tie.Need-same-length-4 Inv-loop μ-loop
 same-length-4 c = search needs
@@ -95,4 +95,4 @@ returns-4 : tie.Need-returns-4 Inv-loop μ-loop
 returns-4 c = (sym (c .before .loop .inv .1 .1 .1 .0) ∙ end-try inRoom _ (c .before .before .before .before .before .before .before .before .args .f .chip .address) (now (c .before .before .before .before .before .before .before .before .args .replies)) (c .before .loop .i) _ (search needs) ∙ c .before .loop .inv .1 .1 .1 .1 .0, omega (arith, c .before .loop .inv))
 
 pub wait-pll-lock-raw-spec : {M : Type 1} → statement M
-wait-pll-lock-raw-spec = tie.close (tie.spec Inv-loop μ-loop enum-told enum-told-2 close-repeater-requires same-length returns loop-holds read-try-requires enum-told-3 enum-told-4 close-repeater-requires-2 same-length-2 returns-2 mul-locks add-locks shared-slice-read-locks locks-requires after-lock-requires same-length-3 returns-3 after-try-requires add-i loop-less loop-again same-length-4 returns-4)
+wait-pll-lock-raw-spec = tie.close (tie.spec Inv-loop μ-loop enum-told enum-told-2 close-repeater-requires same-length returns loop-holds mul-locks add-locks shared-slice-read-locks locks-requires read-try-requires enum-told-3 enum-told-4 close-repeater-requires-2 same-length-2 returns-2 after-lock-requires same-length-3 returns-3 after-try-requires add-i loop-less loop-again same-length-4 returns-4)
