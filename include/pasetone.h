@@ -162,14 +162,18 @@ typedef struct {
 } pasetone_reply;
 
 /*
- * What a tuning answers. Its fields are those of `pasetone_reply`. It is a type of its own since it is to grow: a change that is asked for adds
- * how many tries for a lock were made and whether one found it. The reply of every other call stays as it is then.
+ * What a tuning answers: the fields of `pasetone_reply`, then how its waiting for a lock went. 32 bytes without padding. `tries` is how many
+ * three-byte reads of the section were done, at most 10; the try that reads the lock bit is the last. With refusal 11 both tell of the tries up
+ * to the failing step; refused before any step, and by 2 in the PLL, both are 0. `locked` is told of this tuning alone. It is not the record's
+ * lock, which stays as it was where a tuning is refused, or cut before its tries have ended.
  */
 typedef struct {
     uint64_t value;
     uint64_t index;
     uint32_t refusal;
     uint32_t count;
+    uint32_t tries;  /* for a lock */
+    uint32_t locked; /* 1 where a try read the lock bit, else 0 */
 } pasetone_tune_reply;
 
 /*
@@ -229,9 +233,9 @@ pasetone_reply pasetone_initialize(const uint8_t *tuner, size_t tuner_len, const
                                    size_t room_len, uint8_t *next, size_t next_len);
 
 /*
- * Tunes to `hz`: the mux, then the PLL at hz + IF. That the PLL did not lock is no refusal: read the record's lock, which changes only when
- * the tries for a lock have ended. 0x14, 0x15 and 0x16 are written past the shadow. Outcomes 53, replies 35, room 856. Value: the hz asked.
- * Refuses 1, 2, 8, 9, 10, 11; 2 also in the PLL, when the mux's steps are taken and stand (13 entries).
+ * Tunes to `hz`: the mux, then the PLL at hz + IF. That the PLL did not lock is no refusal: the reply's `locked` and `tries` tell it. The record's
+ * lock changes only when the tries for a lock have ended. 0x14, 0x15 and 0x16 are written past the shadow. Outcomes 53, replies 35, room 856.
+ * Value: the hz asked. Refuses 1, 2, 8, 9, 10, 11; 2 also in the PLL, when the mux's steps are taken and stand (13 entries).
  */
 pasetone_tune_reply pasetone_set_frequency(const uint8_t *tuner, size_t tuner_len, uint64_t hz, const uint8_t *outcomes,
                                            size_t outcomes_len, const uint8_t *replies, size_t replies_len, uint8_t *room,

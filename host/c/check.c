@@ -11,11 +11,13 @@
 /* C99 has no static assertion: a size below zero is an error. */
 #define SAME_AT_COMPILE_TIME(name, a, b) typedef char name[(a) == (b) ? 1 : -1]
 SAME_AT_COMPILE_TIME(reply_is_24, sizeof(pasetone_reply), 24);
-SAME_AT_COMPILE_TIME(tune_reply_is_24, sizeof(pasetone_tune_reply), 24);
+SAME_AT_COMPILE_TIME(tune_reply_is_32, sizeof(pasetone_tune_reply), 32);
 SAME_AT_COMPILE_TIME(section_is_24, sizeof(pasetone_section), 24);
 SAME_AT_COMPILE_TIME(reply_refusal_at_16, offsetof(pasetone_reply, refusal), 16);
 SAME_AT_COMPILE_TIME(reply_count_at_20, offsetof(pasetone_reply, count), 20);
 SAME_AT_COMPILE_TIME(tune_reply_count_at_20, offsetof(pasetone_tune_reply, count), 20);
+SAME_AT_COMPILE_TIME(tune_reply_tries_at_24, offsetof(pasetone_tune_reply, tries), 24);
+SAME_AT_COMPILE_TIME(tune_reply_locked_at_28, offsetof(pasetone_tune_reply, locked), 28);
 SAME_AT_COMPILE_TIME(section_refusal_at_16, offsetof(pasetone_section, refusal), 16);
 SAME_AT_COMPILE_TIME(tuner_record_ends, PASETONE_TUNER_DOUBTFUL + PASETONE_REGISTER_COUNT, PASETONE_TUNER_SIZE);
 SAME_AT_COMPILE_TIME(driver_record_ends, PASETONE_DRIVER_RATE + 4, PASETONE_DRIVER_SIZE);
@@ -65,9 +67,15 @@ static void refused(const char *what, pasetone_reply reply, uint32_t number)
     same(what, reply.value | reply.index | reply.count, 0);
 }
 
+static void looked(const char *what, pasetone_tune_reply reply, uint32_t tries, uint32_t locked)
+{
+    same(what, reply.tries, tries);
+    same(what, reply.locked, locked);
+}
+
 static void check_making(void)
 {
-    same("version", pasetone_version(), 0x00010100);
+    same("version", pasetone_version(), 0x00020000);
     done("fresh tuner", pasetone_tuner_new(PASETONE_R828D, 0x74, 28800000, TUNER), 0, 0);
     same("fresh kind", tuner[PASETONE_TUNER_KIND], PASETONE_R828D);
     same("fresh address", tuner[PASETONE_TUNER_ADDRESS], 0x74);
@@ -116,15 +124,18 @@ static void check_tuning(void)
     same("tune", reply.refusal, PASETONE_DONE);
     same("tune's value", reply.value, 100000000);
     same("tune's entries", reply.count, 53);
+    looked("no lock", reply, 10, 0);
     same("LO 102,300,000: 0x14", room[16 * 13 + 8] << 8 | room[16 * 13 + 9], 0x14ca);
     same("LO 102,300,000: 0x16", room[16 * 14 + 8] << 8 | room[16 * 14 + 9], 0x16d5);
     same("LO 102,300,000: 0x15", room[16 * 15 + 8] << 8 | room[16 * 15 + 9], 0x1556);
     reply = pasetone_set_frequency(TUNER, 27656250 - 2300000 - 1, OUTCOMES, REPLIES, ROOM, NEXT);
     same("LO 27,656,249", reply.refusal, PASETONE_FREQUENCY);
     same("a PLL refusal's entries", reply.count, 13);
+    looked("a PLL refusal", reply, 0, 0);
     reply = pasetone_set_frequency(TUNER, 0, OUTCOMES, REPLIES, ROOM, NEXT);
     same("0 Hz", reply.refusal, PASETONE_FREQUENCY);
     same("0 Hz, entries", reply.count, 0);
+    looked("0 Hz", reply, 0, 0);
     outcomes[5] = 1;
     reply = pasetone_set_frequency(TUNER, 100000000, OUTCOMES, REPLIES, ROOM, NEXT);
     outcomes[5] = 0;
@@ -132,6 +143,37 @@ static void check_tuning(void)
     same("a step failed: index", reply.index, 5);
     same("a step failed: entries", reply.count, 7);
     same("a step failed: value", reply.value, 0);
+    looked("a step failed", reply, 0, 0);
+}
+
+/* What a tuning tells of the lock. The third try reads the bit (a status byte has its bits reversed): entries 28 and 29 are that try, 30 is the
+ * write behind the lock. The record given has lock, so that a tuning cut before its first try is told apart from it. */
+static void check_lock(void)
+{
+    static const struct {
+        uint32_t failing, refusal, tries, locked, lock;
+    } runs[] = {
+        {99, PASETONE_DONE, 3, 1, 1}, /* no step fails */
+        {30, PASETONE_STEP, 3, 1, 1}, /* the write behind the lock: locked all the same */
+        {29, PASETONE_STEP, 2, 0, 1}, /* the third read */
+        {22, PASETONE_STEP, 0, 0, 1}, /* the first read: the record's lock stays */
+    };
+    pasetone_tune_reply reply;
+    size_t i;
+    replies[13] = 0x02;
+    for (i = 0; i < sizeof runs / sizeof runs[0]; i++) {
+        tuner[PASETONE_TUNER_LOCK] = i > 0;
+        if (runs[i].failing < sizeof outcomes) {
+            outcomes[runs[i].failing] = 1;
+        }
+        reply = pasetone_set_frequency(TUNER, 100000000, OUTCOMES, REPLIES, ROOM, NEXT);
+        memset(outcomes, 0, sizeof outcomes);
+        same("lock: refusal", reply.refusal, runs[i].refusal);
+        looked("lock", reply, runs[i].tries, runs[i].locked);
+        same("lock: the record's", next[PASETONE_TUNER_LOCK], runs[i].lock);
+    }
+    memset(replies, 0, sizeof replies);
+    tuner[PASETONE_TUNER_LOCK] = 0;
 }
 
 /*
@@ -160,6 +202,7 @@ static void check_rounds(const uint8_t *truth)
     same("in rounds: refusal", reply.refusal, whole.refusal);
     same("in rounds: index", reply.index, whole.index);
     same("in rounds: entries", reply.count, whole.count);
+    looked("in rounds: tries and lock", reply, whole.tries, whole.locked);
     same_bytes("in rounds: section", room, section, PASETONE_ROOM_FOR(whole.count));
     same_bytes("in rounds: record", next, at_once, sizeof next);
     memset(outcomes, 0, sizeof outcomes);
@@ -353,6 +396,7 @@ int main(void)
     check_making();
     check_bandwidth();
     check_tuning();
+    check_lock();
     check_receivers();
     check_stands();
     check_tuner();

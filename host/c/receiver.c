@@ -129,7 +129,7 @@ static void tune(struct receiver *r, const char *what)
         print_entry(reply.index);
     }
     keep(r, next, pasetone_tune_stands(reply));
-    printf("lock: %s\n", r->tuner[PASETONE_TUNER_LOCK] ? "yes" : "no");
+    printf(reply.locked ? "lock: at try %u\n" : "lock: none in %u tries\n", (unsigned)reply.tries);
 }
 
 static void reload(struct receiver *r)

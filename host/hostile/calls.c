@@ -27,6 +27,8 @@ static pasetone_reply run_tune(struct attempt *a)
 {
     pasetone_tune_reply told = pasetone_set_frequency(S(TUNER), a->arg[0], S(OUTCOMES), S(REPLIES), S(ROOM), S(NEXT));
     pasetone_reply reply = {told.value, told.index, told.refusal, told.count};
+    a->tries = told.tries;
+    a->locked = told.locked;
     return reply;
 }
 
@@ -128,7 +130,7 @@ static uint32_t read_args(const struct attempt *a)
     static uint64_t name(const struct attempt *a) { return (void)a, (expression); }
 
 VALUE(nothing, 0)
-VALUE(version_value, 0x00010100)
+VALUE(version_value, 0x00020000)
 VALUE(asked, a->arg[0])
 VALUE(gain_set, number_at(a->at[NEXT] + PASETONE_TUNER_GAIN, 4))
 VALUE(gain_held, number_at(a->before[TUNER] + PASETONE_TUNER_GAIN, 4))

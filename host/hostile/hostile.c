@@ -77,6 +77,10 @@ static void spoil(void)
         now.reply.index++;
     } else if (testing("number") && now.reply.refusal == 9) {
         now.reply.refusal = 8;
+    } else if (testing("tries") && now.reply.refusal == 11 && now.call->way == TUNING) {
+        now.tries++;
+    } else if (testing("lock") && now.call->way == TUNING && now.reply.count > 0) {
+        now.locked = now.at[NEXT][PASETONE_TUNER_LOCK];
     }
 }
 
@@ -105,6 +109,7 @@ static void run_once(void)
     if (writes && testing("before")) {
         now.at[ROOM] -= 16;
     }
+    now.tries = now.locked = 0;
     now.reply = now.call->run(&now);
     spoil();
 }
@@ -113,6 +118,7 @@ static void run_once(void)
 static const char *repeat(void)
 {
     pasetone_reply reply = now.reply;
+    uint32_t tries = now.tries, locked = now.locked;
     const char *wrong = NULL;
     int slot;
     for (slot = 0; slot < SLOTS; slot++) {
@@ -131,7 +137,10 @@ static const char *repeat(void)
             wrong = "repeated, it left other bytes";
         }
     }
-    return memcmp(&reply, &now.reply, sizeof reply) != 0 ? "repeated, it answered something else" : wrong;
+    if (memcmp(&reply, &now.reply, sizeof reply) != 0 || tries != now.tries || locked != now.locked) {
+        return "repeated, it answered something else";
+    }
+    return wrong;
 }
 
 static const char *one_call(void)
@@ -145,6 +154,7 @@ static const char *one_call(void)
         wrong = judge(&now);
     }
     digest = (digest ^ now.reply.value) * 0x100000001b3u + (now.reply.index << 32 ^ (uint64_t)now.reply.refusal << 16 ^ now.reply.count);
+    digest += (uint64_t)now.tries << 48 ^ (uint64_t)now.locked << 56;
     met[which][now.reply.refusal % 13]++;
     entries_made += now.reply.count;
     if (wrong == NULL) {

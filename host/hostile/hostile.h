@@ -46,6 +46,7 @@ struct attempt {
     size_t n[SLOTS];        /* how long it is */
     size_t told[SLOTS];     /* how long the call is told it is: n, but for a self-test */
     pasetone_reply reply;
+    uint32_t tries, locked; /* of a tuning's reply */
 };
 
 enum memory { MIXED, HEAP, AT_END, AT_START };

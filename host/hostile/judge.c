@@ -136,6 +136,24 @@ static const char *judge_section(const struct attempt *a)
     return NULL;
 }
 
+/*
+ * Change request 101: the tries are the three-byte reads of the section that were done, and it locked where one of them has the lock bit, 0x40 of
+ * the third byte with its bits reversed. Without a step there are none.
+ */
+static const char *judge_lock(const struct attempt *a)
+{
+    uint32_t tries = 0, locked = 0;
+    uint64_t i;
+    for (i = 0; i < a->reply.count; i++) {
+        const uint8_t *e = a->at[ROOM] + 16 * i;
+        if (e[0] == 3 && e[1] == 0 && e[3] == 3) {
+            tries++;
+            locked |= (e[10] >> 1) & 1u;
+        }
+    }
+    return a->tries == tries && a->locked == locked ? NULL : "the tries or the lock told are not the section's";
+}
+
 /* A call that takes no step, not refused for what it was given. */
 static const char *judge_stepless(const struct attempt *a)
 {
@@ -150,7 +168,10 @@ const char *judge(const struct attempt *a)
 {
     const pasetone_reply *r = &a->reply;
     uint32_t before = refusal_before_steps(a);
-    const char *wrong;
+    const char *wrong = a->call->way == TUNING ? judge_lock(a) : NULL;
+    if (wrong != NULL) {
+        return wrong;
+    }
     if (before != 0) {
         if (r->refusal != before) {
             return "not refused by the number that it should be";

@@ -21,10 +21,10 @@ use Rattle.chip.specs.declared.Flow.{Flow}
 use Rattle.chip.specs.declared.Seen.{Seen}
 use Rattle.chip.specs.declared.Went.{Went}
 use Rattle.chip.specs.declared.Went.the-variants.{Going, Refused11}
-use Rattle.chip.specs.Entries.{isTry, lockBit, look, settled, unseen}
+use Rattle.chip.specs.Entries.{isTry, lockBit, look, saw, settled, unseen}
 use Rattle.chip.specs.Steps.{Step, Line, Logged, Trace, acts, after, eight, emit, every, heldFor, inList, inRoom, line, logged, okFor, onRoom, run, step, taken, trace, wentFor}
 use Rattle.chip.specs.Steps.Step.{Open, Close, Send, Mask, Plain}
-use Rattle.chip.specs.Calls.{Called, answerOf, callOf, called, laidOut, lockedIn, performed, sealed, seenFrom, triesIn}
+use Rattle.chip.specs.Calls.{Called, answerOf, callEntries, callOf, called, laidOut, lockedIn, performed, sealed, seenFrom, seenIn, triesIn}
 use Rattle.chip.proofs.Laws.{active, and-left, and-right, idle}
 
 or-assoc : (a b c : Bool) → ((a || b) || c) ≡ (a || (b || c))
@@ -179,3 +179,18 @@ seen-counted s [] h =
     let none : s .tries ≡ s .tries + 0 = omega arith in
     λ i. record { tries = none i; locked = sym (or-false (s .locked)) i }
 seen-counted s (e ∷ es) h = counted-one s e es (isTry e) refl h (λ r k. seen-counted r es k)
+
+-- so what the code has seen of a whole call is what its entries say
+pub seen-in : (es : List Entry) → length es < 2 ^ 16 → seenFrom unseen es ≡ seenIn es
+seen-in es h = seen-counted unseen es (omega arith) ∙ (λ i. saw (more i) (lockedIn es))
+  where
+    more : 0 + triesIn es ≡ triesIn es
+    more = omega arith
+
+-- and of a call that a number refuses before any step, or none does
+pub untried : (number : ℕ) (os : List ℕ) (ss : List Step) (c : Chip) → (number ≡ 0 → ⊥) → unseen ≡ seenIn (callEntries number os ss c)
+unfolding triesIn lockedIn
+untried number os ss c h = rw (ne-eqb number 0 h)
+
+pub tried : (number : ℕ) (os : List ℕ) (ss : List Step) (c : Chip) → number ≡ 0 → seenIn (trace os ss c .log) ≡ seenIn (callEntries number os ss c)
+tried number os ss c h = rw (eq-eqb number 0 h)

@@ -15,7 +15,7 @@ use Rattle.chip.specs.declared.Chip.{Chip}
 use Rattle.chip.specs.declared.Seen.{Seen}
 use Rattle.chip.specs.declared.Went.{Went}
 use Rattle.chip.specs.declared.Went.the-variants.{Going, Refused11}
-use Rattle.chip.specs.Entries.{isTry, lockBit, look, unseen}
+use Rattle.chip.specs.Entries.{isTry, lockBit, look, saw, unseen}
 use Rattle.chip.specs.Steps.{Step, Line, Logged, Trace, line, logged, trace}
 
 -- "8 room, 9 outcomes, 10 replies | lent slice too short": for a call of at most n entries and m replies; 0 where all suffice.
@@ -69,6 +69,10 @@ unfoldable pub callOf : {R : Type 0} → ℕ → Answer → List ℕ → List St
 callOf number whole os ss c keep old room =
     cond (eqb number 0) (performed whole keep room (trace os ss c)) (called old room 0 (Refused number))
 
+-- the entries of a call: those of its program's trace, and none where a number refuses it before any step
+abbrev pub callEntries : ℕ → List ℕ → List Step → Chip → List Entry
+callEntries number os ss c = cond (eqb number 0) (trace os ss c .log) []
+
 -- the room once the trailer stands behind its entries
 abbrev pub sealed : List ℕ → ℕ → List ℕ
 sealed room count = sets room (16 * count) (trailerBytes count)
@@ -78,7 +82,7 @@ unfoldable pub seenFrom : Seen → List Entry → Seen
 seenFrom s [] = s
 seenFrom s (e ∷ es) = seenFrom (look s e) es
 
--- how many done reads of three bytes there are among entries, and whether one of them has the lock bit
+-- #101: "Tries equal the three-byte reads in the transcript that were done", "and locked means a try read the lock bit"
 unfoldable pub triesIn : List Entry → ℕ
 triesIn [] = 0
 triesIn (e ∷ es) = cond (isTry e) 1 0 + triesIn es
@@ -86,6 +90,9 @@ triesIn (e ∷ es) = cond (isTry e) 1 0 + triesIn es
 unfoldable pub lockedIn : List Entry → Bool
 lockedIn [] = false
 lockedIn (e ∷ es) = (isTry e && lockBit e) || lockedIn es
+
+abbrev pub seenIn : List Entry → Seen
+seenIn es = saw (triesIn es) (lockedIn es)
 
 -- a trace as the code leaves it: its entries laid out in the room
 abbrev pub laidOut : List ℕ → Trace → Line Logged

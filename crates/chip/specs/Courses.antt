@@ -6,10 +6,11 @@ use Prim.Native.Nat.{ℕ}
 use mathlib.Core.Bool.{Bool, cond}
 use mathlib.Core.List.{List, []}
 use lib.ListN.{length}
+use Rattle.transcript.specs.declared.Entry.{Entry}
 use Rattle.chip.specs.declared.Answer.{Answer}
 use Rattle.chip.specs.declared.Answer.the-variants.{Refused}
 use Rattle.chip.specs.declared.Chip.{Chip}
-use Rattle.chip.specs.Calls.{Called, callOf, called, numberOf, refusalWith}
+use Rattle.chip.specs.Calls.{Called, callEntries, callOf, called, numberOf, refusalWith}
 use Rattle.chip.specs.Steps.{Step, Trace}
 
 -- Still: "0 entries: no lent memory, no section"; the record and the answer.
@@ -50,6 +51,10 @@ ask number steps = record { number = number; steps = steps }
 abbrev pub askedBy : {R : Type 0} → Bool → Course R → ℕ → ℕ → Asked
 askedBy sound (Still next answer) os room = ask 0 []
 askedBy sound (Taken argument n m rs whole ss keep) os room = ask (refusalWith sound argument n m room os (length rs)) ss
+
+-- the entries that it makes
+abbrev pub entriesBy : Asked → List ℕ → Chip → List Entry
+entriesBy a os c = callEntries (a .number) os (a .steps) c
 
 -- what a call leaves. "A given record out of its ranges .. is refused 1 first, all unchanged"
 unfoldable pub leftBy : {R : Type 0} → Bool → Course R → List ℕ → Chip → R → List ℕ → Called R

@@ -68,5 +68,8 @@ isTry e = eqb (e .kind) 3 && eqb (e .n) 3 && eqb (e .outcome) 0
 unfoldable pub look : Seen → Entry → Seen
 look s e = cond (isTry e) (record { tries = (s .tries + 1) % 2 ^ 16; locked = s .locked || lockBit e }) s
 
+abbrev pub saw : ℕ → Bool → Seen
+saw tries locked = record { tries = tries; locked = locked }
+
 abbrev pub unseen : Seen
-unseen = record { tries = 0; locked = false }
+unseen = saw 0 false

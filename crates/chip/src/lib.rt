@@ -90,6 +90,12 @@ pub struct Seen {
     pub locked: bool,
 }
 
+// What is known before any try.
+pub const UNSEEN: Seen = Seen {
+    tries: 0,
+    locked: false,
+};
+
 // What is carried from step to step but for the chip: small, so that steps carry the chip nowhere. One that writes a register takes the chip's lists beside
 // it, where they lie.
 pub struct Log {
@@ -104,10 +110,7 @@ pub const START: Log = Log {
     count: 0,
     went: Went::Going,
     held: false,
-    seen: Seen {
-        tries: 0,
-        locked: false,
-    },
+    seen: UNSEEN,
 };
 
 // What parts of a call hand on.

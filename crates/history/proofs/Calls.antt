@@ -19,10 +19,10 @@ use Rattle.chip.specs.declared.Answer.the-variants.{Done, Refused, Stopped}
 use Rattle.chip.specs.declared.Chip.{Chip}
 use Rattle.chip.specs.declared.Went.{Went}
 use Rattle.chip.specs.declared.Went.the-variants.{Going, Refused11}
-use Rattle.chip.specs.Calls.{Called, answerOf, callOf, called, lentOf, performed}
+use Rattle.chip.specs.Calls.{Called, answerOf, callEntries, callOf, called, lentOf, performed}
 use Rattle.chip.specs.Steps.{Step, Trace, every, trace}
 use Rattle.history.specs.Programs.{fine}
-use Rattle.history.specs.Histories.{Alike, Cut, History, callEntries, stops, wentIn}
+use Rattle.history.specs.Histories.{Alike, Cut, History, stops, wentIn}
 use Rattle.history.specs.Histories.History.{called as more}
 use Rattle.history.proofs.Cuts.{cut-trace}
 use Rattle.history.proofs.Told.{told-trace}

@@ -100,10 +100,6 @@ wentFrom k (e ∷ es) = cond (passable e) (wentFrom (k + 1) es) (Refused11 k)
 abbrev pub wentIn : List Entry → Went
 wentIn es = wentFrom 0 es
 
--- the entries of a call as crate `chip` has it: those of its program's trace, and none where a number refuses it before any step
-abbrev pub callEntries : ℕ → List ℕ → List Step → Chip → List Entry
-callEntries number os ss c = cond (eqb number 0) (trace os ss c .log) []
-
 -- an answer of a call whose steps are all done: a value or a refusal of its own, never a step's failing
 abbrev pub stops : Answer → Bool
 stops (Done value) = false

@@ -7,10 +7,8 @@ use Rattle.lending.specs.Lent.{Given, given}
 use Rattle.chip.specs.declared.Answer.{Answer}
 use Rattle.chip.specs.Calls.{Called, called}
 use Rattle.replies.specs.declared.Reply.{Reply}
-use Rattle.replies.specs.declared.TuneReply.{TuneReply}
-use Rattle.replies.specs.Replies.{replyOf, tunedOf}
-use Rattle.tuners.specs.Over.{After, after}
-use Rattle.pasetone.specs.Told.{lent, lentBy, shown, shownBy, tunedBy, tunedTo}
+use Rattle.replies.specs.Replies.{replyOf}
+use Rattle.pasetone.specs.Told.{lent, lentBy, shown, shownBy}
 
 pub answer-told : (r : Reply) (a b : Answer) → r ≡ replyOf a 0 → a ≡ b → r ≡ replyOf b 0
 answer-told r a b h e = h ∙ ap (λ (x : Answer). replyOf x 0) e
@@ -20,6 +18,3 @@ lent-told r a out g h e = ap (λ (x : Reply). lent x out) h ∙ ap lentBy e
 
 pub shown-told : (r : Reply) (a : Answer) (n : ℕ) (room : List ℕ) (c : Called (Unit {0})) → r ≡ replyOf a n → called tt room n a ≡ c → shown r room ≡ shownBy c
 shown-told r a n room c h e = ap (λ (x : Reply). shown x room) h ∙ ap shownBy e
-
-pub tuned-told : (t : TuneReply) (r : Reply) (room next : List ℕ) (a : After) → t ≡ tunedOf r → after r room next ≡ a → tunedTo t room next ≡ tunedBy a
-tuned-told t r room next a h e = ap (λ (x : TuneReply). tunedTo x room next) h ∙ ap tunedBy e

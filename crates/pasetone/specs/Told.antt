@@ -9,9 +9,7 @@ use Rattle.lending.specs.Lent.{Given}
 use Rattle.chip.specs.declared.Answer.{Answer}
 use Rattle.chip.specs.Calls.{Called}
 use Rattle.replies.specs.declared.Reply.{Reply}
-use Rattle.replies.specs.declared.TuneReply.{TuneReply}
-use Rattle.replies.specs.Replies.{callReply, replyOf, tunedOf}
-use Rattle.tuners.specs.Over.{After}
+use Rattle.replies.specs.Replies.{callReply, replyOf}
 
 -- an answer without steps, and the slice that was lent for its bytes
 pub record Lent : Type 0 where
@@ -34,18 +32,6 @@ shown answer room = record { answer = answer; room = room }
 
 abbrev pub shownBy : Called (Unit {0}) → Shown
 shownBy c = shown (callReply c) (c .room)
-
--- a tuning, which has a reply of its own
-pub record Tuned : Type 0 where
-  pub answer : TuneReply
-  pub room : List ℕ
-  pub next : List ℕ
-
-abbrev pub tunedTo : TuneReply → List ℕ → List ℕ → Tuned
-tunedTo answer room next = record { answer = answer; room = room; next = next }
-
-abbrev pub tunedBy : After → Tuned
-tunedBy a = tunedTo (tunedOf (a .answer)) (a .room) (a .next)
 
 -- "A number that stands for yes or no is a u8, 0 or anything else": docs/DECISIONS.md
 abbrev pub yes : ℕ → Bool

@@ -18,20 +18,20 @@ ghost use Rattle.r82xx.specs.Orders.{courseOf};
 ghost use Rattle.r82xx.specs.Orders.Order.{Initialize, Reload, Bandwidth, IfFreq, Gain, GainIndex, InputPath, Tune, Shadow, Ppm, Notch, GainTold, IfTold};
 ghost use Rattle.replies.specs.Replies.{partsOf, replyOf};
 ghost use Rattle.transcript.specs.Sections.{sectionOf};
-ghost use Rattle.tuners.specs.Over.{after, overTuner};
+ghost use Rattle.tuners.specs.Over.{after, overTuner, overTuning, tunedTo};
 ghost use Rattle.tuners.specs.Still as tuner;
 ghost use Rattle.tuners.specs.Still.{answerOver, changedInto, tableOver};
-ghost use Rattle.pasetone.specs.Told.{lent, lentBy, shown, shownBy, tunedBy, tunedTo, yes};
+ghost use Rattle.pasetone.specs.Told.{lent, lentBy, shown, shownBy, yes};
 use replies::Parts;
 use replies::Reply;
 use replies::TuneReply;
 
-// 1.1.0: the major number times 65,536, the minor times 256, the patch.
+// 2.0.0: the major number times 65,536, the minor times 256, the patch.
 #[no_mangle]
 pub extern "C" fn pasetone_version() -> u32
-    ensures { λ r. ⌜ r ≡ 65792 ⌝ }
+    ensures { λ r. ⌜ r ≡ 131072 ⌝ }
 {
-    0x0001_0100
+    0x0002_0000
 }
 
 // The tuner: src/tuners/r82xx.rs.
@@ -66,10 +66,9 @@ pub extern "C" fn pasetone_set_frequency(
     next: &mut [u8],
 ) -> TuneReply
     ensures { λ r. ⌜ tunedTo r (now (room .exit)) (now (next .exit))
-        ≡ tunedBy (overTuner (courseOf (Tune hz (now (replies .entry)))) (now (outcomes .entry)) (now (tuner .entry)) (now (room .entry)) (now (next .entry))) ⌝ }
+        ≡ overTuning (courseOf (Tune hz (now (replies .entry)))) (now (outcomes .entry)) (now (tuner .entry)) (now (room .entry)) (now (next .entry)) ⌝ }
 {
-    let told = tuners::set_frequency(tuner, hz, outcomes, replies, room, next);
-    replies::tuned(told)
+    tuners::set_frequency(tuner, hz, outcomes, replies, room, next)
 }
 
 #[no_mangle]

@@ -16,13 +16,14 @@ use Rattle.chip.specs.declared.Answer.{Answer}
 use Rattle.chip.specs.declared.Answer.the-variants.{Done, Refused}
 use Rattle.chip.specs.declared.Chip.{Chip}
 use Rattle.chip.specs.declared.Flow.{Flow}
+use Rattle.chip.specs.declared.Seen.{Seen}
 use Rattle.chip.specs.declared.Updates.{Updates}
 use Rattle.chip.specs.declared.Went.the-variants.{Going}
-use Rattle.chip.specs.Calls.{Called, answerOf, called, laidOut, lockedIn, sealed, triesIn}
+use Rattle.chip.specs.Calls.{Called, answerOf, called, laidOut, performed, sealed, seenIn}
 use Rattle.chip.specs.Chips.{maskedByte, shadowed}
 use Rattle.chip.specs.Entries.{unseen}
 use Rattle.chip.specs.Steps.{Line, Logged, Step, Trace, behind, eight, every, inRoom, line, listed, logged, meantOf, onRoom, run, trace}
-use Rattle.chip.proofs.Taken.{stands}
+use Rattle.chip.proofs.Taken.{handed, performs, seen-in, stands, tried, untried}
 use Rattle.gain.specs.Steps.{chosenOf, clamped, steps}
 use Rattle.gain.proofs.Steps.{chosen-lt}
 use Rattle.pll.specs.declared.Kind.{Kind}
@@ -34,18 +35,19 @@ use Rattle.pll.proofs.Plans.{known}
 use Rattle.reference.specs.declared.Corrected.{Corrected}
 use Rattle.reference.specs.declared.Corrected.the-variants as corrected-variants
 use Rattle.reference.specs.Correct.{correctedOf}
-use Rattle.tuning.specs.Program.{innerSteps, dividerNumber, tuneSteps}
+use Rattle.tuning.specs.Program.{innerSteps, dividerNumber, wholeOf}
+use Rattle.tuning.specs.Tries.{lockBy}
 use Rattle.tuning.proofs.Programs.{eight-inner}
 use Rattle.writes.specs.Lists.{pathUpdates}
 use Rattle.writes.proofs.Lists.{path-two}
 use Rattle.r82xx.specs.declared.Tuner.{Tuner}
-use Rattle.r82xx.specs.Record.{lockBy, sound, soundBy, withChip, withCorrected, withLock, withNotch}
+use Rattle.r82xx.specs.Record.{sound, soundBy, withChip, withCorrected, withLock, withNotch}
 use Rattle.chip.specs.Courses.{leftBy}
 use Rattle.chip.specs.Courses.Course.{Still}
-use Rattle.r82xx.specs.Calls.{hzRefusal, keptBy, keptNotch, keptPpm, planFor, ppmAnswer, refusalOf, soundAnswer, toldBy, wholeOf}
-use Rattle.r82xx.specs.Orders.{pathRow, ppmRow, quietly, resultOf, tableOf}
+use Rattle.r82xx.specs.Calls.{hzRefusal, keptBy, keptNotch, keptPpm, planFor, ppmAnswer, refusalOf, soundAnswer, toldBy}
+use Rattle.r82xx.specs.Orders.{lockKept, pathRow, ppmRow, quietly, resultOf, seenOf, tableOf, tuneOf}
 use Rattle.r82xx.specs.Orders.Order.{Tune, Shadow, Ppm, Notch, GainTold, IfTold, TableTold}
-use Rattle.r82xx.proofs.Whole.{behind-eight, bracket-by, bracketCall, lock-by, perform-by, stepCall}
+use Rattle.r82xx.proofs.Whole.{behind-eight, bracket-by, bracketCall, refuse-by, stepCall}
 
 -- a plan's divider number
 pub number-small : (kind : Kind) (lo r : ℕ) → dividerNumber (planOf kind lo r) ≤ 5
@@ -55,29 +57,48 @@ number-small kind lo r = go (planOf kind lo r) refl
     go (pll-variants.Planned p) e = known kind lo r p e .number
     go pll-variants.Refused e = omega arith
 
-pub tune-by : (os rs room : List ℕ) (hz given : ℕ) (t : Tuner) (plan : Pll) (f : Flow) (mid after : List ℕ) (answer whole : Answer) (lock : Bool)
-    → plan ≡ planFor t hz
-    → given ≡ refusalOf t (hzRefusal hz (t .ifreq)) 53 35 (length room) (length os) (length rs) → given ≡ 0
-    → onRoom f mid ≡ run inRoom os (tuneSteps (t .chip .address) (t .kind) (t .notch) plan hz rs) (line (t .chip) (logged room unseen) 0 Going false)
+-- a tuning's steps by its plan: what is handed back, and what is told of the lock
+pub tune-by : (os rs room : List ℕ) (hz : ℕ) (t : Tuner) (plan : Pll) (f : Flow) (mid after : List ℕ) (answer whole : Answer) (lock : Bool)
+    → onRoom f mid ≡ run inRoom os (tuneOf t plan hz rs) (line (t .chip) (logged room unseen) 0 Going false)
     → whole ≡ wholeOf plan hz → after ≡ sealed mid (f .log .count) → answer ≡ answerOf whole (f .log .went)
-    → lock ≡ lockBy (f .log .seen .locked) (f .log .seen .tries) (t .lock) → f .log .count ≤ 53
-    → called (withLock (withChip t (f .chip)) lock) after (f .log .count) answer ≡ resultOf (Tune hz rs) os t room
-unfolding resultOf leftBy
-tune-by os rs room hz given t plan f mid after answer whole lock p e z k w q a l few =
-    let ss : List Step = tuneSteps (t .chip .address) (t .kind) (t .notch) (planFor t hz) hz rs in
+    → lock ≡ lockBy (f .log .seen) (t .lock) → f .log .count ≤ 53
+    → (called (withLock (withChip t (f .chip)) lock) after (f .log .count) answer
+    ≡ performed (wholeOf plan hz) (lockKept t) room (trace os (tuneOf t plan hz rs) (t .chip)))
+    × (f .log .seen ≡ seenIn (trace os (tuneOf t plan hz rs) (t .chip) .log))
+tune-by os rs room hz t plan f mid after answer whole lock k w q a l few =
+    let ss : List Step = tuneOf t plan hz rs in
+    let tr : Trace = trace os ss (t .chip) in
     let eights : every eight ss ≡ true =
-    behind-eight (innerSteps (t .chip .address) (t .kind) (t .notch) (planFor t hz) hz rs)
-    (eight-inner (t .chip .address) (t .kind) (t .notch) (planFor t hz) hz rs) in
-    let went : onRoom f mid ≡ run inRoom os ss (line (t .chip) (logged room unseen) 0 Going false) =
-    k ∙ ap (λ (x : Pll). run inRoom os (tuneSteps (t .chip .address) (t .kind) (t .notch) x hz rs) (line (t .chip) (logged room unseen) 0 Going false)) p in
-    let count : f .log .count ≡ length (trace os ss (t .chip) .log) = ap (λ (x : Line Logged). x .count) (stands os room ss (t .chip) f mid eights went) in
-    perform-by (refusalOf t (hzRefusal hz (t .ifreq)) 53 35 (length room) (length os) (length rs)) given (wholeOf (planFor t hz) hz) os ss (t .chip)
-    (λ (tr : Trace). withLock (withChip t (tr .chip)) (lockBy (lockedIn (tr .log)) (triesIn (tr .log)) (t .lock)))
-    (λ (x : Line Logged). withLock (withChip t (x .chip)) (lockBy (x .log .seen .locked) (x .log .seen .tries) (t .lock)))
-    t (withLock (withChip t (f .chip)) lock) room f mid after answer e z eights went q
-    (a ∙ ap (λ (x : Answer). answerOf x (f .log .went)) (w ∙ ap (λ (x : Pll). wholeOf x hz) p))
-    (ap (withLock (withChip t (f .chip))) l)
-    (ap (withLock (withChip t (trace os ss (t .chip) .chip))) (lock-by os room ss (t .chip) (t .lock) eights (omega arith)))
+    behind-eight (innerSteps (t .chip .address) (t .kind) (t .notch) plan hz rs)
+    (eight-inner (t .chip .address) (t .kind) (t .notch) plan hz rs) in
+    let all : onRoom f mid ≡ laidOut room tr = stands os room ss (t .chip) f mid eights k in
+    let count : f .log .count ≡ length (tr .log) = ap (λ (x : Line Logged). x .count) all in
+    let seen : f .log .seen ≡ seenIn (tr .log) = ap (λ (x : Line Logged). x .log .seen) all ∙ seen-in (tr .log) (omega arith) in
+    let chip : f .chip ≡ tr .chip = ap (λ (x : Line Logged). x .chip) all in
+    let same : withLock (withChip t (f .chip)) lock ≡ lockKept t tr = λ i. withLock (withChip t (chip i)) ((l ∙ ap (λ (s : Seen). lockBy s (t .lock)) seen) i) in (
+      handed os room ss (t .chip) (lockKept t) (wholeOf plan hz) (withLock (withChip t (f .chip)) lock) f mid after answer eights k q
+          (a ∙ ap (λ (x : Answer). answerOf x (f .log .went)) w) same,
+      seen,
+    )
+
+-- a tuning refused before any step, and one that is taken
+pub tune-refused : (os rs room : List ℕ) (hz given : ℕ) (t : Tuner)
+    → given ≡ refusalOf t (hzRefusal hz (t .ifreq)) 53 35 (length room) (length os) (length rs) → (given ≡ 0 → ⊥)
+    → (called t room 0 (Refused given) ≡ resultOf (Tune hz rs) os t room) × (unseen ≡ seenOf (Tune hz rs) os t room)
+unfolding resultOf leftBy seenOf
+tune-refused os rs room hz given t e h =
+    (refuse-by _ given _ os _ (t .chip) _ t room e h, untried _ os _ (t .chip) (λ z. h (e ∙ z)))
+
+pub tune-taken : (os rs room : List ℕ) (hz given : ℕ) (t : Tuner) (plan : Pll) (x : Called Tuner) (s : Seen)
+    → given ≡ refusalOf t (hzRefusal hz (t .ifreq)) 53 35 (length room) (length os) (length rs) → given ≡ 0 → plan ≡ planFor t hz
+    → (x ≡ performed (wholeOf plan hz) (lockKept t) room (trace os (tuneOf t plan hz rs) (t .chip))) × (s ≡ seenIn (trace os (tuneOf t plan hz rs) (t .chip) .log))
+    → (x ≡ resultOf (Tune hz rs) os t room) × (s ≡ seenOf (Tune hz rs) os t room)
+unfolding resultOf leftBy seenOf
+tune-taken os rs room hz given t plan x s e z p h =
+    let zero : refusalOf t (hzRefusal hz (t .ifreq)) 53 35 (length room) (length os) (length rs) ≡ 0 = sym e ∙ z in (
+      h .0 ∙ ap (λ (q : Pll). performed (wholeOf q hz) (lockKept t) room (trace os (tuneOf t q hz rs) (t .chip))) p ∙ performs _ _ os _ (t .chip) _ t room zero,
+      h .1 ∙ ap (λ (q : Pll). seenIn (trace os (tuneOf t q hz rs) (t .chip) .log)) p ∙ tried _ os _ (t .chip) zero,
+    )
 
 -- the input path's three ways
 abbrev pathLeft : PathRead → Kind → List ℕ → Tuner → List ℕ → Called Tuner

@@ -1,9 +1,8 @@
 -- A whole call over the code: refused before any step, or performed. Assumes nothing.
-use Prim.Native.Nat.{ℕ, _+_, _^_, _<_}
-use native.Mathlib.Omega.{arith}
+use Prim.Native.Nat.{ℕ, _+_}
 use lib.Ieee.{Float, binary32, toBits}
 use mathlib.Core.Path.{_≡_, refl, sym, ap, _∙_}
-use mathlib.Core.Bool.{Bool, true, false, _&&_, _||_, cond}
+use mathlib.Core.Bool.{Bool, true, false, _&&_, cond}
 use mathlib.Core.List.{List, [], _∷_, _++_}
 use borrow.Author.Tests.{eq-eqb}
 use lib.ListN.{length}
@@ -12,25 +11,24 @@ use Rattle.chip.specs.declared.Answer.{Answer}
 use Rattle.chip.specs.declared.Answer.the-variants.{Done, Refused}
 use Rattle.chip.specs.declared.Chip.{Chip}
 use Rattle.chip.specs.declared.Flow.{Flow}
-use Rattle.chip.specs.declared.Seen.{Seen}
 use Rattle.chip.specs.declared.Update.{Update}
 use Rattle.chip.specs.declared.Updates.{Updates}
 use Rattle.chip.specs.declared.Went.{Went}
 use Rattle.chip.specs.declared.Went.the-variants.{Going}
-use Rattle.chip.specs.Calls.{Called, answerOf, callOf, called, laidOut, lockedIn, sealed, seenFrom, triesIn}
+use Rattle.chip.specs.Calls.{Called, answerOf, callOf, called, laidOut, sealed}
 use Rattle.chip.specs.Entries.{unseen}
 use Rattle.chip.specs.Steps.{Line, Logged, Step, Trace, behind, eight, every, goes, inRoom, line, listed, logged, meantOf, onRoom, run, trace, tunerWrite, updates}
 use Rattle.chip.specs.Steps.Step.{Open, Close, Plain}
 use Rattle.chip.proofs.Chunks.{chunk-eight}
 use Rattle.chip.proofs.Lists.{meant-all, meant-count}
-use Rattle.chip.proofs.Taken.{handed, performs, refuses, seen-counted, stands}
+use Rattle.chip.proofs.Taken.{handed, performs, refuses, stands}
 use Rattle.tuning.proofs.Programs.{all-updates, eight-update, every-app}
 use Rattle.gain.specs.Product.{gainOf}
 use Rattle.gain.specs.Steps.{stepAt}
 use Rattle.writes.specs.Lists.{gainUpdates, ifUpdates, initArray, initUpdates}
 use Rattle.writes.specs.Programs.{initSteps, sendAll}
 use Rattle.r82xx.specs.declared.Tuner.{Tuner}
-use Rattle.r82xx.specs.Record.{endedBy, lockBy, sound, withChip, withGain}
+use Rattle.r82xx.specs.Record.{endedBy, sound, withChip, withGain}
 use Rattle.chip.specs.Courses.{leftBy}
 use Rattle.r82xx.specs.Calls.{refusalOf}
 use Rattle.r82xx.specs.Orders.{bracket, gainRow}
@@ -121,13 +119,3 @@ gain-kept t actual g went chip e = ap (λ (x : Float). withChip (withGain t x) c
     by : (b : Bool) → withChip (withGain t (cond b actual (t .gain))) chip ≡ withChip (cond b (withGain t actual) t) chip
     by true = refl
     by false = refl
-
--- the lock, by what the tries have said
-pub lock-by : (os room : List ℕ) (ss : List Step) (c : Chip) (old : Bool) → every eight ss ≡ true → length (trace os ss c .log) < 2 ^ 16
-    → lockBy (seenFrom unseen (trace os ss c .log) .locked) (seenFrom unseen (trace os ss c .log) .tries) old
-    ≡ lockBy (lockedIn (trace os ss c .log)) (triesIn (trace os ss c .log)) old
-lock-by os room ss c old h few =
-    let es = trace os ss c .log in
-    let said : seenFrom unseen es ≡ record { tries = 0 + triesIn es; locked = false || lockedIn es } = seen-counted unseen es (omega arith) in
-    let zero-more : 0 + triesIn es ≡ triesIn es = omega arith in
-    ap (λ (s : Seen). lockBy (s .locked) (s .tries) old) said ∙ ap (λ (n : ℕ). lockBy (lockedIn es) n old) zero-more

@@ -8,7 +8,6 @@ use Rattle.chip.specs.declared.Answer.{Answer}
 use Rattle.chip.specs.declared.Answer.the-variants.{Done, Refused}
 use Rattle.chip.specs.Calls.{refusalWith}
 use Rattle.pll.specs.declared.Pll.{Pll}
-use Rattle.pll.specs.declared.Pll.the-variants as pll-variants
 use Rattle.pll.specs.Plan.{planOf}
 use Rattle.reference.specs.declared.Corrected.{Corrected}
 use Rattle.reference.specs.declared.Corrected.the-variants as corrected-variants
@@ -23,11 +22,6 @@ refusalOf t = refusalWith (sound t)
 -- "2 frequency | hz 0; hz + IF over u64"
 abbrev pub hzRefusal : ℕ → ℕ → ℕ
 hzRefusal hz ifreq = cond (eqb hz 0 || leb (2 ^ 64) (hz + ifreq)) 2 0
-
--- what a tuning answers where no step failed: the hz asked, or 2 in the PLL
-abbrev pub wholeOf : Pll → ℕ → Answer
-wholeOf pll-variants.Refused hz = Refused 2
-wholeOf (pll-variants.Planned p) hz = Done hz
 
 abbrev pub planFor : Tuner → ℕ → Pll
 planFor t hz = planOf (t .kind) (hz + t .ifreq) (t .corrected)

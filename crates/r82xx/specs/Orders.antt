@@ -7,32 +7,35 @@ use mathlib.Core.List.{List, [], map}
 use lib.Dec.{leb}
 use lib.Ieee.{Float, binary32, toBits}
 use lib.IntN.{ℤ, pos}
-use lib.ListN.{replicate}
+use lib.ListN.{length, replicate}
 use Rattle.board.specs.declared.PathRead.{PathRead}
 use Rattle.board.specs.declared.PathRead.the-variants as path-read
 use Rattle.board.specs.Numbers.{pathOf}
 use Rattle.chip.specs.declared.Answer.{Answer}
 use Rattle.chip.specs.declared.Answer.the-variants.{Done, Refused}
+use Rattle.chip.specs.declared.Seen.{Seen}
 use Rattle.chip.specs.declared.Update.{Update}
-use Rattle.chip.specs.Calls.{Called, lockedIn, triesIn}
+use Rattle.chip.specs.Calls.{Called, seenIn}
 use Rattle.chip.specs.Chips.{maskedByte, shadowed}
-use Rattle.chip.specs.Courses.{Course, leftBy}
+use Rattle.chip.specs.Courses.{Course, askedBy, entriesBy, leftBy}
 use Rattle.chip.specs.Courses.Course.{Still, Taken}
-use Rattle.chip.specs.Steps.{behind, updates}
+use Rattle.chip.specs.Steps.{Step, Trace, behind, updates}
 use Rattle.gain.specs.Product.{gainOf}
 use Rattle.gain.specs.Steps.{chosenOf, clamped, stepAt, steps}
 use Rattle.pll.specs.declared.Kind.{Kind}
 use Rattle.pll.specs.declared.Kind.the-variants.{R820T, R828D}
+use Rattle.pll.specs.declared.Pll.{Pll}
 use Rattle.reference.specs.declared.Corrected.{Corrected}
 use Rattle.reference.specs.declared.Corrected.the-variants as corrected-variants
 use Rattle.reference.specs.Correct.{correctedOf}
-use Rattle.tuning.specs.Program.{tuneSteps}
+use Rattle.tuning.specs.Program.{tuneSteps, wholeOf}
+use Rattle.tuning.specs.Tries.{lockBy}
 use Rattle.writes.specs.Lists.{bandwidthUpdates, gainUpdates, ifUpdates, pathUpdates}
 use Rattle.writes.specs.Programs.{initSteps, sendAll}
 use Rattle.r82xx.specs.declared.Table.{Table}
 use Rattle.r82xx.specs.declared.Tuner.{Tuner}
-use Rattle.r82xx.specs.Record.{endedBy, lockBy, reloaded, sound, withChip, withCorrected, withGain, withIf, withLock, withNotch}
-use Rattle.r82xx.specs.Calls.{hzRefusal, planFor, wholeOf}
+use Rattle.r82xx.specs.Record.{endedBy, reloaded, sound, withChip, withCorrected, withGain, withIf, withLock, withNotch}
+use Rattle.r82xx.specs.Calls.{hzRefusal, planFor}
 
 -- rs are the replies. The last six take no step: "`set_ppm`, notch, `update_shadow` 0, 0", and the three that only tell
 pub data Order : Type 0 where
@@ -77,6 +80,13 @@ abbrev pub ppmRow : Corrected → Tuner → Course Tuner
 ppmRow (corrected-variants.Is v) t = Still (withCorrected t v) (Done 0)
 ppmRow corrected-variants.Refused t = Still t (Refused 4)
 
+-- a tuning's program by its plan, and the record that its steps leave
+abbrev pub tuneOf : Tuner → Pll → ℕ → List ℕ → List Step
+tuneOf t plan hz rs = tuneSteps (t .chip .address) (t .kind) (t .notch) plan hz rs
+
+abbrev pub lockKept : Tuner → Trace → Tuner
+lockKept t tr = withLock (withChip t (tr .chip)) (lockBy (seenIn (tr .log)) (t .lock))
+
 -- "initialise 19, 0; tune 53, 35; gain 7, 0; bandwidth 3, 0; IF 4, 0; .. reload 9, 0"
 abbrev pub courseOf : Order → Tuner → Course Tuner
 courseOf Initialize t = Taken 0 19 0 [] (Done 0) initSteps (λ tr. withChip t (tr .chip))
@@ -87,9 +97,7 @@ courseOf (Gain db) t = gainRow (chosenOf db) t
 courseOf (GainIndex k) t = gainRow (clamped k) t
 courseOf (InputPath path) t = pathRow (pathOf path) (t .kind) t
 courseOf (Tune hz rs) t =
-    Taken (hzRefusal hz (t .ifreq)) 53 35 rs (wholeOf (planFor t hz) hz)
-    (tuneSteps (t .chip .address) (t .kind) (t .notch) (planFor t hz) hz rs)
-    (λ tr. withLock (withChip t (tr .chip)) (lockBy (lockedIn (tr .log)) (triesIn (tr .log)) (t .lock)))
+    Taken (hzRefusal hz (t .ifreq)) 53 35 rs (wholeOf (planFor t hz) hz) (tuneOf t (planFor t hz) hz rs) (lockKept t)
 courseOf (Shadow register value mask) t = shadowRow register value mask t
 courseOf (Ppm ppm) t = ppmRow (correctedOf (t .nominal) ppm) t
 courseOf (Notch on) t = Still (withNotch t on) (Done 0)
@@ -100,6 +108,10 @@ courseOf TableTold t = Still t (Done 0)
 -- what a call leaves, by the outcomes and the room that are lent to it
 unfoldable pub resultOf : Order → List ℕ → Tuner → List ℕ → Called Tuner
 resultOf o os t room = leftBy (sound t) (courseOf o t) os (t .chip) t room
+
+-- #101: what it tells of the lock, read off the entries that it makes: "On refusal 11 the tries are those counted so far"
+unfoldable pub seenOf : Order → List ℕ → Tuner → List ℕ → Seen
+seenOf o os t room = seenIn (entriesBy (askedBy (sound t) (courseOf o t) (length os) (length room)) os (t .chip))
 
 -- a call without steps, to which nothing is lent
 abbrev pub quietly : Order → Tuner → Called Tuner

@@ -12,8 +12,7 @@ use Rattle.chip.specs.declared.Chip.{Chip}
 use Rattle.chip.specs.declared.Went.{Went}
 use Rattle.chip.specs.declared.Went.the-variants.{Going, Refused11}
 use Rattle.chip.specs.Chips.{withLists}
-use Rattle.chip.specs.Calls.{lockedIn, triesIn}
-use Rattle.chip.specs.Steps.{Trace, goes}
+use Rattle.chip.specs.Steps.{goes}
 use Rattle.pll.specs.declared.Kind.{Kind}
 use Rattle.pll.specs.declared.Kind.the-variants.{R820T, R828D}
 use Rattle.writes.specs.Lists.{initArray}
@@ -93,10 +92,6 @@ withNotch t notch =
 -- the record after steps: one where a step failed, another where all were done, each with the chip's part as the steps left it
 abbrev pub endedBy : Tuner → Tuner → Went → Chip → Tuner
 endedBy cut whole went chip = withChip (cond (goes went) whole cut) chip
-
--- "lock only when the waiting has ended": true where a done three-byte read has the bit, false where all ten tries ended without it, else as before
-abbrev pub lockBy : Bool → ℕ → Bool → Bool
-lockBy locked tries old = cond locked true (cond (eqb tries 10) false old)
 
 -- "sets the shadow to them when all are done"
 abbrev pub reloaded : Went → Chip → Chip

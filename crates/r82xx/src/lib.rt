@@ -7,19 +7,20 @@ ghost use mathlib.Core.List.{List, []};
 ghost use lib.Ieee.{binary32, toBits};
 ghost use Prim.Native.Nat.{ℕ, _+_, _≤_, _<_};
 ghost use lib.ListN.{length};
-ghost use Rattle.chip.specs.Calls.{called};
+ghost use Rattle.chip.specs.Calls.{called, performed, seenIn};
 ghost use Rattle.chip.specs.declared.Answer.the-variants.{Done, Refused};
-ghost use Rattle.chip.specs.Steps.{allIn, goes, meantOf};
+ghost use Rattle.chip.specs.Entries.{saw};
+ghost use Rattle.chip.specs.Steps.{allIn, goes, meantOf, trace};
 ghost use Rattle.chip.specs.Courses.{leftBy};
-ghost use Rattle.r82xx.specs.Record.{freshTuner, lockBy, madeOf, reloaded, sound, soundBy};
-ghost use Rattle.r82xx.specs.Calls.{hzRefusal, keptNotch, keptPpm, ppmAnswer, refusalOf, soundAnswer, wholeOf};
-ghost use Rattle.r82xx.specs.Orders.{bracket, quietly, resultOf, tableOf};
+ghost use Rattle.tuning.specs.Program.{dividerNumber, wholeOf};
+ghost use Rattle.r82xx.specs.Record.{freshTuner, madeOf, reloaded, sound, soundBy};
+ghost use Rattle.r82xx.specs.Calls.{hzRefusal, keptNotch, keptPpm, ppmAnswer, refusalOf, soundAnswer};
+ghost use Rattle.r82xx.specs.Orders.{bracket, lockKept, quietly, resultOf, seenOf, tableOf, tuneOf};
 ghost use Rattle.r82xx.specs.Orders.Order.{Initialize, Reload, Bandwidth, IfFreq, Gain, GainIndex, InputPath, Tune, Shadow, Ppm, Notch, GainTold, IfTold};
 use board::PathRead;
 use chip::Answer;
 use chip::Chip;
 use chip::Flow;
-use chip::Seen;
 use chip::Updates;
 use chip::Went;
 use pll::Kind;
@@ -51,6 +52,14 @@ pub struct Told {
     pub tuner: Tuner,
     pub answer: Answer,
     pub count: usize,
+}
+
+// What a tuning hands back. #101: "locked or not with the number of tries". `locked` is not the record's lock: it is told of this tuning alone, so that it
+// is false where the tuning was refused or cut before a try read the lock bit.
+pub struct TuneTold {
+    pub told: Told,
+    pub tries: u16,
+    pub locked: bool,
 }
 
 // The gain table behind an answer.
@@ -119,28 +128,6 @@ pub fn hz_refusal(hz: u64, ifreq: u64) -> u8
         return chip::FREQUENCY;
     }
     0
-}
-
-// What a tuning answers where no step fails.
-fn whole_answer(plan: Pll, hz: u64) -> Answer
-    ensures { λ r. ⌜ r ≡ wholeOf plan hz ⌝ }
-{
-    match plan {
-        Pll::Refused => Answer::Refused(chip::FREQUENCY),
-        Pll::Planned(_) => Answer::Done(hz),
-    }
-}
-
-fn locked(seen: Seen, old: bool) -> bool
-    ensures { λ r. ⌜ r ≡ lockBy (seen .locked) (seen .tries) old ⌝ }
-{
-    if seen.locked {
-        return true;
-    }
-    if seen.tries == 10 {
-        return false;
-    }
-    old
 }
 
 // "sets the shadow to them when all are done".
@@ -446,31 +433,22 @@ impl Tuner {
         }
     }
 
-    pub fn set_frequency(
+    // The steps of a tuning by its plan; all that they may need is lent.
+    fn tune(
         mut self,
+        plan: Pll,
         hz: u64,
         outcomes: &[u8],
         replies: &[u8],
         room: &mut [u8],
-    ) -> Told
-        ensures { λ r. ⌜ called (r .tuner) (now (room .exit)) (r .count) (r .answer)
-            ≡ resultOf (Tune hz (now (replies .entry))) (now (outcomes .entry)) self (now (room .entry)) ⌝ }
+    ) -> TuneTold
+        requires { ⌜ (dividerNumber plan ≤ 5) × (35 ≤ length (now replies)) × (53 ≤ length (now outcomes)) × (856 ≤ length (now room)) ⌝ }
+        ensures { λ r. ⌜ (called (r .told .tuner) (now (room .exit)) (r .told .count) (r .told .answer)
+            ≡ performed (wholeOf plan hz) (lockKept self) (now (room .entry)) (trace (now (outcomes .entry)) (tuneOf self plan hz (now (replies .entry))) (self .chip)))
+            × (saw (r .tries) (r .locked) ≡ seenIn (trace (now (outcomes .entry)) (tuneOf self plan hz (now (replies .entry))) (self .chip) .log)) ⌝ }
     {
-        let ifreq = self.ifreq;
-        let number = self.refusal(
-            hz_refusal(hz, ifreq),
-            53,
-            35,
-            room.len(),
-            outcomes.len(),
-            replies.len(),
-        );
-        if number != 0 {
-            return refused(self, number);
-        }
         let kind = self.kind;
         let chip = self.chip;
-        let plan = pll::plan_pll(kind, hz + ifreq, self.corrected);
         let start = Flow {
             chip: chip,
             log: chip::START,
@@ -482,17 +460,53 @@ impl Tuner {
             hz: hz,
         };
         let f = tuning::tune(start, by, outcomes, replies, room);
-        let answered = chip::finish(f, whole_answer(plan, hz), room);
+        let answered = chip::finish(f, tuning::whole_answer(plan, hz), room);
         let left = f.chip;
         let log = f.log;
         let seen = log.seen;
         self.chip = left;
-        self.lock = locked(seen, self.lock);
-        Told {
-            tuner: self,
-            answer: answered,
-            count: f.log.count,
+        self.lock = tuning::lock_after(seen, self.lock);
+        TuneTold {
+            told: Told {
+                tuner: self,
+                answer: answered,
+                count: log.count,
+            },
+            tries: seen.tries,
+            locked: seen.locked,
         }
+    }
+
+    pub fn set_frequency(
+        self,
+        hz: u64,
+        outcomes: &[u8],
+        replies: &[u8],
+        room: &mut [u8],
+    ) -> TuneTold
+        ensures { λ r. ⌜ (called (r .told .tuner) (now (room .exit)) (r .told .count) (r .told .answer)
+            ≡ resultOf (Tune hz (now (replies .entry))) (now (outcomes .entry)) self (now (room .entry)))
+            × (saw (r .tries) (r .locked) ≡ seenOf (Tune hz (now (replies .entry))) (now (outcomes .entry)) self (now (room .entry))) ⌝ }
+    {
+        let ifreq = self.ifreq;
+        let number = self.refusal(
+            hz_refusal(hz, ifreq),
+            53,
+            35,
+            room.len(),
+            outcomes.len(),
+            replies.len(),
+        );
+        if number != 0 {
+            return TuneTold {
+                told: refused(self, number),
+                tries: 0,
+                locked: false,
+            };
+        }
+        let kind = self.kind;
+        let plan = pll::plan_pll(kind, hz + ifreq, self.corrected);
+        self.tune(plan, hz, outcomes, replies, room)
     }
 
     // The mask leaf called alone: the shadow is changed and nothing is sent.

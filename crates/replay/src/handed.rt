@@ -62,12 +62,17 @@ pub fn answered(c: &[u8], answer: Answer, out: &[u8; 1024], n: usize) -> Verdict
     compare::agrees(c, numbers(answer, 0), &[], &[], &[], room(out, n))
 }
 
-pub fn judged(c: &[u8], told: Told, room: &[u8]) -> Verdict {
+// With what the call answered in bytes.
+pub fn judged_with(c: &[u8], told: Told, room: &[u8], answered: &[u8]) -> Verdict {
     let answer = told.answer;
     let tuner = told.tuner;
     let told = numbers(answer, told.count);
     let next = next_tuner(told, tuner);
-    compare::agrees(c, told, room, &next, &[], &[])
+    compare::agrees(c, told, room, &next, &[], answered)
+}
+
+pub fn judged(c: &[u8], told: Told, room: &[u8]) -> Verdict {
+    judged_with(c, told, room, &[])
 }
 
 // A given record that is none.

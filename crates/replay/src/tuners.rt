@@ -6,6 +6,7 @@ use crate::handed;
 use crate::layout;
 use compare::Verdict;
 use r82xx::Told;
+use r82xx::TuneTold;
 use r82xx::Tuner;
 
 pub fn fresh(c: &[u8]) -> Verdict {
@@ -27,11 +28,9 @@ pub fn fresh(c: &[u8]) -> Verdict {
 // The calls of one or more steps.
 fn stepped(c: &[u8], t: Tuner, room: &mut [u8]) -> Told {
     let outcomes = layout::part(c, layout::OUTCOMES);
-    let replies = layout::part(c, layout::REPLIES);
     let a = layout::eight(c, layout::A);
     match layout::one(c, layout::CALL) {
         2 => t.initialize(outcomes, room),
-        3 => t.set_frequency(a, outcomes, replies, room),
         4 => t.set_gain(
             wire::float_of(layout::four(c, layout::A) as u32),
             outcomes,
@@ -80,6 +79,38 @@ pub fn changed(c: &[u8]) -> Verdict {
     let t = read.tuner;
     let told = asked(c, t, n, &mut space);
     handed::judged(c, told, handed::room(&space, n))
+}
+
+fn tune(c: &[u8], t: Tuner, n: usize, space: &mut [u8]) -> TuneTold
+    requires { ⌜ n ≤ length (now space) ⌝ }
+{
+    let outcomes = layout::part(c, layout::OUTCOMES);
+    let replies = layout::part(c, layout::REPLIES);
+    t.set_frequency(
+        layout::eight(c, layout::A),
+        outcomes,
+        replies,
+        &mut space[0..n],
+    )
+}
+
+// A tuning (3), which tells its tries and whether it locked beside any answer: the case has them as answered bytes.
+pub fn tuned(c: &[u8]) -> Verdict {
+    let mut space = [0xa5u8; 1024];
+    let n = layout::two(c, layout::ROOM);
+    if 1024 < n {
+        return Verdict::Differ;
+    }
+    let read = records::decode_tuner(layout::part(c, layout::TUNER));
+    let t = read.tuner;
+    if !read.ok {
+        let told = r82xx::refused(t, chip::SETUP);
+        return handed::judged_with(c, told, handed::room(&space, n), &[0, 0]);
+    }
+    let tuned = tune(c, t, n, &mut space);
+    let told = tuned.told;
+    let seen = [(tuned.tries % 256) as u8, tuned.locked as u8];
+    handed::judged_with(c, told, handed::room(&space, n), &seen)
 }
 
 pub fn get_gain(c: &[u8]) -> Verdict {

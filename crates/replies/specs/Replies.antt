@@ -1,8 +1,10 @@
 -- An answer as the numbers that a host is told. Document 01, "Refusal numbers": "A refused call's value is 0; 11 also gives the failing entry's index."
 -- Assumes nothing.
 use Prim.Native.Nat.{ℕ, zero, suc, _%_}
+use mathlib.Core.Bool.{cond}
 use mathlib.Core.List.{List, [], _∷_}
 use Rattle.chip.specs.declared.Answer.{Answer}
+use Rattle.chip.specs.declared.Seen.{Seen}
 use Rattle.chip.specs.Calls.{Called, indexOf, numberOf, valueOf}
 use Rattle.transcript.specs.declared.Entry.{Entry}
 use Rattle.transcript.specs.declared.Section.{Section}
@@ -30,8 +32,10 @@ outcomeAt [] i = 0
 outcomeAt (e ∷ es) zero = e .outcome
 outcomeAt (e ∷ es) (suc i) = outcomeAt es i
 
-abbrev pub tunedOf : Reply → TuneReply
-tunedOf r = record { value = r .value; index = r .index; refusal = r .refusal; count = r .count }
+-- #101: a tuning's reply tells beside it how many tries there were, and 1 where it locked
+abbrev pub tunedOf : Reply → Seen → TuneReply
+tunedOf r s =
+    record { value = r .value; index = r .index; refusal = r .refusal; count = r .count; tries = s .tries; locked = cond (s .locked) 1 0 }
 
 -- "refused: empty parts"
 abbrev pub noParts : Parts

@@ -3,6 +3,7 @@
 // enum, the promises use a definition that gives this paper's number and values for each case of the enum."
 ghost use mathlib.Core.Path.{_≡_};
 ghost use Prim.Native.Nat.{_%_};
+ghost use Rattle.chip.specs.Entries.{saw};
 ghost use Rattle.replies.specs.Replies.{partsOf, replyOf, tunedOf};
 use chip::Answer;
 use transcript::Section;
@@ -16,13 +17,15 @@ pub struct Reply {
     pub count: u32,
 }
 
-// A tuning's, of its own: change request #101 adds to it.
+// A tuning's, of its own. #101: how many tries there were, and 1 where one of them read the lock bit, also beside refusal 11.
 #[repr(C)]
 pub struct TuneReply {
     pub value: u64,
     pub index: u64,
     pub refusal: u32,
     pub count: u32,
+    pub tries: u32,
+    pub locked: u32,
 }
 
 // Where a section stands in a slice: behind `start` bytes, `count` entries of 16 bytes, then its trailer.
@@ -66,14 +69,16 @@ pub fn numbers(answer: Answer, count: usize) -> Reply
     }
 }
 
-pub fn tuned(r: Reply) -> TuneReply
-    ensures { λ t. ⌜ t ≡ tunedOf r ⌝ }
+pub fn tuned(r: Reply, tries: u16, locked: bool) -> TuneReply
+    ensures { λ t. ⌜ t ≡ tunedOf r (saw tries locked) ⌝ }
 {
     TuneReply {
         value: r.value,
         index: r.index,
         refusal: r.refusal,
         count: r.count,
+        tries: tries as u32,
+        locked: locked as u32,
     }
 }
 

@@ -11,6 +11,7 @@ use lib.ListN.{getD, length, set, length-set}
 use Rattle.transcript.specs.declared.Entry.{Entry}
 use Rattle.chip.specs.declared.Answer.the-variants.{Done}
 use Rattle.chip.specs.declared.Chip.{Chip}
+use Rattle.chip.specs.Calls.{callEntries}
 use Rattle.chip.specs.Courses.{Asked, askedBy, leftBy, mostOf, stepsOf}
 use Rattle.chip.specs.Steps.{Step, every}
 use Rattle.chip.proofs.Laws.{and-left, and-right}
@@ -22,7 +23,7 @@ use Rattle.demod.specs.Calls as demod
 use Rattle.demod.specs.Calls.Order.{Baseband, LowIf, ZeroIf, Reset, Direct, Start, Stop, IfXtal, RateXtal}
 use Rattle.demod.proofs.Lengths.{direct-length, if-length, init-length, low-if-length, rate-length, reset-length, start-length, stop-length, zero-if-length}
 use Rattle.history.specs.Programs.{beside, fine}
-use Rattle.history.specs.Histories.{History, callEntries}
+use Rattle.history.specs.Histories.{History}
 use Rattle.history.specs.Histories.History.{aside}
 use Rattle.sequences.specs.Asides.{Aside, Other, asideAsked, asideEntries, asideGiven, asideMost, asideResult, asideRow, asideUncut}
 use Rattle.sequences.specs.Asides.Other.{Pin, Demod}

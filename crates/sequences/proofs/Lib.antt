@@ -6,3 +6,4 @@ pub mod Asides
 pub mod Most
 pub mod Demand
 pub mod Worked
+pub mod Tried

@@ -17,7 +17,7 @@ use Rattle.chip.specs.declared.Answer.{Answer}
 use Rattle.chip.specs.declared.Answer.the-variants.{Refused}
 use Rattle.chip.specs.declared.Chip.{Chip}
 use Rattle.chip.specs.declared.Went.the-variants.{Going}
-use Rattle.chip.specs.Calls.{Called, answerOf, callOf, lentOf, lockedIn, performed, triesIn}
+use Rattle.chip.specs.Calls.{Called, answerOf, callEntries, callOf, lentOf, performed}
 use Rattle.chip.specs.Steps.{Step, Trace, run, step, trace}
 use Rattle.pll.specs.declared.Kind.{Kind}
 use Rattle.pll.specs.declared.Kind.the-variants.{R820T, R828D}
@@ -28,15 +28,14 @@ use Rattle.pll.specs.Fraction.{turnOf, turnsOf}
 use Rattle.pll.specs.Plan.{planOf as pllOf, planWith}
 use Rattle.pll.specs.Setting.{settingOf}
 use Rattle.status.specs.Reversal.{reversed}
-use Rattle.tuning.specs.Program.{innerSteps, tuneSteps}
+use Rattle.tuning.specs.Program.{innerSteps, tuneSteps, wholeOf}
 use Rattle.tuning.specs.Tries.{repairUpdates, triesFrom}
 use Rattle.r82xx.specs.declared.Tuner.{Tuner}
-use Rattle.r82xx.specs.Record.{freshTuner, lockBy, sound, withChip, withLock}
-use Rattle.r82xx.specs.Calls.{hzRefusal, planFor, refusalOf, wholeOf}
-use Rattle.r82xx.specs.Orders.{bracket, gainRow, pathRow, resultOf}
+use Rattle.r82xx.specs.Record.{freshTuner, sound}
+use Rattle.r82xx.specs.Calls.{hzRefusal, planFor, refusalOf}
+use Rattle.r82xx.specs.Orders.{bracket, gainRow, lockKept, pathRow, resultOf, tuneOf}
 use Rattle.r82xx.specs.Orders.Order.{Initialize, Reload, Bandwidth, IfFreq, Gain, GainIndex, InputPath, Tune}
 use Rattle.driver.specs.Record.{driver, xtalBy}
-use Rattle.history.specs.Histories.{callEntries}
 use Rattle.chip.specs.Courses.{Course, askedBy, leftBy, stepsOf}
 use Rattle.chip.specs.Courses.Course.{Still, Taken}
 use Rattle.sequences.specs.Calls.{Call, Order, asked, call, entries, most, rowOf, soundFor}
@@ -157,8 +156,7 @@ none-failed address hz kind notch rs os c = refl
 abbrev byPlan : Tuner → ℕ → List ℕ → List ℕ → List ℕ → Pll → Called Tuner
 byPlan t hz os rs room plan =
     callOf (refusalOf t (hzRefusal hz (t .ifreq)) 53 35 (length room) (length os) (length rs)) (wholeOf plan hz) os
-    (tuneSteps (t .chip .address) (t .kind) (t .notch) plan hz rs) (t .chip)
-    (λ tr. withLock (withChip t (tr .chip)) (lockBy (lockedIn (tr .log)) (triesIn (tr .log)) (t .lock))) t room
+    (tuneOf t plan hz rs) (t .chip) (lockKept t) t room
 
 tune-by-plan : (t : Tuner) (hz : ℕ) (os rs room : List ℕ) → resultOf (Tune hz rs) os t room ≡ byPlan t hz os rs room (planFor t hz)
 unfolding resultOf leftBy

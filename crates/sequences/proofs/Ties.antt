@@ -14,11 +14,11 @@ use Rattle.transcript.specs.Sections.{Parted}
 use Rattle.chip.specs.declared.Answer.the-variants.{Refused, Stopped}
 use Rattle.chip.specs.declared.Chip.{Chip}
 use Rattle.chip.specs.declared.Went.the-variants.{Refused11}
-use Rattle.chip.specs.Calls.{Called}
+use Rattle.chip.specs.Calls.{Called, callEntries}
 use Rattle.chip.specs.Courses.{Asked, askedBy}
 use Rattle.chip.specs.Steps.{run, trace}
 use Rattle.r82xx.specs.declared.Tuner.{Tuner}
-use Rattle.history.specs.Histories.{Cut, History, callEntries, stops, wentIn}
+use Rattle.history.specs.Histories.{Cut, History, stops, wentIn}
 use Rattle.history.specs.Histories.History.{still}
 use Rattle.history.proofs.Fitted.{most-trace}
 use Rattle.history.proofs.Calls.{call-count, call-cut, call-history, call-index, call-read, call-refused}

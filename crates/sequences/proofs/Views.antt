@@ -35,7 +35,8 @@ use Rattle.reference.specs.Correct.{correctedOf}
 use Rattle.writes.specs.Lists.{bandwidthUpdates, gainUpdates, ifUpdates, pathUpdates}
 use Rattle.r82xx.specs.declared.Tuner.{Tuner}
 use Rattle.r82xx.specs.Record.{reloaded, sound, withGain, withIf}
-use Rattle.r82xx.specs.Calls.{planFor, wholeOf}
+use Rattle.tuning.specs.Program.{wholeOf}
+use Rattle.r82xx.specs.Calls.{planFor}
 use Rattle.r82xx.specs.Orders.{bracket, gainRow, pathRow, ppmRow}
 use Rattle.r82xx.specs.Orders as tuner
 use Rattle.r82xx.specs.Orders.Order.{Initialize, Reload, Bandwidth, IfFreq, Gain, GainIndex, InputPath, Tune, Shadow, Ppm, Notch, GainTold, IfTold, TableTold}

@@ -7,12 +7,11 @@ use lib.Dec.{leb}
 use lib.ListN.{length, set}
 use Rattle.transcript.specs.declared.Entry.{Entry}
 use Rattle.chip.specs.Calls.{Called}
-use Rattle.chip.specs.Courses.{Asked, Course, askedBy, mostOf}
+use Rattle.chip.specs.Courses.{Asked, Course, askedBy, entriesBy, mostOf}
 use Rattle.device.specs.Calls.{freeResult, noChip}
 use Rattle.device.specs.Gpio as gpio
 use Rattle.demod.specs.Calls as demod
 use Rattle.demod.specs.Calls.Order.{Baseband, LowIf, ZeroIf, Reset, Direct, Start, Stop, IfXtal, RateXtal}
-use Rattle.history.specs.Histories.{callEntries}
 
 pub data Other : Type 0 where
   Pin : (o : gpio.Order) → Other
@@ -40,7 +39,7 @@ abbrev pub asideAsked : Aside → Asked
 asideAsked a = askedBy true (asideRow (a .other)) (length (a .outcomes)) (length (a .room))
 
 abbrev pub asideEntries : Aside → List Entry
-asideEntries a = callEntries (asideAsked a .number) (a .outcomes) (asideAsked a .steps) noChip
+asideEntries a = entriesBy (asideAsked a) (a .outcomes) noChip
 
 -- "the uncut call is the one with the failing step done and all other outcomes and replies equal"
 abbrev pub asideUncut : ℕ → Aside → Aside

@@ -9,7 +9,7 @@ use lib.ListN.{length, set}
 use Rattle.transcript.specs.declared.Entry.{Entry}
 use Rattle.board.specs.Numbers.{pathOf}
 use Rattle.chip.specs.Calls.{Called, called}
-use Rattle.chip.specs.Courses.{Asked, Course, askedBy, mostOf, repliesOf}
+use Rattle.chip.specs.Courses.{Asked, Course, askedBy, entriesBy, mostOf, repliesOf}
 use Rattle.chip.specs.Courses.Course.{Still, Taken}
 use Rattle.chip.specs.Steps.{every}
 use Rattle.r82xx.specs.declared.Tuner.{Tuner}
@@ -18,7 +18,6 @@ use Rattle.r82xx.specs.Record.{sound}
 use Rattle.driver.specs.declared.Driver.{Driver}
 use Rattle.driver.specs.Record.{soundDriver}
 use Rattle.driver.specs.Calls.{Both, boardResult, boardRow, rateResult, rateRow}
-use Rattle.history.specs.Histories.{callEntries}
 
 -- what is called, with its arguments: a call of the tuner's table, or one of the driver's; rs are the replies. `set_sample_rate` takes a driver's record too:
 -- any, so that nothing hangs on where it comes from
@@ -77,7 +76,7 @@ asked k t = askedBy (soundFor (k .order) t) (rowOf (k .order) t) (length (k .out
 
 -- proofs/Ties.antt: they are the ones that the reader finds in the room that the contract hands back
 abbrev pub entries : Call → Tuner → List Entry
-entries k t = callEntries (asked k t .number) (k .outcomes) (asked k t .steps) (t .chip)
+entries k t = entriesBy (asked k t) (k .outcomes) (t .chip)
 
 -- "the uncut call is the one with the failing step done and all other outcomes and replies equal"
 abbrev pub uncut : ℕ → Call → Call

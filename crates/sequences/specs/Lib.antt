@@ -1,3 +1,4 @@
 pub mod Calls
 pub mod Asides
 pub mod Sequences
+pub mod Waited

@@ -9,13 +9,16 @@ use lib.ListN.{length}
 use lib.Seq.{sets}
 use Rattle.chip.specs.declared.Answer.{Answer}
 use Rattle.chip.specs.declared.Answer.the-variants.{Done, Refused, Stopped}
-use Rattle.chip.specs.Calls.{Called}
-use Rattle.chip.specs.Courses.{Course, argumentOf, leftBy}
+use Rattle.chip.specs.declared.Seen.{Seen}
+use Rattle.chip.specs.Calls.{Called, seenIn}
+use Rattle.chip.specs.Courses.{Course, argumentOf, askedBy, entriesBy, leftBy}
+use Rattle.chip.specs.Entries.{unseen}
 use Rattle.r82xx.specs.declared.Tuner.{Tuner}
 use Rattle.r82xx.specs.Record.{sound}
 use Rattle.records.specs.Tuners.{tunerBytes, tunerOf}
 use Rattle.replies.specs.declared.Reply.{Reply}
-use Rattle.replies.specs.Replies.{callReply, replyOf}
+use Rattle.replies.specs.declared.TuneReply.{TuneReply}
+use Rattle.replies.specs.Replies.{callReply, replyOf, tunedOf}
 
 -- what a call over bytes leaves: its answer, the room, the slice for the next record
 pub record After : Type 0 where
@@ -57,6 +60,29 @@ overTuner row os b room next =
     unlessRefused (readyOf (tunerOf b .ok) (argumentOf (row (tunerOf b .tuner))) (length next) 105)
     (λ n. refusal n room next)
     (handed (leftBy (sound (tunerOf b .tuner)) (row (tunerOf b .tuner)) os (tunerOf b .tuner .chip) (tunerOf b .tuner) room) next)
+
+-- ---- a tuning, which has a reply of its own
+
+pub record Tuned : Type 0 where
+  pub answer : TuneReply
+  pub room : List ℕ
+  pub next : List ℕ
+
+abbrev pub tunedTo : TuneReply → List ℕ → List ℕ → Tuned
+tunedTo answer room next = record { answer = answer; room = room; next = next }
+
+abbrev pub tunedBy : After → Seen → Tuned
+tunedBy a s = tunedTo (tunedOf (a .answer) s) (a .room) (a .next)
+
+-- #101: what a call over bytes tells of the lock, by the entries that it makes on the record that the bytes are
+unfoldable pub seenOver : (Tuner → Course Tuner) → List ℕ → List ℕ → List ℕ → List ℕ → Seen
+seenOver row os b room next =
+    unlessRefused (readyOf (tunerOf b .ok) (argumentOf (row (tunerOf b .tuner))) (length next) 105)
+    (λ n. unseen)
+    (seenIn (entriesBy (askedBy (sound (tunerOf b .tuner)) (row (tunerOf b .tuner)) (length os) (length room)) os (tunerOf b .tuner .chip)))
+
+unfoldable pub overTuning : (Tuner → Course Tuner) → List ℕ → List ℕ → List ℕ → List ℕ → Tuned
+overTuning row os b room next = tunedBy (overTuner row os b room next) (seenOver row os b room next)
 
 -- a path's number above 2 names none
 abbrev pub pathRefusal : ℕ → ℕ

@@ -11,13 +11,14 @@ ghost use Rattle.r82xx.specs.Orders.Order.{Initialize, Reload, Bandwidth, IfFre
 ghost use Rattle.records.specs.Tuners.{tunerBytes};
 ghost use Rattle.replies.specs.Replies.{replyOf};
 ghost use Rattle.chip.specs.declared.Answer.the-variants.{Refused};
-ghost use Rattle.tuners.specs.Over.{after, keptOf, nextOf, overTuner, pathRefusal, readyOf};
+ghost use Rattle.tuners.specs.Over.{after, keptOf, nextOf, overTuner, overTuning, pathRefusal, readyOf, tunedTo};
 ghost use Rattle.tuners.specs.Still.{answerOver, changedInto, freshInto, tableOver};
 use chip::Answer;
 use r82xx::Told;
 use r82xx::Tuner;
 use records::TUNER;
 use replies::Reply;
+use replies::TuneReply;
 
 // 1 for the record, then an argument's number, then 8 for the slice that the next record's `need` bytes go to; 0 where none is given.
 pub fn ready(ok: bool, argument: u8, next: usize, need: usize) -> u8
@@ -211,9 +212,9 @@ pub fn set_frequency(
     replies: &[u8],
     room: &mut [u8],
     next: &mut [u8],
-) -> Reply
-    ensures { λ r. ⌜ after r (now (room .exit)) (now (next .exit))
-        ≡ overTuner (courseOf (Tune hz (now (replies .entry)))) (now (outcomes .entry)) (now (tuner .entry)) (now (room .entry)) (now (next .entry)) ⌝ }
+) -> TuneReply
+    ensures { λ r. ⌜ tunedTo r (now (room .exit)) (now (next .exit))
+        ≡ overTuning (courseOf (Tune hz (now (replies .entry)))) (now (outcomes .entry)) (now (tuner .entry)) (now (room .entry)) (now (next .entry)) ⌝ }
 {
     let read = records::decode_tuner(tuner);
     let given = read.tuner;
@@ -224,10 +225,11 @@ pub fn set_frequency(
         TUNER,
     );
     if number != 0 {
-        return refuse(number);
+        return replies::tuned(refuse(number), 0, false);
     }
-    let told = given.set_frequency(hz, outcomes, replies, room);
-    hand(told, next)
+    let tuned = given.set_frequency(hz, outcomes, replies, room);
+    let reply = hand(tuned.told, next);
+    replies::tuned(reply, tuned.tries, tuned.locked)
 }
 
 fn lend(answer: Answer, tuner: Tuner, out: &mut [u8]) -> Answer

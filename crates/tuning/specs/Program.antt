@@ -5,12 +5,19 @@ use Prim.Native.Nat.{ℕ}
 use mathlib.Core.Bool.{Bool}
 use mathlib.Core.List.{List, [], _++_}
 use lib.ListN.{getD}
+use Rattle.chip.specs.declared.Answer.{Answer}
+use Rattle.chip.specs.declared.Answer.the-variants as answer
 use Rattle.chip.specs.Steps.{Step, behind, updates}
 use Rattle.pll.specs.declared.Kind.{Kind}
 use Rattle.pll.specs.declared.Pll.{Pll}
 use Rattle.pll.specs.declared.Pll.the-variants.{Planned, Refused}
 use Rattle.tuning.specs.Mux.{muxUpdates, pllUpdates, rangeOf}
 use Rattle.tuning.specs.Tries.{repairUpdates, statusSteps, triesFrom}
+
+-- what a tuning answers where no step failed: the hz asked, or 2 in the PLL
+abbrev pub wholeOf : Pll → ℕ → Answer
+wholeOf Refused hz = answer.Refused 2
+wholeOf (Planned p) hz = answer.Done hz
 
 -- the divider's number of a plan; at most 5, as pll shows
 abbrev pub dividerNumber : Pll → ℕ

@@ -2,13 +2,14 @@
 -- reversed. No lock isn't a refusal." "Transcript and script": "Tune takes replies 0..4 as status, then three per try."
 -- Assumes nothing.
 use Prim.Native.Nat.{ℕ, zero, suc, _+_, _-_, _*_, _/_}
-use mathlib.Core.Bool.{Bool, cond}
+use mathlib.Core.Bool.{Bool, true, false, cond}
 use mathlib.Core.List.{List, [], _∷_, _++_}
 use lib.Bits.{bitAnd}
 use lib.Dec.{eqb, ltb}
 use lib.ListN.{getD, take, drop}
 use lib.Seq.{sets}
 use Rattle.status.specs.Reversal.{lockedBy, reversed}
+use Rattle.chip.specs.declared.Seen.{Seen}
 use Rattle.chip.specs.declared.Update.{Update}
 use Rattle.transcript.specs.Entries.{zeros8}
 use Rattle.chip.specs.Entries.{pointer, readEntry, wait}
@@ -64,3 +65,7 @@ unfoldable pub triesFrom : ℕ → List ℕ → ℕ → ℕ → List Step
 triesFrom address rs zero i = []
 triesFrom address rs (suc left) i =
     tryRead address rs i ++ cond (locksAt rs i) (updates locked) (afterTry i ++ triesFrom address rs left (i + 1))
+
+-- "lock only when the waiting has ended": true where a done three-byte read has the bit, false where all ten tries ended without it, else as before
+abbrev pub lockBy : Seen → Bool → Bool
+lockBy seen old = cond (seen .locked) true (cond (eqb (seen .tries) 10) false old)

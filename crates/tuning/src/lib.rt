@@ -12,10 +12,12 @@ ghost use Rattle.chip.specs.Entries.{pointer, readEntry, wait};
 ghost use Rattle.chip.specs.Steps.{closing, due, inRoom, listed, masked, onLog, onRoom, run, updates};
 ghost use Rattle.chip.specs.Steps.Step.{Plain};
 ghost use Rattle.tuning.specs.Mux.{laterOf, muxUpdates, pllUpdates, rangeOf};
-ghost use Rattle.tuning.specs.Tries.{afterTry, locked, fineOf, powerOf, repairUpdates, replyBytes, statusSteps, triesFrom, tryRead};
-ghost use Rattle.tuning.specs.Program.{innerSteps, dividerNumber, pllSteps, tuneSteps};
+ghost use Rattle.tuning.specs.Tries.{afterTry, lockBy, locked, fineOf, powerOf, repairUpdates, replyBytes, statusSteps, triesFrom, tryRead};
+ghost use Rattle.tuning.specs.Program.{innerSteps, dividerNumber, pllSteps, tuneSteps, wholeOf};
+use chip::Answer;
 use chip::Flow;
 use chip::Log;
+use chip::Seen;
 use chip::Update;
 use chip::Updates;
 use chip::Went;
@@ -44,6 +46,29 @@ pub struct Tuning {
     pub notch: bool,
     pub plan: Pll,
     pub hz: u64,
+}
+
+// What a tuning answers where no step fails.
+pub fn whole_answer(plan: Pll, hz: u64) -> Answer
+    ensures { λ r. ⌜ r ≡ wholeOf plan hz ⌝ }
+{
+    match plan {
+        Pll::Refused => Answer::Refused(chip::FREQUENCY),
+        Pll::Planned(_) => Answer::Done(hz),
+    }
+}
+
+// The record's lock behind a tuning. It is not whether a try read the lock bit: a waiting that was cut leaves it as it was.
+pub fn lock_after(seen: Seen, old: bool) -> bool
+    ensures { λ r. ⌜ r ≡ lockBy seen old ⌝ }
+{
+    if seen.locked {
+        return true;
+    }
+    if seen.tries == 10 {
+        return false;
+    }
+    old
 }
 
 // What stands in the list of writes where the PLL has no plan; it is never taken.
@@ -342,7 +367,8 @@ fn after_lock(f: Flow, outcomes: &[u8], room: &mut [u8]) -> Flow
     chip::write_all(f, us, outcomes, room)
 }
 
-// `wait_pll_lock_raw(10)` and the write of 0x1a behind a lock.
+// `wait_pll_lock_raw(10)` and the write of 0x1a behind a lock. #101: "The waiting step shall answer locked or not with the number of tries": both stand in
+// the log that it hands on (`seen`), by every try's own entry.
 fn wait_pll_lock_raw(f: Flow, outcomes: &[u8], replies: &[u8], room: &mut [u8]) -> Flow
     requires { ⌜ (35 ≤ length (now replies))
         × (f .log .count + 31 + due (f .log .held) ≤ length (now outcomes)) × (16 * (f .log .count + 31 + due (f .log .held)) ≤ length (now room)) ⌝ }

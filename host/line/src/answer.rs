@@ -9,6 +9,8 @@ pub struct Told {
     pub word: &'static str,
     /// What follows the number on the line `answer: ..`.
     pub text: String,
+    /// Of a tuning that a step stopped: how its waiting for a lock went. A done one has it in its text.
+    pub lock: Option<String>,
     pub to_do: Option<String>,
     /// The failing step in the run, and in its call.
     pub step: Option<(usize, usize)>,
@@ -34,21 +36,29 @@ pub fn of(run: &Run, plan: &Plan, wish: &Wish) -> Told {
 }
 
 fn done(run: &Run, plan: &Plan) -> Told {
-    let locked = run.records.as_ref().is_some_and(|(tuner, _)| tuner.has_lock());
-    let text = format!("done: {} steps, tuner at {} Hz, {}", run.steps, plan.hz, if locked { "locked" } else { "NOT locked" });
-    Told { number: 0, word: "done", text, to_do: None, step: None }
+    let lock = lock(run).map_or_else(String::new, |lock| format!(", {lock}"));
+    let text = format!("done: {} steps, tuner at {} Hz{lock}", run.steps, plan.hz);
+    Told { number: 0, word: "done", text, lock: None, to_do: None, step: None }
+}
+
+/// How the tuning's waiting for a lock went: a log is looked through for the word in capitals.
+fn lock(run: &Run) -> Option<String> {
+    let lock = run.lock()?;
+    let text = lock.to_string();
+    Some(if lock.locked { text } else { text.replacen("not", "NOT", 1) })
 }
 
 fn refused(run: &Run, made: &Made, error: Error, wish: &Wish) -> Told {
     let call = made.call.name();
-    let (text, step) = match error {
+    let (text, lock, step) = match error {
         Error::Step { index } => {
             let whole = made.first + index;
-            (format!("{}, step {whole} of the run; {call} stopped at its own step {index}", words(error)), Some((whole, index)))
+            let text = format!("{}, step {whole} of the run; {call} stopped at its own step {index}", words(error));
+            (text, lock(run), Some((whole, index)))
         }
-        _ => (format!("{}; refused by {call}", words(error)), None),
+        _ => (format!("{}; refused by {call}", words(error)), None, None),
     };
-    Told { number: error.number(), word: error.word(), text, to_do: Some(to_do(run, made, error, wish)), step }
+    Told { number: error.number(), word: error.word(), text, lock, to_do: Some(to_do(run, made, error, wish)), step }
 }
 
 fn words(error: Error) -> &'static str {

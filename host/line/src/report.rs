@@ -58,6 +58,9 @@ impl Report {
         let answer = format!("answer: {}", self.told.number);
         let answer = if self.told.number == 0 { answer } else { out.loud(&answer) };
         out.line(&format!("{answer} {}", self.told.text));
+        if let Some(lock) = &self.told.lock {
+            out.line(&format!("lock: {lock}"));
+        }
         if let Some(to_do) = &self.told.to_do {
             out.line(&format!("to do: {to_do}"));
         }
@@ -103,8 +106,9 @@ impl Report {
 
     /// The refusal for somebody who asked for nothing else.
     pub fn in_one_line(&self) -> String {
-        let to_do = self.told.to_do.as_ref().map_or_else(String::new, |to_do| format!("; to do: {to_do}"));
-        format!("answer: {} {}{to_do}", self.told.number, self.told.text)
+        let more = |name: &str, text: &Option<String>| text.as_ref().map_or_else(String::new, |text| format!("; {name}: {text}"));
+        let (lock, to_do) = (more("lock", &self.told.lock), more("to do", &self.told.to_do));
+        format!("answer: {} {}{lock}{to_do}", self.told.number, self.told.text)
     }
 
     /// The sections and the record into their files, also of a run that stopped.
@@ -130,7 +134,8 @@ impl Report {
             ("answer", self.told.json(&self.run)),
             ("steps", self.run.steps.to_string()),
             ("unreached", json::maybe(self.unreached)),
-            ("locked", json::maybe(records.map(|(tuner, _)| tuner.has_lock()))),
+            ("tries", json::maybe(self.run.lock().map(|lock| lock.tries))),
+            ("locked", json::maybe(self.run.lock().map(|lock| lock.locked))),
             ("registers", records.map_or_else(|| String::from("[]"), |(tuner, _)| registers(tuner))),
         ];
         let fields: Vec<String> = fields.iter().map(|(name, value)| format!("{}: {value}", json::string(name))).collect();

@@ -1,5 +1,5 @@
 //! The calls of a run, one after the other over the same records. Each is made only while none before it was refused or stopped.
-use pasetone::{Answer, Board, Driver, Error, InputPath, Need, Plan, Script, Transcript, Tuner, TunerKind};
+use pasetone::{Answer, Board, Driver, Error, InputPath, Lock, Need, Plan, Script, Transcript, Tuner, TunerKind};
 
 /// The calls by the names that are printed.
 #[derive(Clone, Copy, PartialEq, Eq)]
@@ -68,6 +68,8 @@ pub struct Made {
     pub first: usize,
     pub transcript: Transcript,
     pub result: Result<(), Error>,
+    /// Of a tuning: how its waiting for a lock went.
+    pub lock: Option<Lock>,
     /// What of the script was left for it.
     pub left: Need,
 }
@@ -141,7 +143,12 @@ impl Run {
         tuner.apply_notch(plan.notch);
         self.after(Call::Notch, Ok(()), Transcript::default())?;
         let answer = tuner.set_frequency(plan.hz, &self.script());
-        self.stepped(Call::Tune, answer)
+        let lock = answer.lock;
+        let ended = self.stepped(Call::Tune, answer.into());
+        if let Some(made) = self.made.last_mut() {
+            made.lock = Some(lock);
+        }
+        ended
     }
 
     /// It takes its replies whether its reads were done or not.
@@ -167,8 +174,13 @@ impl Run {
         let first = self.steps;
         let left = Need { outcomes: self.outcomes.len().saturating_sub(first), replies: self.replies.len().saturating_sub(self.taken) };
         self.steps += transcript.len();
-        self.made.push(Made { call, first, transcript, result, left });
+        self.made.push(Made { call, first, transcript, result, lock: None, left });
         result.ok()
+    }
+
+    /// How the tuning's waiting for a lock went, where the run came to it.
+    pub fn lock(&self) -> Option<Lock> {
+        self.made.last().and_then(|made| made.lock)
     }
 
     /// The sections end to end.

@@ -1,5 +1,5 @@
 //! A receiver from Rust: set up, tuned with one step failing, and brought back. host/c/receiver.c prints the same lines.
-use pasetone::{Answer, Board, Driver, Error, Script, Tuner, TunerKind};
+use pasetone::{Answer, Board, Driver, Error, Lock, Script, Tuner, TunerKind};
 
 /// The lines of receiver.c, so in short; an error's own text says in a sentence what to do.
 fn print_answer<T>(what: &str, answer: &Answer<T>) {
@@ -24,6 +24,8 @@ fn print_doubtful(tuner: &Tuner) {
 
 fn tune(tuner: &mut Tuner, what: &str, script: &Script) {
     let answer = tuner.set_frequency(102_300_000, script);
+    let lock = answer.lock;
+    let answer = answer.into();
     print_answer(what, &answer);
     if let Err(Error::Step { index }) = answer.result
         && let Some(entry) = answer.transcript.get(index)
@@ -32,7 +34,10 @@ fn tune(tuner: &mut Tuner, what: &str, script: &Script) {
         let (kind, outcome) = (entry.kind.number(), u8::from(entry.failed));
         println!("entry {index}: kind {kind}, outcome {outcome}, target 0x{:02x}, bytes {}", entry.target, bytes.join(" "));
     }
-    println!("lock: {}", if tuner.has_lock() { "yes" } else { "no" });
+    match lock {
+        Lock { tries, locked: true } => println!("lock: at try {tries}"),
+        Lock { tries, locked: false } => println!("lock: none in {tries} tries"),
+    }
 }
 
 fn main() -> Result<(), Error> {

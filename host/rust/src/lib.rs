@@ -32,10 +32,10 @@
 //! clone is the next record.
 //!
 //! ```
-//! use pasetone::{Answer, Entry, EntryKind, Error, Script, Tuner, TunerKind};
+//! use pasetone::{Entry, EntryKind, Error, Script, TuneAnswer, Tuner, TunerKind};
 //!
 //! /// `take` takes one step: whether it was done, and the bytes of a read.
-//! fn tune(tuner: &mut Tuner, hz: u64, mut take: impl FnMut(&Entry) -> (bool, Vec<u8>)) -> Answer<u64> {
+//! fn tune(tuner: &mut Tuner, hz: u64, mut take: impl FnMut(&Entry) -> (bool, Vec<u8>)) -> TuneAnswer {
 //!     let (mut outcomes, mut replies) = (vec![0; Script::OUTCOMES], vec![0; Script::REPLIES]);
 //!     let (mut taken, mut read) = (0, 0);
 //!     loop {
@@ -65,6 +65,7 @@
 //! });
 //! assert_eq!(answer.result, Ok(100_000_000));
 //! assert_eq!(answer.transcript.len(), steps.len());
+//! assert_eq!(answer.lock.to_string(), "locked at try 1");
 //! assert!(tuner.has_lock());
 //! # Ok::<(), Error>(())
 //! ```
@@ -73,6 +74,8 @@
 #![deny(missing_docs, clippy::missing_errors_doc, clippy::undocumented_unsafe_blocks)]
 
 extern crate alloc;
+
+use core::fmt;
 
 pub mod demod;
 mod driver;
@@ -103,6 +106,55 @@ pub struct Answer<T> {
     pub result: Result<T, Error>,
     /// The steps taken, also where one of them failed.
     pub transcript: Transcript,
+}
+
+/// What [`Tuner::set_frequency`] hands back: an [`Answer`], and how the waiting for a lock went.
+#[derive(Clone, Debug, PartialEq)]
+#[must_use = "a call may be refused"]
+pub struct TuneAnswer {
+    /// The Hz asked, or why it was refused. A tuning that did not lock is not refused.
+    pub result: Result<u64, Error>,
+    /// The steps taken, also where one of them failed.
+    pub transcript: Transcript,
+    /// The tries for a lock, also where a step failed: then those up to it.
+    pub lock: Lock,
+}
+
+impl From<TuneAnswer> for Answer<u64> {
+    fn from(answer: TuneAnswer) -> Answer<u64> {
+        Answer { result: answer.result, transcript: answer.transcript }
+    }
+}
+
+/// How a tuning's waiting for a lock went. It is told of this tuning alone: what the record says ([`Tuner::has_lock`]) stays as it was
+/// where a tuning was refused, or cut before its waiting ended.
+///
+/// ```
+/// use pasetone::{Script, Tuner, TunerKind};
+///
+/// let mut tuner = Tuner::new(TunerKind::R828d, 0x74, 28_800_000)?;
+/// let answer = tuner.set_frequency(100_000_000, &Script::all_done().replying(13, 0x02)?);
+/// assert_eq!(answer.lock.to_string(), "locked at try 3");
+/// let answer = tuner.set_frequency(100_000_000, &Script::all_done());
+/// assert_eq!((answer.result, answer.lock.to_string().as_str()), (Ok(100_000_000), "not locked after 10 tries"));
+/// # Ok::<(), pasetone::Error>(())
+/// ```
+#[derive(Clone, Copy, Debug, Default, PartialEq, Eq, Hash)]
+pub struct Lock {
+    /// How many tries there were, at most ten: the three-byte reads of the transcript that were done. The one that reads the lock bit is the last.
+    pub tries: u32,
+    /// Whether a try read the lock bit.
+    pub locked: bool,
+}
+
+impl fmt::Display for Lock {
+    fn fmt(&self, f: &mut fmt::Formatter<'_>) -> fmt::Result {
+        match self {
+            Lock { tries, locked: true } => write!(f, "locked at try {tries}"),
+            Lock { tries: 1, locked: false } => f.write_str("not locked after 1 try"),
+            Lock { tries, locked: false } => write!(f, "not locked after {tries} tries"),
+        }
+    }
 }
 
 impl<T> Answer<T> {

@@ -16,8 +16,24 @@ pub struct Reply {
     pub count: u32,
 }
 
-/// `pasetone_tune_reply`, which has the same fields.
-pub type TuneReply = Reply;
+/// `pasetone_tune_reply`: tries and the lock beside them.
+#[repr(C)]
+#[derive(Clone, Copy)]
+pub struct TuneReply {
+    pub value: u64,
+    pub index: u64,
+    pub refusal: u32,
+    pub count: u32,
+    pub tries: u32,
+    pub locked: u32,
+}
+
+impl TuneReply {
+    /// What every call tells.
+    pub fn reply(self) -> Reply {
+        Reply { value: self.value, index: self.index, refusal: self.refusal, count: self.count }
+    }
+}
 
 /// `pasetone_section`.
 #[repr(C)]

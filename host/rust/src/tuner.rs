@@ -1,5 +1,5 @@
 use crate::raw::{self, Reply};
-use crate::{Answer, Error, Need, Script, in_room};
+use crate::{Answer, Error, Lock, Need, Script, TuneAnswer, in_room};
 use core::fmt;
 
 /// The tuner's chip.
@@ -96,7 +96,8 @@ impl Tuner {
         }))
     }
 
-    /// Tunes to `hz`: 53 outcomes, 35 replies. The value is the Hz asked. That the PLL did not lock is no refusal: [`Tuner::has_lock`] tells it.
+    /// Tunes to `hz`: 53 outcomes, 35 replies. The value is the Hz asked. That the PLL did not lock is no refusal: [`TuneAnswer::lock`] tells it, with the
+    /// number of tries.
     ///
     /// # Errors
     ///
@@ -104,16 +105,21 @@ impl Tuner {
     ///   when the steps of the mux (13 entries) are taken and stand.
     /// - [`Error::Outcomes`] (9): fewer than 53 outcomes.
     /// - [`Error::Replies`] (10): fewer than 35 replies.
-    /// - [`Error::Step`] (11): a step failed, and the steps before it stand.
-    pub fn set_frequency(&mut self, hz: u64, script: &Script) -> Answer<u64> {
+    /// - [`Error::Step`] (11): a step failed, and the steps before it stand. The tries are those up to it.
+    pub fn set_frequency(&mut self, hz: u64, script: &Script) -> TuneAnswer {
         let (o, p) = (script.outcomes(), script.replies());
-        // SAFETY: see raw.rs.
-        self.operate(Need::TUNE, |t, room, next| unsafe {
+        let mut lock = Lock::default();
+        let Answer { result, transcript } = self.operate(Need::TUNE, |t, room, next| {
+            // SAFETY: see raw.rs.
             #[rustfmt::skip]
-            let reply = raw::pasetone_set_frequency(t.as_ptr(), t.len(), hz, o.as_ptr(), o.len(), p.as_ptr(), p.len(),
-                room.as_mut_ptr(), room.len(), next.as_mut_ptr(), next.len());
-            reply
-        })
+            let told = unsafe {
+                raw::pasetone_set_frequency(t.as_ptr(), t.len(), hz, o.as_ptr(), o.len(), p.as_ptr(), p.len(),
+                    room.as_mut_ptr(), room.len(), next.as_mut_ptr(), next.len())
+            };
+            lock = Lock { tries: told.tries, locked: told.locked != 0 };
+            told.reply()
+        });
+        TuneAnswer { result, transcript, lock }
     }
 
     /// The gain step for `db`: 7 outcomes. The value is the gain set.

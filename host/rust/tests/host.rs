@@ -46,7 +46,7 @@ fn needs<T>(need: Need, call: impl Fn(&Script) -> Answer<T>) {
 #[test]
 fn needs_are_the_librarys() {
     needs(Need::INITIALIZE, |script| r828d().initialize(script));
-    needs(Need::TUNE, |script| r828d().set_frequency(100_000_000, script));
+    needs(Need::TUNE, |script| r828d().set_frequency(100_000_000, script).into());
     needs(Need::GAIN, |script| r828d().set_gain(29.7, script));
     needs(Need::GAIN, |script| r828d().set_gain_by_index(3, script));
     needs(Need::BANDWIDTH, |script| r828d().set_bandwidth(2_048_000, script));
@@ -184,7 +184,7 @@ fn as_printed(stored: &str, failing: Option<usize>) {
             1 => told(driver.set_sample_rate(&mut tuner, 2_048_000, &script)),
             2 => told(tuner.set_gain(29.7, &script)),
             3 => told(tuner.apply_input_path(InputPath::Vhf, &script)),
-            _ => told(tuner.set_frequency(102_300_000, &script)),
+            _ => told(tuner.set_frequency(102_300_000, &script).into()),
         };
         for entry in &transcript {
             assert_eq!(&rows[at][21..], entry.to_string());

@@ -1,6 +1,6 @@
 //! Document 01's worked numbers, and what a call leaves where it is refused.
 use pasetone::{
-    Board, Driver, EntryKind, Error, InputPath, PllPlan, Script, Transcript, Tuner, TunerKind, demod, gpio, if_freq_regs, pack_fir,
+    Board, Driver, EntryKind, Error, InputPath, Lock, PllPlan, Script, Transcript, Tuner, TunerKind, demod, gpio, if_freq_regs, pack_fir,
     resample_regs, unpack_fir,
 };
 
@@ -75,9 +75,33 @@ fn tuning() {
     assert_eq!((wait.kind, wait.address, wait.bytes), (EntryKind::Wait, 2, &[][..]));
     assert!(answer.transcript.get(53).is_none());
     assert!(!tuner.has_lock());
+    assert_eq!(answer.lock, Lock { tries: 10, locked: false });
     let locked = tuner.set_frequency(100_000_000, &done().replying(4, 0x08).unwrap().replying(7, 0x02).unwrap());
     assert_eq!(locked.result, Ok(100_000_000));
+    assert_eq!(locked.lock, Lock { tries: 1, locked: true });
     assert!(tuner.has_lock());
+}
+
+/// #101: tries and lock by the entries, wherever the tuning is cut. The third try reads the bit; entries 22, 26, 29 are the reads, 30 the write behind the lock.
+#[test]
+fn tries() {
+    let locking = done().replying(13, 0x02).unwrap();
+    let mut before = r828d();
+    before.set_frequency(100_000_000, &locking).result.unwrap();
+    assert!(before.has_lock());
+    for failing in 0..32 {
+        let mut tuner = before.clone();
+        let answer = tuner.set_frequency(100_000_000, &locking.clone().failing(failing).unwrap());
+        let read = |e: &pasetone::Entry| e.kind == EntryKind::I2cRead && e.bytes.len() == 3 && !e.failed;
+        let tries = answer.transcript.iter().filter(read).count() as u32;
+        let locked = answer.transcript.iter().any(|e| read(&e) && e.bytes[2] & 0x02 != 0);
+        assert_eq!(answer.lock, Lock { tries, locked }, "step {failing}");
+        let wait = [17, 24, 27].contains(&failing);
+        assert_eq!(locked, failing > 29 || wait, "step {failing}");
+        assert!(tuner.has_lock());
+    }
+    assert_eq!(before.set_frequency(1, &done()).lock, Lock::default());
+    assert_eq!(before.set_frequency(0, &done()).lock, Lock::default());
 }
 
 /// Steps that were taken stand: the record changes although the call is refused.
@@ -246,5 +270,5 @@ fn errors_have_numbers_and_words() {
     assert_eq!((Error::Step { index: 7 }.number(), Error::Step { index: 7 }.word()), (11, "step"));
     assert_eq!((Error::Coefficient.number(), Error::Coefficient.word()), (7, "coefficient"));
     assert_eq!(Transcript::read(&[]).map(|_| ()).unwrap_err().number(), 12);
-    assert_eq!(pasetone::version(), (1, 1, 0));
+    assert_eq!(pasetone::version(), (2, 0, 0));
 }

@@ -41,6 +41,9 @@ pub struct Answer {
     pub tuner: Option<Vec<u8>>,
     pub driver: Option<Vec<u8>>,
     pub answered: Vec<u8>,
+    /// #101, of a tune: how many tries there were, and whether one of them read the lock bit.
+    pub tries: usize,
+    pub locked: bool,
 }
 
 impl Answer {
@@ -62,8 +65,10 @@ pub fn bytes(case: &Case, answer: &Answer) -> Vec<u8> {
     all.extend(case.d.to_le_bytes());
     all.extend(case.e.to_le_bytes());
     all.extend(answer.value.to_le_bytes());
+    let seen = [u8::try_from(answer.tries).expect("at most ten"), answer.locked as u8];
+    let answered: &[u8] = if case.call == 3 { &seen } else { &answer.answered };
     let lengths = [answer.index, answer.count, case.room, case.outcomes.len(), case.replies.len()];
-    let others = [case.tuner.len(), case.driver.len(), case.input.len(), answer.answered.len()];
+    let others = [case.tuner.len(), case.driver.len(), case.input.len(), answered.len()];
     for length in lengths.into_iter().chain(others) {
         all.extend(short(length));
     }
@@ -74,7 +79,7 @@ pub fn bytes(case: &Case, answer: &Answer) -> Vec<u8> {
     for part in [&answer.section, &answer.tuner, &answer.driver] {
         all.extend(part.iter().flatten());
     }
-    all.extend(&answer.answered);
+    all.extend(answered);
     let length = all.len() as u32;
     assert!(length <= 2048, "call {}: a case of {length} bytes", case.call);
     all[..4].copy_from_slice(&length.to_le_bytes());

@@ -14,10 +14,20 @@ pub fn answered(call: u8) -> Option<usize> {
 
 pub fn answer(case: &Case) -> Answer {
     match case.call {
-        3 if too_small(case) => as_above_the_band(case),
+        3 => looked_at(if too_small(case) { as_above_the_band(case) } else { answer::answer(case) }),
         39 | 40 => figures(case),
         _ => answer::answer(case),
     }
+}
+
+/// #101: "Tries equal the three-byte reads in the transcript that were done", "and locked means a try read the lock bit". Both are read off the
+/// section that the Rust's run made; without one there were none. The bits of a status byte are reversed, so 0x40 is 0x02 as it is read.
+pub fn looked_at(mut answer: Answer) -> Answer {
+    let entries = answer.section.iter().flat_map(|section| section.chunks_exact(16)).take(answer.count);
+    let tries: Vec<&[u8]> = entries.filter(|e| e[0] == 3 && e[1] == 0 && e[3] == 3).collect();
+    answer.tries = tries.len();
+    answer.locked = tries.iter().any(|read| read[10] & 0x02 != 0);
+    answer
 }
 
 /// #111: "N below 13 is refused, which the Rust takes".

@@ -10,8 +10,17 @@ pub struct Reply {
     pub count: u32,
 }
 
-/// Tune's answer: a type of its own in C, with the same fields.
-pub type TuneReply = Reply;
+/// Tune's answer: #101 adds how many tries there were, and 1 where one of them read the lock bit.
+#[repr(C)]
+#[derive(Debug, Clone, Copy, Default, PartialEq, Eq)]
+pub struct TuneReply {
+    pub value: u64,
+    pub index: u64,
+    pub refusal: u32,
+    pub count: u32,
+    pub tries: u32,
+    pub locked: u32,
+}
 
 /// What the section reader answers.
 #[repr(C)]

@@ -8,6 +8,8 @@ use harness::records::{DRIVER, TUNER};
 #[derive(Debug, Clone)]
 pub struct Found {
     pub reply: Reply,
+    /// Of a tune: its tries, and whether it locked.
+    pub seen: (u32, u32),
     /// The room, or the slice lent for answered bytes.
     pub room: Lent,
     pub next_tuner: Lent,
@@ -24,6 +26,7 @@ pub fn call(given: &Given) -> Found {
     let (case, fill) = (&given.case, given.fill);
     let mut found = Found {
         reply: Reply::default(),
+        seen: (0, 0),
         room: Lent::new(case.room, fill),
         next_tuner: Lent::new(given.next_tuner, fill ^ 0x3c),
         next_driver: Lent::new(given.next_driver, fill ^ 0xc3),
@@ -70,7 +73,12 @@ fn on_record(c: &Case, f: &mut Found) -> Reply {
     unsafe {
         match c.call {
             2 => pasetone_initialize(t, tn, o, on, m, mn, n, nn),
-            3 => pasetone_set_frequency(t, tn, c.a, o, on, r, rn, m, mn, n, nn),
+            3 => {
+                let TuneReply { value, index, refusal, count, tries, locked } =
+                    pasetone_set_frequency(t, tn, c.a, o, on, r, rn, m, mn, n, nn);
+                f.seen = (tries, locked);
+                Reply { value, index, refusal, count }
+            }
             4 => pasetone_set_gain(t, tn, f32::from_bits(c.a as u32), o, on, m, mn, n, nn),
             5 => pasetone_set_gain_by_index(t, tn, c.a, o, on, m, mn, n, nn),
             6 => pasetone_set_bandwidth(t, tn, c.a as u32, o, on, m, mn, n, nn),
@@ -148,6 +156,10 @@ impl Found {
         let reply = Reply { value: wanted.value, index: wanted.index as u64, refusal: wanted.refusal as u32, count: wanted.count as u32 };
         if self.reply != reply {
             return Some(format!("answered {:?}, must be {reply:?}", self.reply));
+        }
+        let seen = (wanted.tries as u32, wanted.locked as u32);
+        if self.seen != seen {
+            return Some(format!("told {:?} of the tries and the lock, must be {seen:?}", self.seen));
         }
         let case = &given.case;
         let room = wanted.section.as_ref().unwrap_or(&wanted.answered);

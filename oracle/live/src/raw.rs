@@ -4,6 +4,7 @@ use crate::rules;
 use harness::answer::{call, sixteen, stepped};
 use harness::case::{Answer, By, Case};
 use harness::records::{Driver, Tuner};
+use harness::requests::looked_at;
 use harness::run::{self, run};
 use original::device::HardwareInterface;
 use original::tuner::{Tuner as Calls, TunerType};
@@ -67,7 +68,7 @@ fn on_chip(case: &Case) -> Answer {
     let (result, entries) = run(&case.outcomes, &case.replies, || call(&chip, case, &tuner));
     let mut answer = stepped(result, &entries, By::Rust);
     answer.tuner = Some(tuner.after(&chip.see(), &entries).bytes());
-    answer
+    if case.call == 3 { looked_at(answer) } else { answer }
 }
 
 fn without_steps(case: &Case) -> Answer {

@@ -40,28 +40,43 @@ impl Memory {
     }
 }
 
+/// What a reply says of its entries.
+trait Counted {
+    fn count(&self) -> u32;
+}
+impl Counted for Reply {
+    fn count(&self) -> u32 {
+        self.count
+    }
+}
+impl Counted for TuneReply {
+    fn count(&self) -> u32 {
+        self.count
+    }
+}
+
 /// A call on the memory, as work that can be repeated; its count of entries is what it says that it made.
-fn work(call: u8, replies: Vec<u8>, entries: u32, one: unsafe fn(&mut Memory) -> Reply) -> Work {
+fn work<R: Counted + 'static>(call: u8, replies: Vec<u8>, entries: u32, one: unsafe fn(&mut Memory) -> R) -> Work {
     let mut memory = Memory::new(call, replies);
     // Safe, here and below: the pointers and lengths are those of the memory's own buffers.
     let made = unsafe { one(&mut memory) };
-    assert_eq!(made.count, entries, "call {call}");
+    assert_eq!(made.count(), entries, "call {call}");
     Box::new(move || {
         black_box(unsafe { one(black_box(&mut memory)) });
         memory.turn();
     })
 }
 
-unsafe fn tune(m: &mut Memory, hz: u64) -> Reply {
+unsafe fn tune(m: &mut Memory, hz: u64) -> TuneReply {
     let ((t, tn), (o, on), (r, rn)) = (part(&m.tuner), part(&m.outcomes), part(&m.replies));
     unsafe {
         pasetone_set_frequency(t, tn, black_box(hz), o, on, r, rn, m.room.as_mut_ptr(), m.room.len(), m.next.as_mut_ptr(), m.next.len())
     }
 }
-unsafe fn tune_inside(m: &mut Memory) -> Reply {
+unsafe fn tune_inside(m: &mut Memory) -> TuneReply {
     unsafe { tune(m, 100_000_000) }
 }
-unsafe fn tune_outside(m: &mut Memory) -> Reply {
+unsafe fn tune_outside(m: &mut Memory) -> TuneReply {
     unsafe { tune(m, 1_900_000_000) }
 }
 unsafe fn gain(m: &mut Memory) -> Reply {

@@ -117,12 +117,20 @@ pub fn spoiled(found: &Found, how: usize) -> Option<(&'static str, Found)> {
         14 => spoil_byte(next.input.lent_mut(), 0, "given input")?,
         15 => spoil_byte(next.room.margin_mut(), 0, "byte behind the lent room")?,
         16 => spoil_byte(next.next_tuner.margin_mut(), 0, "byte behind the slice for the next tuner record")?,
+        17 => {
+            next.seen.0 ^= 1;
+            "tries"
+        }
+        18 => {
+            next.seen.1 ^= 1;
+            "lock"
+        }
         _ => spoil_byte(next.tuner.margin_mut(), 0, "byte behind the given tuner record")?,
     };
     Some((name, next))
 }
 
-pub const SPOILS: usize = 18;
+pub const SPOILS: usize = 20;
 
 fn spoil_byte(bytes: &mut [u8], at: usize, name: &'static str) -> Option<&'static str> {
     *bytes.get_mut(at)? ^= 0x80;

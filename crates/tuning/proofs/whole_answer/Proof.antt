@@ -1,10 +1,10 @@
--- `r82xx::whole_answer` meets its contract. Each return is one law of the definition, with what the calls before it ensure. Assumes nothing.
+-- `tuning::whole_answer` meets its contract. Each return is one law of the definition, with what the calls before it ensure. Assumes nothing.
 use mathlib.Core.Path.{sym, ap}
-use Rattle.r82xx.specs.Calls.{wholeOf}
+use Rattle.tuning.specs.Program.{wholeOf}
 use Rattle.pll.specs.declared.Pll.{Pll}
 use borrow.Author.Needs.{needs}
-use Rattle.r82xx.proofs.whole_answer.Statement.{statement}
-use Rattle.r82xx.proofs.whole_answer.Tie as tie
+use Rattle.tuning.proofs.whole_answer.Statement.{statement}
+use Rattle.tuning.proofs.whole_answer.Tie as tie
 
 enum-told : tie.Need-enum-told
 enum-told c = search needs

@@ -1,0 +1,326 @@
+-- #101: what a tuning tells of its tries and the lock, over the entries that demand 3 speaks of; what a refusal tells; and runs worked out.
+-- Assumes nothing.
+use Prim.Native.Nat.{ℕ, zero, suc, _+_, _*_}
+use mathlib.Core.Path.{_≡_, refl, sym, ap, _∙_}
+use mathlib.Core.Bool.{Bool, true, false, false≢true, cond, not, _&&_, _||_, or-assoc, or-false}
+use mathlib.Core.List.{List, [], _∷_, _++_}
+use native.Mathlib.Omega.{arith}
+use borrow.Author.Tests.{eqb-false}
+use lib.Dec.{eqb}
+use lib.ListN.{drop, getD, length, replicate, take}
+use lib.Seq.{getD-drop, sets}
+use Rattle.transcript.specs.declared.Entry.{Entry}
+use Rattle.transcript.specs.Entries.{zeros8}
+use Rattle.chip.specs.declared.Answer.{Answer}
+use Rattle.chip.specs.declared.Answer.the-variants.{Done, Refused, Stopped}
+use Rattle.chip.specs.declared.Chip.{Chip}
+use Rattle.chip.specs.declared.Seen.{Seen}
+use Rattle.chip.specs.declared.Update.{Update}
+use Rattle.chip.specs.declared.Went.{Went}
+use Rattle.chip.specs.declared.Went.the-variants.{Going, Refused11}
+use Rattle.chip.specs.Calls.{answerOf, callEntries, callOf, called, lentOf, lockedIn, performed, seenIn, triesIn}
+use Rattle.chip.specs.Chips.{pair}
+use Rattle.chip.specs.Courses.{leftBy}
+use Rattle.chip.specs.Entries.{flagOf, isTry, lockBit, pointer, readEntry, saw, unseen, wait}
+use Rattle.status.specs.Reversal.{lockedBy}
+use Rattle.chip.specs.Steps.{Step, Trace, emit, every, goes, inList, line, okFor, run, step, toldOf, trace, updates}
+use Rattle.chip.specs.Steps.Step.{Open, Close, Send, Mask, Plain}
+use Rattle.chip.proofs.Laws.{active, run-app}
+use Rattle.chip.proofs.Taken.{untried}
+use Rattle.pll.specs.declared.Kind.{Kind}
+use Rattle.pll.specs.declared.Kind.the-variants.{R828D}
+use Rattle.pll.specs.declared.Plan.{Plan}
+use Rattle.pll.specs.declared.Pll.{Pll}
+use Rattle.pll.specs.declared.Pll.the-variants as pll-variants
+use Rattle.pll.specs.Divide.{firstOf, inVco}
+use Rattle.pll.specs.Fraction.{turnOf, turnsOf}
+use Rattle.pll.specs.Plan.{planOf as pllOf, planWith}
+use Rattle.pll.specs.Setting.{settingOf}
+use Rattle.status.specs.Reversal.{reversed}
+use Rattle.tuning.specs.Mux.{muxUpdates, pllUpdates, rangeOf}
+use Rattle.tuning.specs.Program.{innerSteps, tuneSteps, wholeOf}
+use Rattle.tuning.specs.Tries.{afterTry, again, locked, locksAt, repairUpdates, replyBytes, statusSteps, triesFrom, tryRead}
+use Rattle.tuning.proofs.Programs.{every-app}
+use Rattle.r82xx.specs.declared.Tuner.{Tuner}
+use Rattle.r82xx.specs.Calls.{hzRefusal, planFor, refusalOf}
+use Rattle.r82xx.specs.Orders.{lockKept, resultOf, seenOf, tuneOf}
+use Rattle.r82xx.specs.Orders.Order.{Tune}
+use Rattle.r82xx.specs.Record.{freshTuner}
+use Rattle.history.proofs.Runs.{run-keeps, stopped-run}
+use Rattle.sequences.specs.Calls.{call, entries}
+use Rattle.sequences.specs.Calls.Order.{Tuned}
+use Rattle.sequences.specs.Waited.{waitedFrom}
+
+-- "Tries equal the three-byte reads in the transcript that were done": of the very entries that the reader finds in the room
+pub told-by-entries : (hz : ℕ) (rs os room : List ℕ) (t : Tuner) → seenOf (Tune hz rs) os t room ≡ seenIn (entries (call (Tuned (Tune hz rs)) os room) t)
+unfolding seenOf
+told-by-entries hz rs os room t = refl
+
+-- ---- a refusal tells of no try
+
+-- before any step, whatever its number
+pub refused-before : (hz : ℕ) (rs os room : List ℕ) (t : Tuner) → (refusalOf t (hzRefusal hz (t .ifreq)) 53 35 (length room) (length os) (length rs) ≡ 0 → ⊥)
+    → seenOf (Tune hz rs) os t room ≡ unseen
+unfolding seenOf
+refused-before hz rs os room t h = sym (untried _ os _ (t .chip) h)
+
+-- a step whose entry is no try, however it goes
+abbrev quiet : Step → Bool
+quiet Open = true
+quiet Close = true
+quiet (Send n bytes) = true
+quiet (Mask register value mask) = true
+quiet (Plain e) = not (eqb (e .n) 3)
+
+no-three : (a b c : Bool) → not b ≡ true → (a && b && c) ≡ false
+no-three true true c h = absurd (false≢true h)
+no-three false true c h = absurd (false≢true h)
+no-three true false c h = refl
+no-three false false c h = refl
+
+no-try : (s : Step) (c : Chip) (ok : Bool) → quiet s ≡ true → isTry (emit s c ok) ≡ false
+no-try Open c ok h = refl
+no-try Close c ok h = refl
+no-try (Send n bytes) c ok h = refl
+no-try (Mask r v m) c ok h = refl
+no-try (Plain e) c ok h = no-three (eqb (e .kind) 3) (eqb (e .n) 3) (eqb (flagOf ok) 0) h
+
+-- what one entry more says
+tries-next : (es : List Entry) (e : Entry) → triesIn (es ++ (e ∷ [])) ≡ triesIn es + cond (isTry e) 1 0
+unfolding triesIn
+tries-next [] e = omega arith
+tries-next (x ∷ es) e = let ih = tries-next es e in omega (arith, ih)
+
+locked-next : (es : List Entry) (e : Entry) → lockedIn (es ++ (e ∷ [])) ≡ (lockedIn es || (isTry e && lockBit e))
+unfolding lockedIn
+locked-next [] e = or-false (isTry e && lockBit e)
+locked-next (x ∷ es) e =
+    ap (λ (b : Bool). (isTry x && lockBit x) || b) (locked-next es e) ∙ sym (or-assoc (isTry x && lockBit x) (lockedIn es) (isTry e && lockBit e))
+
+-- one that is no try says nothing
+seen-past : (es : List Entry) (e : Entry) → isTry e ≡ false → seenIn (es ++ (e ∷ [])) ≡ seenIn es
+seen-past es e h =
+    (λ i. saw ((tries-next es e ∙ ap (λ (b : Bool). triesIn es + cond b 1 0) h) i) ((locked-next es e ∙ ap (λ (b : Bool). lockedIn es || (b && lockBit e)) h) i))
+    ∙ (λ i. saw (more i) (or-false (lockedIn es) i))
+  where
+    more : triesIn es + 0 ≡ triesIn es
+    more = omega arith
+
+module _ (os : List ℕ) where
+  quiet-run : (ss : List Step) (t : Trace) → every quiet ss ≡ true → seenIn (run inList os ss t .log) ≡ seenIn (t .log)
+  quiet-run ss t h =
+      run-keeps os (λ (u : Trace). seenIn (u .log) ≡ seenIn (t .log)) quiet
+      (λ s u g a q. seen-past (u .log) (emit s (u .chip) (okFor os (u .count) s)) (no-try s (u .chip) (okFor os (u .count) s) g) ∙ q) ss t h refl
+
+  quiet-trace : (ss : List Step) (c : Chip) → every quiet ss ≡ true → seenIn (trace os ss c .log) ≡ unseen
+  unfolding trace triesIn lockedIn
+  quiet-trace ss c h = quiet-run ss (line c [] 0 Going false) h
+
+-- without a plan there is no waiting, only the mux's writes behind an open repeater
+mux-writes : (address hz : ℕ) (kind : Kind) (notch : Bool) (rs : List ℕ) → every quiet (tuneSteps address kind notch pll-variants.Refused hz rs) ≡ true
+unfolding every innerSteps
+mux-writes address hz kind notch rs = refl
+
+none-said : (number : ℕ) (os : List ℕ) (ss : List Step) (c : Chip) → every quiet ss ≡ true → seenIn (callEntries number os ss c) ≡ unseen
+none-said number os ss c h = go (eqb number 0) refl
+  where
+    go : (b : Bool) → eqb number 0 ≡ b → seenIn (callEntries number os ss c) ≡ unseen
+    go true e = rw e (quiet-trace os ss c h)
+    go false e = sym (untried number os ss c (eqb-false number 0 e))
+
+-- 2 in the PLL, whatever the outcomes: 0 tries, not locked
+pub refused-in-the-pll-untried : (hz : ℕ) (rs os room : List ℕ) (t : Tuner) → planFor t hz ≡ pll-variants.Refused → seenOf (Tune hz rs) os t room ≡ unseen
+unfolding seenOf
+refused-in-the-pll-untried hz rs os room t p =
+    let number : ℕ = refusalOf t (hzRefusal hz (t .ifreq)) 53 35 (length room) (length os) (length rs) in
+    ap (λ (q : Pll). seenIn (callEntries number os (tuneOf t q hz rs) (t .chip))) p
+    ∙ none-said number os (tuneOf t pll-variants.Refused hz rs) (t .chip) (mux-writes (t .chip .address) hz (t .kind) (t .notch) rs)
+
+-- ---- where no step failed: the tries by the replies
+
+-- the third byte of a try's entry is its third reply
+third-of : (ds : List ℕ) → getD (sets zeros8 0 (take 3 ds)) 2 0 ≡ getD ds 2 0
+third-of [] = refl
+third-of (a ∷ []) = refl
+third-of (a ∷ b ∷ []) = refl
+third-of (a ∷ b ∷ d ∷ ds) = refl
+
+reply-bit : (rs : List ℕ) (i : ℕ) → lockedBy (getD (replyBytes rs (5 + 3 * i) 3) 2 0) ≡ locksAt rs i
+unfolding replyBytes
+reply-bit rs i =
+    let place : (5 + 3 * i) + 2 ≡ 7 + 3 * i = omega arith in
+    ap lockedBy (third-of (drop (5 + 3 * i) rs) ∙ getD-drop (5 + 3 * i) rs 2 0 ∙ ap (λ (k : ℕ). getD rs k 0) place)
+
+-- a step that was done, by how it went on
+done-by : (ok : Bool) (k : ℕ) → toldOf ok k ≡ Going → ok ≡ true
+done-by true k h = refl
+done-by false k h = absurd (false≢true (ap goes h))
+
+quiet-updates : (us : List Update) → every quiet (updates us) ≡ true
+unfolding every
+quiet-updates [] = refl
+quiet-updates (u ∷ us) = go (u .past) (quiet-updates us)
+  where
+    go : (b : Bool) → every quiet (updates us) ≡ true
+        → (quiet (cond b (Send 2 (pair (u .register) (u .value))) (Mask (u .register) (u .value) (u .mask))) && every quiet (updates us)) ≡ true
+    go true h = h
+    go false h = h
+
+quiet-after : (i : ℕ) → every quiet (afterTry i) ≡ true
+unfolding every
+quiet-after i = every-app quiet (updates (again i)) (Plain (wait 1) ∷ []) (quiet-updates (again i)) refl
+
+module _ (os : List ℕ) where
+  -- what went on at its end went on before
+  going-back : (ss : List Step) (t : Trace) → run inList os ss t .went ≡ Going → t .went ≡ Going
+  going-back ss t h = go (t .went) refl
+    where
+      go : (w : Went) → t .went ≡ w → t .went ≡ Going
+      go Going e = e
+      go (Refused11 k) e = absurd (false≢true (sym (ap goes (stopped-run os ss t (ap goes e) .went ∙ e)) ∙ ap goes h))
+
+  -- a read of three bytes that was done is a try, and says what its third byte says
+  try-done : (address : ℕ) (bytes : List ℕ) (t : Trace) → t .went ≡ Going → step inList os (Plain (readEntry address 3 bytes)) t .went ≡ Going
+      → seenIn (step inList os (Plain (readEntry address 3 bytes)) t .log) ≡ saw (triesIn (t .log) + 1) (lockedIn (t .log) || lockedBy (getD bytes 2 0))
+  try-done address bytes t g h =
+      let s : Step = Plain (readEntry address 3 bytes) in
+      let ok : Bool = okFor os (t .count) s in
+      let is = active inList os s t (ap goes g) in
+      let fine : ok ≡ true = done-by ok (t .count) (ap (λ (u : Trace). u .went) is ∙ h) in
+      sym (ap (λ (u : Trace). seenIn (u .log)) is)
+      ∙ ap (λ (b : Bool). seenIn (t .log ++ (emit s (t .chip) b ∷ []))) fine
+      ∙ (λ i. saw (tries-next (t .log) (emit s (t .chip) true) i) (locked-next (t .log) (emit s (t .chip) true) i))
+
+  module _ (address : ℕ) (rs : List ℕ) where
+    -- a try's two steps
+    try-said : (i n : ℕ) (t : Trace) → run inList os (tryRead address rs i) t .went ≡ Going → seenIn (t .log) ≡ saw n false
+        → seenIn (run inList os (tryRead address rs i) t .log) ≡ saw (n + 1) (locksAt rs i)
+    unfolding run every
+    try-said i n t h e =
+        let u : Trace = step inList os (Plain (pointer address)) t in
+        let same : seenIn (u .log) ≡ saw n false = quiet-run os (Plain (pointer address) ∷ []) t refl ∙ e in
+        let goes-on : u .went ≡ Going = going-back (Plain (readEntry address 3 (replyBytes rs (5 + 3 * i) 3)) ∷ []) u h in
+        try-done address (replyBytes rs (5 + 3 * i) 3) u goes-on h
+        ∙ (λ j. saw (same j .tries + 1) (same j .locked || reply-bit rs i j))
+
+    -- one turn: a try, then what follows it
+    turn-said : (i : ℕ) (more : List Step) (t : Trace) (b : Bool) (end : Seen) → locksAt rs i ≡ b → seenIn (t .log) ≡ saw i false
+        → ((u : Trace) → run inList os more u .went ≡ Going → seenIn (u .log) ≡ saw (i + 1) false → seenIn (run inList os more u .log) ≡ end)
+        → run inList os (tryRead address rs i ++ cond b (updates locked) (afterTry i ++ more)) t .went ≡ Going
+        → seenIn (run inList os (tryRead address rs i ++ cond b (updates locked) (afterTry i ++ more)) t .log) ≡ cond b (saw (i + 1) true) end
+    turn-said i more t true end l e ih h =
+        let after : Trace = run inList os (tryRead address rs i) t in
+        let split = run-app inList os (tryRead address rs i) (updates locked) t in
+        let ended : run inList os (updates locked) after .went ≡ Going = ap (λ (u : Trace). u .went) (sym split) ∙ h in
+        ap (λ (u : Trace). seenIn (u .log)) split
+        ∙ quiet-run os (updates locked) after (quiet-updates locked)
+        ∙ try-said i i t (going-back (updates locked) after ended) e
+        ∙ ap (saw (i + 1)) l
+    turn-said i more t false end l e ih h =
+        let after : Trace = run inList os (tryRead address rs i) t in
+        let mid : Trace = run inList os (afterTry i) after in
+        let split = run-app inList os (tryRead address rs i) (afterTry i ++ more) t ∙ run-app inList os (afterTry i) more after in
+        let ended : run inList os more mid .went ≡ Going = ap (λ (u : Trace). u .went) (sym split) ∙ h in
+        let before : after .went ≡ Going = going-back (afterTry i) after (going-back more mid ended) in
+        ap (λ (u : Trace). seenIn (u .log)) split
+        ∙ ih mid ended (quiet-run os (afterTry i) after (quiet-after i) ∙ try-said i i t before e ∙ ap (saw (i + 1)) l)
+
+    tries-said : (left i : ℕ) (t : Trace) → run inList os (triesFrom address rs left i) t .went ≡ Going → seenIn (t .log) ≡ saw i false
+        → seenIn (run inList os (triesFrom address rs left i) t .log) ≡ waitedFrom rs left i
+    unfolding run triesFrom waitedFrom
+    tries-said zero i t h e = e
+    tries-said (suc left) i t h e =
+        turn-said i (triesFrom address rs left (i + 1)) t (locksAt rs i) (waitedFrom rs left (i + 1)) refl e (λ u g q. tries-said left (i + 1) u g q) h
+
+-- a whole tuning by its plan
+planned-said : (os rs : List ℕ) (hz : ℕ) (t : Tuner) (p : Plan) → trace os (tuneOf t (pll-variants.Planned p) hz rs) (t .chip) .went ≡ Going
+    → seenIn (trace os (tuneOf t (pll-variants.Planned p) hz rs) (t .chip) .log) ≡ waitedFrom rs 10 0
+unfolding trace run every innerSteps triesIn lockedIn
+planned-said os rs hz t p h =
+    let address : ℕ = t .chip .address in
+    let mux : List Step = updates (muxUpdates (t .notch) (rangeOf hz) ++ pllUpdates p) in
+    let status : List Step = statusSteps address rs in
+    let fix : List Step = updates (repairUpdates (t .kind) (p .number) (getD rs 4 0)) in
+    let tries : List Step = triesFrom address rs 10 0 in
+    let opened : Trace = step inList os Open (line (t .chip) [] 0 Going false) in
+    let written : Trace = run inList os mux opened in
+    let probed : Trace = run inList os status written in
+    let repaired : Trace = run inList os fix probed in
+    let waited : Trace = run inList os tries repaired in
+    let split =
+    run-app inList os (mux ++ (status ++ (fix ++ tries))) (Close ∷ []) opened
+    ∙ ap (λ (u : Trace). run inList os (Close ∷ []) u)
+    (run-app inList os mux (status ++ (fix ++ tries)) opened ∙ run-app inList os status (fix ++ tries) written ∙ run-app inList os fix tries probed) in
+    let ended : waited .went ≡ Going = going-back os (Close ∷ []) waited (ap (λ (u : Trace). u .went) (sym split) ∙ h) in
+    ap (λ (u : Trace). seenIn (u .log)) split
+    ∙ quiet-run os (Close ∷ []) waited refl
+    ∙ tries-said os address rs 10 0 repaired ended
+    (quiet-run os fix probed (quiet-updates (repairUpdates (t .kind) (p .number) (getD rs 4 0)))
+    ∙ quiet-run os status written refl
+    ∙ quiet-run os mux opened (quiet-updates (muxUpdates (t .notch) (rangeOf hz) ++ pllUpdates p))
+    ∙ quiet-run os (Open ∷ []) (line (t .chip) [] 0 Going false) refl)
+
+abbrev isDone : Answer → Bool
+isDone (Done value) = true
+isDone (Refused number) = false
+isDone (Stopped index) = false
+
+went-on : (whole : Answer) (w : Went) → isDone (answerOf whole w) ≡ true → (w ≡ Going) × (isDone whole ≡ true)
+went-on whole Going h = (refl, h)
+went-on whole (Refused11 k) h = absurd (false≢true h)
+
+by-plan : (os rs : List ℕ) (hz : ℕ) (t : Tuner) (plan : Pll) → isDone (answerOf (wholeOf plan hz) (trace os (tuneOf t plan hz rs) (t .chip) .went)) ≡ true
+    → seenIn (trace os (tuneOf t plan hz rs) (t .chip) .log) ≡ waitedFrom rs 10 0
+by-plan os rs hz t pll-variants.Refused h = absurd (false≢true (went-on (Refused 2) (trace os (tuneOf t pll-variants.Refused hz rs) (t .chip) .went) h .1))
+by-plan os rs hz t (pll-variants.Planned p) h = planned-said os rs hz t p (went-on (Done hz) (trace os (tuneOf t (pll-variants.Planned p) hz rs) (t .chip) .went) h .0)
+
+-- a tuning that is done tells the try whose reply has the lock bit, or all ten
+pub told-when-done : (hz value : ℕ) (rs os room : List ℕ) (t : Tuner) → resultOf (Tune hz rs) os t room .answer ≡ Done value
+    → seenOf (Tune hz rs) os t room ≡ waitedFrom rs 10 0
+unfolding resultOf leftBy callOf seenOf
+told-when-done hz value rs os room t h = go (eqb number 0) (ap isDone h)
+  where
+    number : ℕ
+    number = refusalOf t (hzRefusal hz (t .ifreq)) 53 35 (length room) (length os) (length rs)
+
+    tr : Trace
+    tr = trace os (tuneOf t (planFor t hz) hz rs) (t .chip)
+
+    go : (b : Bool) → isDone (cond b (performed (wholeOf (planFor t hz) hz) (lockKept t) room tr) (called t room 0 (Refused number)) .answer) ≡ true
+        → seenIn (cond b (tr .log) []) ≡ waitedFrom rs 10 0
+    go true e = by-plan os rs hz t (planFor t hz) e
+    go false e = absurd (false≢true e)
+
+-- ---- worked out, on a fresh R828D at 100,000,000 Hz: entries 21 and 22 are the first try, 25 and 26 the second, 28 and 29 the third
+
+abbrev start : Tuner
+start = freshTuner R828D 0x74 28_800_000
+
+abbrev told : List ℕ → List ℕ → Seen
+told os rs = seenOf (Tune 100_000_000 rs) os start (replicate 856 0)
+
+-- the lock bit in the reply of the third try
+abbrev third : List ℕ
+third = replicate 13 0 ++ (0x02 ∷ replicate 21 0)
+
+pub locked-at-the-third : told (replicate 53 0) third ≡ saw 3 true
+unfolding seenOf triesIn lockedIn trace run step lentOf inVco firstOf settingOf turnOf turnsOf planWith pllOf innerSteps repairUpdates replyBytes triesFrom reversed
+locked-at-the-third = refl
+
+pub not-locked-in-ten : told (replicate 53 0) (replicate 35 0) ≡ saw 10 false
+unfolding seenOf triesIn lockedIn trace run step lentOf inVco firstOf settingOf turnOf turnsOf planWith pllOf innerSteps repairUpdates replyBytes triesFrom reversed
+not-locked-in-ten = refl
+
+-- "On refusal 11 the tries are those counted so far": the third read fails, so there were two, though its reply would have had the bit
+pub cut-at-the-third : told (replicate 29 0 ++ (1 ∷ replicate 23 0)) third ≡ saw 2 false
+unfolding seenOf triesIn lockedIn trace run step lentOf inVco firstOf settingOf turnOf turnsOf planWith pllOf innerSteps repairUpdates replyBytes triesFrom reversed
+cut-at-the-third = refl
+
+-- the write of 0x1a behind the lock fails: 11, and locked all the same
+pub cut-behind-the-lock : told (replicate 30 0 ++ (1 ∷ replicate 22 0)) third ≡ saw 3 true
+unfolding seenOf triesIn lockedIn trace run step lentOf inVco firstOf settingOf turnOf turnsOf planWith pllOf innerSteps repairUpdates replyBytes triesFrom reversed
+cut-behind-the-lock = refl
+
+pub cut-behind-the-lock-answer : resultOf (Tune 100_000_000 third) (replicate 30 0 ++ (1 ∷ replicate 22 0)) start (replicate 856 0) .answer ≡ Stopped 30
+unfolding resultOf leftBy callOf trace run step lentOf inVco firstOf settingOf turnOf turnsOf planWith pllOf innerSteps repairUpdates replyBytes triesFrom reversed
+cut-behind-the-lock-answer = refl
