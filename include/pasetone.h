@@ -37,9 +37,9 @@
  * low byte first, but for the data of a transfer. The slices of one call must be disjoint: nothing checks that. Slices by `const` pointer are
  * only read. Nothing is kept between calls and nothing is allocated, so calls for different receivers may run side by side.
  *
- * Refusals. The reply's `refusal` is 0 or one of the numbers below, in this order: a given record that is none (1); an argument (1 to 7); lent
- * slices too short: room, and the slices for records and bytes that come back (8), outcomes (9), replies (10); then the steps (11, or 2 in
- * the PLL of a tuning). Refused before any step: value, index and count are 0, and every lent byte is as it was. Refused by a step: value 0,
+ * Refusals. The reply's `refusal` is 0 or one of the numbers below, in this order: a given record that is none (1); an argument (1 to 7, and 13
+ * after 3 and 4); lent slices too short: room, and the slices for records and bytes that come back (8), outcomes (9), replies (10); then the
+ * steps (11, or 2 in the PLL of a tuning). Refused before any step: value, index and count are 0, and every lent byte is as it was. Refused by a step: value 0,
  * and the section and the next records are written, since the steps taken stand. `pasetone_stands` tells the two apart.
  */
 #ifndef PASETONE_H
@@ -66,6 +66,7 @@ extern "C" {
 #define PASETONE_REPLIES 10     /* too few replies */
 #define PASETONE_STEP 11        /* a step failed: `index` says which entry */
 #define PASETONE_SECTION 12     /* bytes that do not end in a section */
+#define PASETONE_RATIO 13       /* a rate that the resampler cannot hold: xtal * 2^22 / rate is below 4, 2^29 or more, or its bits 27 and 28 differ */
 
 /* Cases as numbers. */
 #define PASETONE_R820T 0
@@ -314,7 +315,8 @@ pasetone_reply pasetone_corrected_xtal_hz(const uint8_t *driver, size_t driver_l
 /*
  * The sample rate: IF and filter of the tuner, reset, rate and IF of the demodulator, spectrum by the board's plan for the driver's frequency.
  * An IF of 0 stays 0. Outcomes 17, room 280; `next_driver` 21 bytes, `next_tuner` 105. Both are written once steps were taken; the driver's
- * rate changes only when all are done, the tuner's IF before them. Value 0. Refuses 1 (either record), 3, 8, 9, 11.
+ * rate changes only when all are done, the tuner's IF before them. Value 0. Refuses 1 (either record), 3, 13 (by the corrected reference: at
+ * 28,800,000 Hz the rates from 225,001 to 300,000 and from 900,001 up are taken), 8, 9, 11.
  */
 pasetone_reply pasetone_set_sample_rate(const uint8_t *driver, size_t driver_len, const uint8_t *tuner, size_t tuner_len, uint32_t rate,
                                         const uint8_t *outcomes, size_t outcomes_len, uint8_t *room, size_t room_len,
@@ -359,7 +361,7 @@ pasetone_reply pasetone_write_reg_direct(uint8_t page, uint16_t address, uint8_t
 pasetone_reply pasetone_set_if_freq_xtal(uint32_t hz, uint32_t xtal, const uint8_t *outcomes, size_t outcomes_len, uint8_t *room,
                                          size_t room_len);
 
-/* The resampler's rate at a reference of `xtal` Hz. Outcomes 4, room 72. Refuses 3, 4 (xtal 0), 8, 9, 11. */
+/* The resampler's rate at a reference of `xtal` Hz. Outcomes 4, room 72. Refuses 3, 4 (xtal 0), 13, 8, 9, 11. */
 pasetone_reply pasetone_set_sample_rate_xtal(uint32_t rate, uint32_t xtal, const uint8_t *outcomes, size_t outcomes_len, uint8_t *room,
                                              size_t room_len);
 
@@ -396,7 +398,10 @@ pasetone_reply pasetone_plan_pll_by_worksheet(uint64_t kind, uint64_t lo, uint32
 /* hz * 2^22 / xtal, kept to 22 bits, high byte first (`set_if_freq_xtal` sends it negated). `out`: 3 bytes. Value 0. Refuses 4 (xtal 0), 8. */
 pasetone_reply pasetone_if_freq_regs(uint32_t hz, uint32_t xtal, uint8_t *out, size_t out_len);
 
-/* xtal * 2^22 / rate, kept to 30 bits, high byte first (`set_sample_rate_xtal` sends fewer). `out`: 4 bytes. Value 0. Refuses 3, 4, 8. */
+/*
+ * xtal * 2^22 / rate, kept to 30 bits, high byte first (`set_sample_rate_xtal` sends fewer), also where that call refuses 13. `out`: 4 bytes. Value 0.
+ * Refuses 3, 4, 8.
+ */
 pasetone_reply pasetone_resample_regs(uint32_t rate, uint32_t xtal, uint8_t *out, size_t out_len);
 
 /*

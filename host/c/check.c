@@ -75,7 +75,7 @@ static void looked(const char *what, pasetone_tune_reply reply, uint32_t tries, 
 
 static void check_making(void)
 {
-    same("version", pasetone_version(), 0x00020000);
+    same("version", pasetone_version(), 0x00020100);
     done("fresh tuner", pasetone_tuner_new(PASETONE_R828D, 0x74, 28800000, TUNER), 0, 0);
     same("fresh kind", tuner[PASETONE_TUNER_KIND], PASETONE_R828D);
     same("fresh address", tuner[PASETONE_TUNER_ADDRESS], 0x74);
@@ -299,6 +299,7 @@ static void check_driver(void)
     done("its IF", pasetone_get_if_freq(NEXT), 3570000, 0);
     same("its rate", next_driver[PASETONE_DRIVER_RATE] | next_driver[PASETONE_DRIVER_RATE + 1] << 8, 3200000 & 0xffff);
     refused("rate 0", pasetone_set_sample_rate(DRIVER, TUNER, 0, OUTCOMES, ROOM, next_driver, sizeof next_driver, NEXT), PASETONE_RATE);
+    refused("rate 300,001, a short slice", pasetone_set_sample_rate(DRIVER, TUNER, 300001, OUTCOMES, ROOM, next_driver, 0, NEXT), PASETONE_RATIO);
     done("board path", pasetone_apply_input_path(TUNER, PASETONE_VHF, OUTCOMES, REPLIES, ROOM, NEXT), 0, 10);
     refused("board path 257", pasetone_apply_input_path(TUNER, 257, OUTCOMES, REPLIES, ROOM, NEXT), PASETONE_SETUP);
     refused("board path, room", pasetone_apply_input_path(TUNER, 0, OUTCOMES, REPLIES, room, 167, NEXT), PASETONE_ROOM);
@@ -324,8 +325,10 @@ static void check_demod(void)
     refused("reference 0", pasetone_set_if_freq_xtal(1, 0, OUTCOMES, ROOM), PASETONE_CORRECTION);
     done("rate by reference", pasetone_set_sample_rate_xtal(2048000, 28800000, OUTCOMES, ROOM), 0, 4);
     same("0x03840000", (uint32_t)room[8] << 24 | room[9] << 16 | room[24] << 8 | room[25], 0x03840000);
-    done("rate 225,000", pasetone_set_sample_rate_xtal(225000, 28800000, OUTCOMES, ROOM), 0, 4);
-    same("0", (uint32_t)room[8] << 24 | room[9] << 16 | room[24] << 8 | room[25], 0);
+    refused("rate 225,000", pasetone_set_sample_rate_xtal(225000, 28800000, OUTCOMES, ROOM), PASETONE_RATIO);
+    done("rate 225,001", pasetone_set_sample_rate_xtal(225001, 28800000, OUTCOMES, ROOM), 0, 4);
+    same("0x1ffff6ac", (uint32_t)room[8] << 24 | room[9] << 16 | room[24] << 8 | room[25], 0x1ffff6ac);
+    refused("rate 900,000, no room", pasetone_set_sample_rate_xtal(900000, 28800000, OUTCOMES, room, 0), PASETONE_RATIO);
     refused("rate 0, reference 0", pasetone_set_sample_rate_xtal(0, 0, OUTCOMES, ROOM), PASETONE_RATE);
     done("GPIO output", pasetone_set_gpio_output(5, OUTCOMES, REPLIES, ROOM), 0, 4);
     done("GPIO bit", pasetone_set_gpio_bit(7, 1, OUTCOMES, REPLIES, ROOM), 0, 2);

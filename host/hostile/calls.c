@@ -94,9 +94,10 @@ ARGUMENT(path_args, REFUSE(a->arg[0] > 2, 1))
 ARGUMENT(register_args, REFUSE((uint8_t)a->arg[0] < 0x05 || (uint8_t)a->arg[0] > 0x1f, 5))
 ARGUMENT(ppm_args, REFUSE(corrected(number_at(a->before[TUNER] + PASETONE_TUNER_NOMINAL, 4), (int32_t)(uint32_t)a->arg[0]) == 0, 4))
 ARGUMENT(driver_ppm_args, REFUSE(corrected(number_at(a->before[DRIVER] + PASETONE_DRIVER_NOMINAL, 4), (int32_t)(uint32_t)a->arg[0]) == 0, 4))
-ARGUMENT(rate_args, REFUSE((uint32_t)a->arg[0] == 0, 3))
+ARGUMENT(rate_args, rate_model((uint32_t)a->arg[0], driver_xtal(a->before[DRIVER])))
 ARGUMENT(xtal_args, REFUSE((uint32_t)a->arg[1] == 0, 4))
-ARGUMENT(rate_xtal_args, (uint32_t)a->arg[0] == 0 ? 3 : REFUSE((uint32_t)a->arg[1] == 0, 4))
+ARGUMENT(rate_xtal_args, rate_model((uint32_t)a->arg[0], (uint32_t)a->arg[1]))
+ARGUMENT(resample_args, (uint32_t)a->arg[0] == 0 ? 3 : REFUSE((uint32_t)a->arg[1] == 0, 4))
 ARGUMENT(pin_args, REFUSE((uint8_t)a->arg[0] > 7, 6))
 ARGUMENT(board_args, REFUSE(a->arg[0] > 1, 1))
 ARGUMENT(pll_args, a->arg[0] > 1 ? 1 : (uint32_t)a->arg[2] == 0 ? 4 : pll_model(a->arg[0], a->arg[1], (uint32_t)a->arg[2], 0))
@@ -130,12 +131,12 @@ static uint32_t read_args(const struct attempt *a)
     static uint64_t name(const struct attempt *a) { return (void)a, (expression); }
 
 VALUE(nothing, 0)
-VALUE(version_value, 0x00020000)
+VALUE(version_value, 0x00020100)
 VALUE(asked, a->arg[0])
 VALUE(gain_set, number_at(a->at[NEXT] + PASETONE_TUNER_GAIN, 4))
 VALUE(gain_held, number_at(a->before[TUNER] + PASETONE_TUNER_GAIN, 4))
 VALUE(if_held, number_at(a->before[TUNER] + PASETONE_TUNER_IF, 8))
-VALUE(xtal_value, corrected(number_at(a->before[DRIVER] + 1, 4), (int32_t)(uint32_t)number_at(a->before[DRIVER] + 5, 4)))
+VALUE(xtal_value, driver_xtal(a->before[DRIVER]))
 VALUE(plan_value, a->arg[1] + (a->arg[0] == 1 && a->arg[1] < 28800000 ? 28800000 : 0))
 
 static uint64_t shadow_value(const struct attempt *a)
@@ -182,7 +183,7 @@ const struct call calls[] = {
     {"apply_notch", NOTCH, HAS(TUNER), 0, 0, 0, "1", run_notch, any, nothing},
     {"driver_set_ppm", COMMON, HAS(DRIVER) | HAS(NEXT_DRIVER), 0, 0, 0, "1 4 8", run_driver_ppm, driver_ppm_args, nothing},
     {"corrected_xtal_hz", COMMON, HAS(DRIVER), 0, 0, 0, "1", run_xtal, any, xtal_value},
-    {"set_sample_rate", COMMON, STEPS | HAS(DRIVER) | HAS(NEXT_DRIVER), 17, 0, 0, "1 3 8 9 11", run_rate, rate_args, nothing},
+    {"set_sample_rate", COMMON, STEPS | HAS(DRIVER) | HAS(NEXT_DRIVER), 17, 0, 0, "1 3 13 8 9 11", run_rate, rate_args, nothing},
     {"apply_input_path", COMMON, STEPS | HAS(REPLIES), 10, 3, 0, "1 8 9 10 11", run_board_path, path_args, nothing},
     {"init_baseband", COMMON, FREE, 45, 0, 0, "8 9 11", run_baseband, any, nothing},
     {"power_on", COMMON, FREE, 45, 0, 0, "8 9 11", run_power, any, nothing},
@@ -193,14 +194,14 @@ const struct call calls[] = {
     {"stop_streaming", COMMON, FREE, 2, 0, 0, "8 9 11", run_stop, any, nothing},
     {"write_reg_direct", COMMON, FREE, 1, 0, 0, "8 9 11", run_direct, any, nothing},
     {"set_if_freq_xtal", COMMON, FREE, 3, 0, 0, "4 8 9 11", run_if_xtal, xtal_args, nothing},
-    {"set_sample_rate_xtal", COMMON, FREE, 4, 0, 0, "3 4 8 9 11", run_rate_xtal, rate_xtal_args, nothing},
+    {"set_sample_rate_xtal", COMMON, FREE, 4, 0, 0, "3 4 13 8 9 11", run_rate_xtal, rate_xtal_args, nothing},
     {"set_gpio_output", COMMON, FREE | HAS(REPLIES), 4, 2, 0, "6 8 9 10 11", run_output, pin_args, nothing},
     {"set_gpio_bit", COMMON, FREE | HAS(REPLIES), 2, 1, 0, "6 8 9 10 11", run_bit, pin_args, nothing},
     {"plan_tuning", COMMON, HAS(OUT), 0, 0, 3, "1 8", run_plan, board_args, plan_value},
     {"plan_pll", COMMON, HAS(OUT), 0, 0, 5, "1 4 2 8", run_pll, pll_args, rest_value},
     {"plan_pll_by_worksheet", COMMON, HAS(OUT), 0, 0, 5, "1 4 2 8", run_worksheet, pll_args, rest_value},
     {"if_freq_regs", COMMON, HAS(OUT), 0, 0, 3, "4 8", run_if_regs, xtal_args, nothing},
-    {"resample_regs", COMMON, HAS(OUT), 0, 0, 4, "3 4 8", run_resample, rate_xtal_args, nothing},
+    {"resample_regs", COMMON, HAS(OUT), 0, 0, 4, "3 4 8", run_resample, resample_args, nothing},
     {"pack_fir", COMMON, HAS(INPUT) | HAS(OUT), 0, 0, 20, "7 8", run_pack, pack_args, nothing},
     {"unpack_fir", COMMON, HAS(INPUT) | HAS(OUT), 0, 0, 64, "7 8", run_unpack, unpack_args, nothing},
     {"read_section", READER, HAS(INPUT), 0, 0, 0, "12", run_read, read_args, start_value},

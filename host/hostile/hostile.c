@@ -27,9 +27,12 @@
 
 #include "hostile.h"
 
+/* The refusal numbers are 0 to 13; one place more is for any other, which no function lists. */
+#define NUMBERS 14
+
 static struct attempt now;
 static uint8_t *first[SLOTS]; /* what the slices held after a call, for its repetition */
-static uint64_t seed = 1, call_number, repeated, entries_made, digest, met[64][13];
+static uint64_t seed = 1, call_number, repeated, entries_made, digest, met[64][NUMBERS + 1];
 static enum memory memory = MIXED;
 static const char *self_test = "";
 
@@ -155,7 +158,7 @@ static const char *one_call(void)
     }
     digest = (digest ^ now.reply.value) * 0x100000001b3u + (now.reply.index << 32 ^ (uint64_t)now.reply.refusal << 16 ^ now.reply.count);
     digest += (uint64_t)now.tries << 48 ^ (uint64_t)now.locked << 56;
-    met[which][now.reply.refusal % 13]++;
+    met[which][now.reply.refusal < NUMBERS ? now.reply.refusal : NUMBERS]++;
     entries_made += now.reply.count;
     if (wrong == NULL) {
         keep_records(&now);
@@ -180,7 +183,7 @@ static const char *seen(unsigned which, int all)
         number = strtoul(rest, &end, 10);
         listed |= 1ul << number;
     }
-    for (k = 0; k < 13; k++) {
+    for (k = 0; k <= NUMBERS; k++) {
         if (met[which][k] != 0 && !(listed >> k & 1)) {
             return "refused by a number that pasetone.h does not list";
         }
@@ -207,14 +210,14 @@ static void print_summary(uint64_t total, double seconds)
     uint64_t fewest = total, sum;
     unsigned i, k;
     printf("hostile: by refusal:");
-    for (k = 0; k < 13; k++) {
+    for (k = 0; k < NUMBERS; k++) {
         for (i = 0, sum = 0; i < call_count; i++) {
             sum += met[i][k];
         }
-        printf(" %u: %llu%s", k, (unsigned long long)sum, k < 12 ? "," : "\n");
+        printf(" %u: %llu%s", k, (unsigned long long)sum, k < NUMBERS - 1 ? "," : "\n");
     }
     for (i = 0; i < call_count; i++) {
-        for (k = 0, sum = 0; k < 13; k++) {
+        for (k = 0, sum = 0; k <= NUMBERS; k++) {
             sum += met[i][k];
         }
         fewest = sum < fewest ? sum : fewest;

@@ -48,6 +48,23 @@ uint32_t pll_model(uint64_t kind, uint64_t lo, uint32_t reference, uint64_t *res
     return 0;
 }
 
+/* The corrected reference of a driver's record. */
+uint64_t driver_xtal(const uint8_t *bytes)
+{
+    return corrected(number_at(bytes + PASETONE_DRIVER_NOMINAL, 4), (int32_t)(uint32_t)number_at(bytes + PASETONE_DRIVER_PPM, 4));
+}
+
+/* A rate: 3, 4, or document 02's 13 for a ratio that the resampler does not hold; it holds 4 up to 2^27, and 3 * 2^27 up to 2^29. */
+uint32_t rate_model(uint64_t rate, uint64_t xtal)
+{
+    uint64_t r;
+    if (rate == 0 || xtal == 0) {
+        return rate == 0 ? 3 : 4;
+    }
+    r = xtal * 4194304 / rate;
+    return (r >= 4 && r < 134217728) || (r >= 402653184 && r < 536870912) ? 0 : 13;
+}
+
 int tuner_is_record(const uint8_t *bytes, size_t n)
 {
     uint32_t gain;
@@ -73,7 +90,7 @@ int tuner_is_record(const uint8_t *bytes, size_t n)
 int driver_is_record(const uint8_t *bytes, size_t n)
 {
     return n == PASETONE_DRIVER_SIZE && bytes[PASETONE_DRIVER_BOARD] <= 1 && number_at(bytes + PASETONE_DRIVER_NOMINAL, 4) != 0 &&
-           corrected(number_at(bytes + PASETONE_DRIVER_NOMINAL, 4), (int32_t)(uint32_t)number_at(bytes + PASETONE_DRIVER_PPM, 4)) != 0;
+           driver_xtal(bytes) != 0;
 }
 
 /* The table of kinds: the least and the most n, whether it has a target and an address. */

@@ -24,7 +24,7 @@ use Rattle.r82xx.specs.declared.Tuner.{Tuner}
 use Rattle.r82xx.specs.Record.{sound}
 use Rattle.registers.specs.declared.IfRegs.{IfRegs}
 use Rattle.registers.specs.declared.ResampleRegs.{ResampleRegs}
-use Rattle.registers.specs.Rates.{ifRegsOf, resampleRegsOf}
+use Rattle.registers.specs.Rates.{ifRegsOf, resampleRegsOf, zeroNumber}
 
 -- bytes for the FIR calls, of the right length or not
 module _ (s out : List ℕ) where
@@ -71,6 +71,11 @@ pub if-small : (hz xtal : ℕ) → ifRegsOf hz xtal .refusal < 256
 unfolding ifRegsOf
 if-small hz xtal = if-either (eqb xtal 0) _ _ (omega arith) (omega arith)
 
+zero-small : (a b : Bool) → _<_ (cond a 3 (cond b 4 0)) 256
+zero-small true b = omega arith
+zero-small false true = omega arith
+zero-small false false = omega arith
+
 pub resample-small : (rate xtal : ℕ) → resampleRegsOf rate xtal .refusal < 256
 unfolding resampleRegsOf
-resample-small rate xtal = resample-either (eqb rate 0) _ _ (omega arith) (resample-either (eqb xtal 0) _ _ (omega arith) (omega arith))
+resample-small rate xtal = resample-either (eqb (zeroNumber rate xtal 0) 0) _ _ (omega arith) (zero-small (eqb rate 0) (eqb xtal 0))

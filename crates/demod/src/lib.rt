@@ -1,5 +1,5 @@
 // The demodulator's calls, from src/demod.rs, over a script of outcomes and a room for the entries. Document 01, "Demodulator",
-// and "Refusal numbers" for 3 and 4. They touch no record and read nothing; a call is a list of accesses, and the definitions of
+// and "Refusal numbers" for 3 and 4; document 02, #103, for 13. They touch no record and read nothing; a call is a list of accesses, and the definitions of
 // specs/Programs.antt have the same lists. `X_steps` and `ddc` are what a larger call holds.
 ghost use mathlib.Core.List.{_++_};
 ghost use mathlib.Core.Path.{_≡_};
@@ -283,11 +283,9 @@ pub fn rate_steps(f: Flow, rate: u32, xtal: u32, outcomes: &[u8], room: &mut [u8
 pub fn set_sample_rate_xtal(rate: u32, xtal: u32, outcomes: &[u8], room: &mut [u8]) -> Handed
     ensures { λ r. ⌜ back r (now (room .exit)) ≡ freeResult (demodCourse (RateXtal rate xtal)) (now (outcomes .entry)) (now (room .entry)) ⌝ }
 {
-    if rate == 0 {
-        return device::refused(chip::RATE);
-    }
-    if xtal == 0 {
-        return device::refused(chip::CORRECTION);
+    let number = registers::rate_number(rate, xtal);
+    if number != 0 {
+        return device::refused(number);
     }
     let rows = rate_rows(rate, xtal);
     device::perform(rows, 4, 0, outcomes, 0, room)

@@ -14,7 +14,7 @@ use Rattle.chip.specs.declared.Answer.{Answer}
 use Rattle.chip.specs.declared.Answer.the-variants.{Done, Refused}
 use Rattle.chip.specs.declared.Flow.{Flow}
 use Rattle.chip.specs.declared.Went.the-variants.{Going}
-use Rattle.chip.specs.Calls.{Called, answerOf, called, refusalWith, sealed}
+use Rattle.chip.specs.Calls.{Called, answerOf, callOf, called, refusalWith, sealed}
 use Rattle.chip.specs.Courses.{leftBy}
 use Rattle.chip.specs.Entries.{unseen}
 use Rattle.chip.specs.Steps.{Line, Logged, Trace, behind, eight, every, inRoom, line, logged, onRoom, run, updates}
@@ -25,6 +25,7 @@ use Rattle.pll.specs.declared.Kind.{Kind}
 use Rattle.pll.specs.declared.Kind.the-variants.{R820T, R828D}
 use Rattle.tuning.proofs.Programs.{every-app}
 use Rattle.writes.specs.Lists.{bandwidthUpdates, ifUpdates, pathUpdates}
+use Rattle.registers.specs.Rates.{rateNumber}
 use Rattle.r82xx.specs.declared.Tuner.{Tuner}
 use Rattle.r82xx.specs.Record.{sound, withChip}
 use Rattle.r82xx.proofs.Tuned.{either-one}
@@ -88,15 +89,15 @@ board-path-eight kind path rs =
 
 -- a rate's call: what it is refused by, and what it is performed with
 module _ (os room : List ℕ) (rate : ℕ) (t : Tuner) (d : Driver) (s : Bool) (xtal argument given : ℕ)
-    (by-tuner : s ≡ sound t) (by-driver : xtal ≡ xtalOf d) (by-rate : argument ≡ rateRefusal rate)
+    (by-tuner : s ≡ sound t) (by-driver : xtal ≡ xtalOf d) (by-rate : argument ≡ rateNumber rate xtal)
     (by-all : given ≡ refusalWith (s && leb 1 xtal) argument 17 0 (length room) (length os) 0) where
-  number : given ≡ refusalWith (sound t && soundDriver d) (rateRefusal rate) 17 0 (length room) (length os) 0
-  number = by-all ∙ (λ i. refusalWith (by-tuner i && leb 1 (by-driver i)) (by-rate i) 17 0 (length room) (length os) 0)
+  number : given ≡ refusalWith (sound t && soundDriver d) (rateRefusal rate d) 17 0 (length room) (length os) 0
+  number = by-all ∙ (λ i. refusalWith (by-tuner i && leb 1 (by-driver i)) ((by-rate ∙ ap (rateNumber rate) by-driver) i) 17 0 (length room) (length os) 0)
 
   pub rate-refused : (given ≡ 0 → ⊥) → called (both t d) room 0 (Refused given) ≡ rateResult rate os t d room
   unfolding rateResult leftBy
   rate-refused h =
-      refuse-by (refusalWith (sound t && soundDriver d) (rateRefusal rate) 17 0 (length room) (length os) 0) given (Done 0) os
+      refuse-by (refusalWith (sound t && soundDriver d) (rateRefusal rate d) 17 0 (length room) (length os) 0) given (Done 0) os
       (sampleRateSteps (ifFor (t .ifreq) rate) rate (xtalOf d) (planOf (d .board) (d .frequency) .inverted)) (t .chip)
       (λ (tr : Trace). both (retuned t (ifFor (t .ifreq) rate) (tr .chip)) (ratedBy d rate (tr .went))) (both t d) room number h
 
@@ -108,7 +109,7 @@ module _ (os room : List ℕ) (rate : ℕ) (t : Tuner) (d : Driver) (s : Bool) (
       → called (both next later) after (f .log .count) answer ≡ rateResult rate os t d room
   unfolding rateResult leftBy
   rate-performed hz plan f mid after answer next later z by-if by-plan k q a n l =
-      perform-by (refusalWith (sound t && soundDriver d) (rateRefusal rate) 17 0 (length room) (length os) 0) given (Done 0) os
+      perform-by (refusalWith (sound t && soundDriver d) (rateRefusal rate d) 17 0 (length room) (length os) 0) given (Done 0) os
       (sampleRateSteps (ifFor (t .ifreq) rate) rate (xtalOf d) (planOf (d .board) (d .frequency) .inverted)) (t .chip)
       (λ (tr : Trace). both (retuned t (ifFor (t .ifreq) rate) (tr .chip)) (ratedBy d rate (tr .went)))
       (λ (w : Line Logged). both (retuned t (ifFor (t .ifreq) rate) (w .chip)) (ratedBy d rate (w .went)))
@@ -116,6 +117,12 @@ module _ (os room : List ℕ) (rate : ℕ) (t : Tuner) (d : Driver) (s : Bool) (
       (sample-rate-eight (ifFor (t .ifreq) rate) rate (xtalOf d) (planOf (d .board) (d .frequency) .inverted))
       (k ∙ (λ i. run inRoom os (sampleRateSteps (by-if i) rate (by-driver i) (by-plan i .inverted)) (line (t .chip) (logged room unseen) 0 Going false)))
       q a (λ i. both ((n ∙ ap (λ (x : ℕ). retuned t x (f .chip)) by-if) i) (l i)) refl
+
+-- Document 02, #103: a rate that the resampler doesn't hold is refused 13 "with record and buffers unchanged", whatever is lent to it
+pub not-held : (rate : ℕ) (os : List ℕ) (t : Tuner) (d : Driver) (room : List ℕ) → (sound t && soundDriver d) ≡ true → rateRefusal rate d ≡ 13
+    → rateResult rate os t d room ≡ called (both t d) room 0 (Refused 13)
+unfolding rateResult leftBy callOf
+not-held rate os t d room s h = rw (s, h)
 
 -- what a row of the board's path leaves, by the path that was read
 abbrev boardLeft : PathRead → List ℕ → List ℕ → Tuner → List ℕ → Called Tuner

@@ -4,7 +4,7 @@
 use Prim.Native.Nat.{ℕ}
 use mathlib.Core.Bool.{Bool, _&&_, cond}
 use mathlib.Core.List.{List, []}
-use lib.Dec.{eqb, leb}
+use lib.Dec.{leb}
 use lib.IntN.{ℤ}
 use Rattle.board.specs.declared.PathRead.{PathRead}
 use Rattle.board.specs.declared.PathRead.the-variants as path-read
@@ -18,6 +18,7 @@ use Rattle.chip.specs.Calls.{Called, called}
 use Rattle.chip.specs.Courses.{Course, leftBy}
 use Rattle.chip.specs.Courses.Course.{Still, Taken}
 use Rattle.chip.specs.Steps.{goes}
+use Rattle.registers.specs.Rates.{rateNumber}
 use Rattle.r82xx.specs.declared.Tuner.{Tuner}
 use Rattle.r82xx.specs.Record.{sound, withChip, withIf}
 use Rattle.driver.specs.declared.Driver.{Driver}
@@ -43,9 +44,9 @@ pub record Both : Type 0 where
 abbrev pub both : Tuner → Driver → Both
 both t d = record { tuner = t; driver = d }
 
--- "3 rate | rate 0"
-abbrev pub rateRefusal : ℕ → ℕ
-rateRefusal rate = cond (eqb rate 0) 3 0
+-- Document 02, #103: "Both the demod call and `set_sample_rate` refuse", here with the corrected reference
+abbrev pub rateRefusal : ℕ → Driver → ℕ
+rateRefusal rate d = rateNumber rate (xtalOf d)
 
 -- the tuner's record behind it: "IF changes before its writes are tried"
 abbrev pub retuned : Tuner → ℕ → Chip → Tuner
@@ -58,7 +59,7 @@ ratedBy d rate went = cond (goes went) (withRate d rate) d
 -- the rows of both calls with steps. "sample rate 17, 0"
 abbrev pub rateRow : ℕ → Tuner → Driver → Course Both
 rateRow rate t d =
-    Taken (rateRefusal rate) 17 0 [] (Done 0)
+    Taken (rateRefusal rate d) 17 0 [] (Done 0)
     (sampleRateSteps (ifFor (t .ifreq) rate) rate (xtalOf d) (planOf (d .board) (d .frequency) .inverted))
     (λ tr. both (retuned t (ifFor (t .ifreq) rate) (tr .chip)) (ratedBy d rate (tr .went)))
 

@@ -89,16 +89,6 @@ fn nothing(number: u8) -> Made
     }
 }
 
-// "3 rate | rate zero".
-pub fn rate_refusal(rate: u32) -> u8
-    ensures { λ r. ⌜ r ≡ rateRefusal rate ⌝ }
-{
-    if rate == 0 {
-        return chip::RATE;
-    }
-    0
-}
-
 // An IF of 0 stays 0; else by the rate, and none for narrow ones.
 fn if_for(current: u64, rate: u32) -> u32
     ensures { λ r. ⌜ r ≡ ifFor current rate ⌝ }
@@ -285,13 +275,21 @@ impl Driver {
         }
     }
 
+    // The number that a rate is refused by with this record's reference, 0 where it is taken.
+    pub fn rate_refusal(self, rate: u32) -> u8
+        ensures { λ r. ⌜ r ≡ rateRefusal rate self ⌝ }
+    {
+        let corrected = xtal_by(self.nominal, self.ppm);
+        registers::rate_number(rate, corrected)
+    }
+
     pub fn set_sample_rate(self, tuner: Tuner, rate: u32, outcomes: &[u8], room: &mut [u8]) -> Rated
         ensures { λ r. ⌜ called (both (r .tuner) (r .driver)) (now (room .exit)) (r .count) (r .answer)
             ≡ rateResult rate (now (outcomes .entry)) tuner self (now (room .entry)) ⌝ }
     {
         let xtal = xtal_by(self.nominal, self.ppm);
         let whole = r82xx::sound(tuner.nominal, tuner.corrected) & (1 <= xtal);
-        let argument = rate_refusal(rate);
+        let argument = registers::rate_number(rate, xtal);
         let number = chip::refusal(whole, argument, 17, 0, room.len(), outcomes.len(), 0);
         if number != 0 {
             return Rated {

@@ -69,19 +69,19 @@ fits true argument driver tuner e = argued-fits (eqb argument 0) argument driver
 -- a rate over both records
 module _ (os : List ℕ) (rate : ℕ) (d t room driver tuner : List ℕ) where
   abbrev number : ℕ
-  number = bothReady (driverOf d .ok && tunerOf t .ok) (rateRefusal rate) (length driver) (length tuner)
+  number = bothReady (driverOf d .ok && tunerOf t .ok) (rateRefusal rate (driverOf d .driver)) (length driver) (length tuner)
 
   abbrev made : Rates
   made = ratesMade (rateResult rate os (tunerOf t .tuner) (driverOf d .driver) room) driver tuner
 
   -- what is read, and the number that it is refused by, as the code has them
-  module _ (dr : DriverRead) (tr : TunerRead) (k n : ℕ) (is-driver : dr ≡ driverOf d) (is-tuner : tr ≡ tunerOf t) (argued : k ≡ rateRefusal rate) (said : n ≡ bothReady (dr .ok && tr .ok) k (length driver) (length tuner)) where
+  module _ (dr : DriverRead) (tr : TunerRead) (k n : ℕ) (is-driver : dr ≡ driverOf d) (is-tuner : tr ≡ tunerOf t) (argued : k ≡ rateRefusal rate (dr .driver)) (said : n ≡ bothReady (dr .ok && tr .ok) k (length driver) (length tuner)) where
     number-is : n ≡ number
     number-is =
         said
         ∙ ap (λ (x : ℕ). bothReady (dr .ok && tr .ok) x (length driver) (length tuner)) argued
-        ∙ ap (λ (x : DriverRead). bothReady (x .ok && tr .ok) (rateRefusal rate) (length driver) (length tuner)) is-driver
-        ∙ ap (λ (x : TunerRead). bothReady (driverOf d .ok && x .ok) (rateRefusal rate) (length driver) (length tuner)) is-tuner
+        ∙ ap (λ (x : DriverRead). bothReady (x .ok && tr .ok) (rateRefusal rate (x .driver)) (length driver) (length tuner)) is-driver
+        ∙ ap (λ (x : TunerRead). bothReady (driverOf d .ok && x .ok) (rateRefusal rate (driverOf d .driver)) (length driver) (length tuner)) is-tuner
 
     pub refused-by : (r : Reply) → (n ≡ 0 → ⊥) → r ≡ replyOf (Refused n) 0 → rates r room driver tuner ≡ rateOver os rate d t room driver tuner
     unfolding rateOver

@@ -120,7 +120,7 @@ pub fn set_sample_rate(
     let d = records::decode_driver(driver);
     let t = records::decode_tuner(tuner);
     let given = d.driver;
-    let argument = driver::rate_refusal(rate);
+    let argument = given.rate_refusal(rate);
     let number = ready(d.ok & t.ok, argument, left.len(), next.len());
     if number != 0 {
         return tuners::refuse(number);

@@ -3,10 +3,11 @@
 -- "Rate: r = xtal·2^22 / rate, kept to 32 bits, and 0x0ffffffc, then bit 27 copied into bit 28".
 -- "Refusal numbers": "`if_freq_regs` and its demod sister refuse 4 for reference zero; so do both resampler calls, after rate";
 -- "A refused call's value is 0".
+-- Document 02, #103: which rates the resampler holds, and the numbers of those that are refused.
 use Prim.Native.Nat.{ℕ, _+_, _-_, _*_, _/_, _%_, _^_}
-use mathlib.Core.Bool.{cond}
+use mathlib.Core.Bool.{Bool, _&&_, cond}
 use mathlib.Core.List.{List, [], _∷_}
-use lib.Dec.{eqb}
+use lib.Dec.{eqb, leb, ltb}
 use lib.Bits.{bitAnd, bitOr}
 use Rattle.registers.specs.declared.IfRegs.{IfRegs}
 use Rattle.registers.specs.declared.ResampleRegs.{ResampleRegs}
@@ -34,6 +35,22 @@ maskedOf ratio = bitAnd (ratio % 2 ^ 32) 0x0fff_fffc
 unfoldable pub sentOf : ℕ → ℕ
 sentOf ratio = bitOr (maskedOf ratio) (bitAnd (maskedOf ratio) 0x0800_0000 * 2)
 
+-- "a rate is taken only if r is at least 4, below 2^29, and its bits 27 and 28 are equal", r being "the ratio before any masking or cut to 32 bits"
+unfoldable pub holds : ℕ → Bool
+holds r = leb 4 r && ltb r (2 ^ 29) && eqb (r / 2 ^ 27 % 2) (r / 2 ^ 28 % 2)
+
+-- 4 for a reference of 0, before a later number
+abbrev pub xtalNumber : ℕ → ℕ → ℕ
+xtalNumber xtal later = cond (eqb xtal 0) 4 later
+
+-- "both resampler calls, after rate": 3, then 4, before a later number
+abbrev pub zeroNumber : ℕ → ℕ → ℕ → ℕ
+zeroNumber rate xtal later = cond (eqb rate 0) 3 (xtalNumber xtal later)
+
+-- why a rate is not sent, 0 where it is: "new 13 ratio, after 3 and after 4 for a zero reference"
+unfoldable pub rateNumber : ℕ → ℕ → ℕ
+rateNumber rate xtal = zeroNumber rate xtal (cond (holds (ratioOf rate xtal)) 0 13)
+
 -- 22 bits in three registers: six bits and two bytes, high first
 abbrev pub threeOf : ℕ → List ℕ
 threeOf x = x / 2 ^ 16 % 2 ^ 6 ∷ x / 2 ^ 8 % 2 ^ 8 ∷ x % 2 ^ 8 ∷ []
@@ -46,12 +63,12 @@ numberFrom x (b ∷ bs) = numberFrom (x * 2 ^ 8 + b) bs
 unfoldable pub ifRegsOf : ℕ → ℕ → IfRegs
 ifRegsOf hz xtal = cond (eqb xtal 0) (record { refusal = 4; bytes = 0 ∷ 0 ∷ 0 ∷ [] }) (record { refusal = 0; bytes = threeOf (ifRatioOf hz xtal) })
 
-abbrev pub noResample : ℕ → ResampleRegs
-noResample number = record { refusal = number; bytes = 0 ∷ 0 ∷ 0 ∷ 0 ∷ [] }
-
 -- six bits and three bytes, high first
+abbrev pub fourOf : ℕ → List ℕ
+fourOf x = x / 2 ^ 24 % 2 ^ 6 ∷ x / 2 ^ 16 % 2 ^ 8 ∷ x / 2 ^ 8 % 2 ^ 8 ∷ x % 2 ^ 8 ∷ []
+
+-- of any ratio: it sends nothing, so 13 is not its number
 unfoldable pub resampleRegsOf : ℕ → ℕ → ResampleRegs
 resampleRegsOf rate xtal =
-    cond (eqb rate 0) (noResample 3)
-    (cond (eqb xtal 0) (noResample 4)
-    (record { refusal = 0; bytes = ratioOf rate xtal / 2 ^ 24 % 2 ^ 6 ∷ ratioOf rate xtal / 2 ^ 16 % 2 ^ 8 ∷ ratioOf rate xtal / 2 ^ 8 % 2 ^ 8 ∷ ratioOf rate xtal % 2 ^ 8 ∷ [] }))
+    cond (eqb (zeroNumber rate xtal 0) 0) (record { refusal = 0; bytes = fourOf (ratioOf rate xtal) })
+    (record { refusal = zeroNumber rate xtal 0; bytes = 0 ∷ 0 ∷ 0 ∷ 0 ∷ [] })

@@ -1,6 +1,7 @@
 // Register addresses, block numbers, and the demodulator's values for an intermediate frequency and a sample rate,
 // from src/registers.rs and the arithmetic of `set_if_freq_xtal` and `set_sample_rate_xtal` of src/demod.rs.
-// Document 01, "Modules, leaves first" ("constants, `if_freq_regs`, `resample_regs`"), "Demodulator", and "Refusal numbers" for 3 and 4.
+// Document 01, "Modules, leaves first" ("constants, `if_freq_regs`, `resample_regs`"), "Demodulator", and "Refusal numbers" for 3 and 4;
+// document 02, #103, for 13.
 // The constants are all of the Rust's, under its names; some no call uses.
 ghost use mathlib.Core.Path.{_≡_};
 ghost use Prim.Native.Nat.{_<_};
@@ -9,6 +10,9 @@ ghost use Rattle.registers.specs.Rates.{
   ifValueOf,
   ratioOf,
   sentOf,
+  holds,
+  zeroNumber,
+  rateNumber,
   ifRegsOf,
   resampleRegsOf,
 };
@@ -143,6 +147,41 @@ pub fn sent(ratio: u64) -> u32
     masked | ((masked & 0x0800_0000) << 1)
 }
 
+// Whether the resampler's register holds it: what is sent is then the ratio without its two low bits.
+fn held(ratio: u64) -> bool
+    ensures { λ r. ⌜ r ≡ holds ratio ⌝ }
+{
+    (4 <= ratio) & (ratio < 536_870_912) & ((ratio >> 27) % 2 == (ratio >> 28) % 2)
+}
+
+// 3 for a rate of 0, then 4 for a reference of 0.
+fn zero_number(rate: u32, xtal: u32) -> u8
+    ensures { λ r. ⌜ r ≡ zeroNumber rate xtal 0 ⌝ }
+{
+    if rate == 0 {
+        return 3;
+    }
+    if xtal == 0 {
+        return 4;
+    }
+    0
+}
+
+// Why a rate is not sent: 3, then 4, then 13 for a ratio that the register doesn't hold; 0 where it is sent.
+pub fn rate_number(rate: u32, xtal: u32) -> u8
+    ensures { λ r. ⌜ r ≡ rateNumber rate xtal ⌝ }
+{
+    let zero = zero_number(rate, xtal);
+    if zero != 0 {
+        return zero;
+    }
+    let whole = ratio(rate, xtal);
+    if held(whole) {
+        return 0;
+    }
+    13
+}
+
 // A refusal number, 0 for none, and the register bytes, zeros where it is refused.
 pub struct IfRegs {
     pub refusal: u32,
@@ -177,15 +216,10 @@ pub fn if_freq_regs(hz: u32, xtal: u32) -> IfRegs
 pub fn resample_regs(rate: u32, xtal: u32) -> ResampleRegs
     ensures { λ r. ⌜ r ≡ resampleRegsOf rate xtal ⌝ }
 {
-    if rate == 0 {
+    let number = zero_number(rate, xtal);
+    if number != 0 {
         return ResampleRegs {
-            refusal: 3,
-            bytes: [0, 0, 0, 0],
-        };
-    }
-    if xtal == 0 {
-        return ResampleRegs {
-            refusal: 4,
+            refusal: number as u32,
             bytes: [0, 0, 0, 0],
         };
     }

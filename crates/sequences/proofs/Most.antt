@@ -30,6 +30,7 @@ use Rattle.pll.specs.Setting.{settingOf}
 use Rattle.status.specs.Reversal.{reversed}
 use Rattle.tuning.specs.Program.{innerSteps, tuneSteps, wholeOf}
 use Rattle.tuning.specs.Tries.{repairUpdates, triesFrom}
+use Rattle.registers.specs.Rates.{holds, rateNumber}
 use Rattle.r82xx.specs.declared.Tuner.{Tuner}
 use Rattle.r82xx.specs.Record.{freshTuner, sound}
 use Rattle.r82xx.specs.Calls.{hzRefusal, planFor, refusalOf}
@@ -118,7 +119,7 @@ unfolding trace run step lentOf inVco firstOf settingOf turnOf turnsOf planWith 
 tune-reached = refl
 
 pub rate-reached : length (entries (lent (SampleRate 2_048_000 (driver Generic 28_800_000 (pos 0) 0 0))) fresh) ≡ most (SampleRate 2_048_000 (driver Generic 28_800_000 (pos 0) 0 0)) fresh
-unfolding trace run step lentOf accessStep xtalBy correctedOf resetSteps rateSteps ifSteps ddcSteps
+unfolding trace run step lentOf accessStep xtalBy correctedOf holds rateNumber resetSteps rateSteps ifSteps ddcSteps
 rate-reached = refl
 
 pub board-reached : length (entries (lent (BoardPath 0 (replicate 3 0))) fresh) ≡ most (BoardPath 0 (replicate 3 0)) fresh

@@ -20,7 +20,7 @@ use Rattle.pll.specs.Plan.{wholeOf, planOf}
 use Rattle.pll.specs.Setting.{settingOf}
 use Rattle.reference.specs.declared.Corrected.the-variants as reference
 use Rattle.reference.specs.Correct.{correctedOf}
-use Rattle.registers.specs.Rates.{ifValueOf, ifRegsOf, ratioOf, sentOf, threeOf}
+use Rattle.registers.specs.Rates.{ifValueOf, ifRegsOf, ratioOf, rateNumber, sentOf, threeOf}
 
 -- the divider and N of a plan; of a refusal 0, which no line below names
 abbrev pub dividerIn : Pll → ℕ
@@ -74,6 +74,13 @@ pub record Worked : Type 0 where
   -- Rate 2,048,000: 0x03840000. Rate 225,000: 0
   pub rate-wide : sentOf (ratioOf 2_048_000 28_800_000) ≡ 0x0384_0000
   pub rate-narrow : sentOf (ratioOf 225_000 28_800_000) ≡ 0
+  -- Document 02, #103: that rate is refused; "At 28,800,000 that is 225,001 to 300,000, and 900,001 upward", the numbers at whose sides the answer changes
+  pub too-narrow : rateNumber 225_000 28_800_000 ≡ 13
+  pub narrowest : rateNumber 225_001 28_800_000 ≡ 0
+  pub last-narrow : rateNumber 300_000 28_800_000 ≡ 0
+  pub first-between : rateNumber 300_001 28_800_000 ≡ 13
+  pub last-between : rateNumber 900_000 28_800_000 ≡ 13
+  pub first-wide : rateNumber 900_001 28_800_000 ≡ 0
   -- V4: 28,799,999 goes to 57,599,999 inverted; 28,800,000 stays
   pub shifted : board.planOf V4 28_799_999 ≡ record { hz = 57_599_999; inverted = true; path = By Hf; notch = false }
   pub stays : board.planOf V4 28_800_000 ≡ record { hz = 28_800_000; inverted = false; path = By Vhf; notch = false }

@@ -3,6 +3,7 @@ use crate::json;
 use crate::reach;
 use crate::run::{Made, Run};
 use pasetone::{Error, Plan};
+use std::ops::RangeInclusive;
 
 pub struct Told {
     pub number: u32,
@@ -19,6 +20,7 @@ pub struct Told {
 /// What the words have asked for, as far as an advice hangs on it.
 pub struct Wish {
     pub hz: u64,
+    pub rate: u32,
     /// The file of --keep.
     pub keep: Option<String>,
 }
@@ -67,6 +69,7 @@ fn words(error: Error) -> &'static str {
         Error::Frequency => "frequency: 0, or one that the PLL does not reach",
         Error::Rate => "rate: 0",
         Error::Correction => "correction: the corrected reference is out of its range",
+        Error::Ratio => "ratio: the resampler cannot hold this rate with this reference",
         Error::Outcomes => "outcomes: fewer bytes are left than the call may need",
         Error::Replies => "replies: fewer bytes are left than the call may need",
         Error::Step { .. } => "step: a step failed",
@@ -82,6 +85,7 @@ fn to_do(run: &Run, made: &Made, error: Error, wish: &Wish) -> String {
         Error::Frequency => frequencies(run, wish.hz),
         Error::Rate => String::from("give --rate from 1 to 4294967295"),
         Error::Correction => corrections(run),
+        Error::Ratio => rates(run, wish.rate),
         Error::Outcomes => longer(call, "outcomes", need.outcomes, left.outcomes),
         Error::Replies => longer(call, "replies", need.replies, left.replies),
         Error::Step { .. } => match &wish.keep {
@@ -102,14 +106,29 @@ fn longer(call: &str, what: &str, need: usize, left: usize) -> String {
 /// The frequencies next to the one asked for, below and above it, that can be reached.
 fn frequencies(run: &Run, hz: u64) -> String {
     let Some((tuner, driver)) = &run.records else { return String::new() };
-    let all = reach::reached(tuner, driver.board());
-    let below = all.iter().rev().find(|stretch| *stretch.end() < hz);
-    let above = all.iter().find(|stretch| *stretch.start() > hz);
-    let next: Vec<String> = below.into_iter().chain(above).map(|stretch| format!("{} to {}", stretch.start(), stretch.end())).collect();
+    let next = beside(&reach::reached(tuner, driver.board()), hz);
     if next.is_empty() {
         return format!("no frequency can be reached with a reference of {} Hz: give another by --reference", tuner.corrected());
     }
-    format!("ask for {} Hz", next.join(", or "))
+    format!("ask for {next} Hz")
+}
+
+/// The stretches next to a number, below and above it.
+fn beside(all: &[RangeInclusive<u64>], number: u64) -> String {
+    let below = all.iter().rev().find(|stretch| *stretch.end() < number);
+    let above = all.iter().find(|stretch| *stretch.start() > number);
+    let next: Vec<String> = below.into_iter().chain(above).map(|stretch| format!("{} to {}", stretch.start(), stretch.end())).collect();
+    next.join(", or ")
+}
+
+/// The rates next to the one asked for, below and above it, that are taken.
+fn rates(run: &Run, rate: u32) -> String {
+    let Some((tuner, driver)) = &run.records else { return String::new() };
+    let next = beside(&reach::rates(tuner, driver), u64::from(rate));
+    if next.is_empty() {
+        return format!("no rate is taken with a reference of {} Hz: give another by --reference", driver.corrected_xtal_hz());
+    }
+    format!("give --rate from {next}")
 }
 
 fn corrections(run: &Run) -> String {

@@ -57,7 +57,7 @@ pub fn run(given: &Given, out: &mut Out) {
     let head = Head::of(&start);
     let plan = head.board.plan_tuning(asked.hz);
     let run = Run::of(start, &asked, &plan, outcomes, replies);
-    let wish = Wish { hz: asked.hz, keep: given.word(Key::Keep).map(shown) };
+    let wish = Wish { hz: asked.hz, rate: asked.rate.unwrap_or(0), keep: given.word(Key::Keep).map(shown) };
     let told = answer::of(&run, &plan, &wish);
     let unreached = fail.filter(|step| run.steps <= *step);
     let report = Report { head, asked, plan, run, told, unreached };

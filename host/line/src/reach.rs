@@ -1,9 +1,9 @@
-//! Which frequencies a tuner reaches, by the library's own answers.
+//! Which frequencies a tuner reaches, and which rates a driver takes, by the library's own answers.
 //!
 //! The divider of the oscillator changes at lo = 1,770,000,000 / m, m from 64 down to 2, and none is left from 1,800,000,000 on; lo is the tuner's Hz plus
 //! the IF. Between two such borders N grows with lo, and a bound on N cuts off one end of the stretch at most (both ends at once would want a reference
 //! above and below the same Hz). So where the two ends answer alike the stretch does, and where they do not, halving finds the one border.
-use pasetone::{Board, Error, Script, Tuner};
+use pasetone::{Board, Driver, Error, Script, Tuner};
 use std::ops::RangeInclusive;
 
 const OSCILLATOR: u64 = 1_770_000_000;
@@ -70,6 +70,16 @@ fn joined(mut found: Vec<Stretch>) -> Vec<Stretch> {
         }
     }
     whole
+}
+
+/// The rates that are taken with a driver's reference, ascending. The ratio falls as the rate grows; what is held changes at 2^29, 3 * 2^27, 2^27 and 4.
+pub fn rates(tuner: &Tuner, driver: &Driver) -> Vec<Stretch> {
+    let is_taken = |rate: u64| driver.clone().set_sample_rate(&mut tuner.clone(), rate as u32, &Script::all_done()).result.is_ok();
+    let (reference, past) = (u64::from(driver.corrected_xtal_hz()), u64::from(u32::MAX) + 1);
+    let borders =
+        [1, reference / 128 + 1, reference / 96 + 1, reference / 32 + 1, (reference << 20) + 1, past].map(|border| border.min(past));
+    let between = borders.windows(2).filter(|border| border[0] < border[1]);
+    joined(between.filter_map(|border| stretch(border[0], border[1] - 1, is_taken)).collect())
 }
 
 /// The corrections that a tuner takes, by the library's own answers: no correction is one of them.
@@ -179,6 +189,20 @@ mod tests {
                 assert_eq!(is_reached(&tuner, board, hz), stretches.iter().any(|stretch| stretch.contains(&hz)), "{hz}");
             }
         }
+    }
+
+    /// By document 02's rule: a ratio from 4 below 2^27, or from 3 * 2^27 below 2^29.
+    #[test]
+    fn rates_to_the_last() {
+        let rates =
+            |reference: u32, ppm: i32| rates(&tuner(TunerKind::R828d, 28_800_000), &Driver::new(Board::V4, reference, ppm, 0, 0).unwrap());
+        let most = u64::from(u32::MAX);
+        assert_eq!(rates(28_800_000, 0), [225_001..=300_000, 900_001..=most]);
+        assert_eq!(rates(28_800_000, -1), [225_000..=299_999, 900_000..=most]);
+        assert_eq!(rates(1, 0), [1..=1 << 20]);
+        assert_eq!(rates(95, 0), [3..=95 << 20]);
+        assert_eq!(rates(96, 0), [1..=1, 4..=96 << 20]);
+        assert_eq!(rates(u32::MAX, 0), [33_554_432..=44_739_242, 134_217_728..=most]);
     }
 
     #[test]

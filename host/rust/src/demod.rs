@@ -115,6 +115,7 @@ pub fn set_if_freq_xtal(hz: u32, xtal: u32, script: &Script) -> Answer<()> {
 ///
 /// - [`Error::Rate`](crate::Error::Rate) (3): `rate` is 0.
 /// - [`Error::Correction`](crate::Error::Correction) (4): `xtal` is 0.
+/// - [`Error::Ratio`](crate::Error::Ratio) (13): the resampler cannot hold the ratio of the two.
 /// - [`Error::Outcomes`](crate::Error::Outcomes) (9): fewer than 4 outcomes.
 /// - [`Error::Step`](crate::Error::Step) (11): a step failed, and the steps before it stand.
 pub fn set_sample_rate_xtal(rate: u32, xtal: u32, script: &Script) -> Answer<()> {

@@ -106,6 +106,7 @@ impl Driver {
     /// # Errors
     ///
     /// - [`Error::Rate`] (3): `rate` is 0.
+    /// - [`Error::Ratio`] (13): the resampler cannot hold it with the corrected reference. At 28,800,000 Hz it holds 225,001 to 300,000, and 900,001 up.
     /// - [`Error::Outcomes`] (9): fewer than 17 outcomes.
     /// - [`Error::Step`] (11): a step failed, and the steps before it stand.
     pub fn set_sample_rate(&mut self, tuner: &mut Tuner, rate: u32, script: &Script) -> Answer<()> {

@@ -1,6 +1,6 @@
 use core::fmt;
 
-/// Why a call was refused: document 01's numbers and words.
+/// Why a call was refused: the numbers and words of documents 01 and 02.
 ///
 /// All but [`Error::Step`], and [`Error::Frequency`] in the PLL of a tuning, are given before any step: then nothing has changed.
 #[derive(Clone, Copy, Debug, PartialEq, Eq, Hash)]
@@ -33,6 +33,8 @@ pub enum Error {
     },
     /// 12: bytes that do not end in a section.
     Section,
+    /// 13: a rate that the resampler cannot hold with the reference.
+    Ratio,
 }
 
 impl Error {
@@ -52,11 +54,12 @@ impl Error {
             10 => Error::Replies,
             11 => Error::Step { index: index as usize },
             12 => Error::Section,
+            13 => Error::Ratio,
             other => unreachable!("pasetone.h has no refusal {other}"),
         })
     }
 
-    /// Document 01's number.
+    /// The documents' number.
     pub fn number(self) -> u32 {
         match self {
             Error::Setup => 1,
@@ -71,10 +74,11 @@ impl Error {
             Error::Replies => 10,
             Error::Step { .. } => 11,
             Error::Section => 12,
+            Error::Ratio => 13,
         }
     }
 
-    /// Document 01's word.
+    /// The documents' word.
     pub fn word(self) -> &'static str {
         match self {
             Error::Setup => "setup",
@@ -89,6 +93,7 @@ impl Error {
             Error::Replies => "replies",
             Error::Step { .. } => "step",
             Error::Section => "section",
+            Error::Ratio => "ratio",
         }
     }
 }
@@ -117,6 +122,9 @@ impl Error {
                 "a step failed, and the steps before it stand: see the transcript, reload a tuner with doubtful registers, and make the call again"
             }
             Error::Section => "the bytes do not end in a section: give a whole one, its trailer last",
+            Error::Ratio => {
+                "the resampler cannot hold the ratio of reference and rate: with a reference of 28800000 Hz give a rate from 225001 to 300000, or from 900001"
+            }
         }
     }
 }

@@ -191,6 +191,9 @@ fn driver() {
     assert_eq!(answer.result, Err(Error::Step { index: 0 }));
     assert_eq!((tuner.if_freq(), driver.rate()), (2_300_000, 3_200_000));
     assert_eq!(driver.set_sample_rate(&mut tuner, 0, &done()).result, Err(Error::Rate));
+    let before = (tuner.clone(), driver.clone());
+    assert_eq!(driver.set_sample_rate(&mut tuner, 900_000, &done()).result, Err(Error::Ratio));
+    assert_eq!((tuner.as_bytes(), driver.as_bytes()), (before.0.as_bytes(), before.1.as_bytes()));
     driver.set_ppm(-1).unwrap();
     assert_eq!(driver.corrected_xtal_hz(), 28_799_972);
     assert_eq!(driver.set_ppm(-1_000_000), Err(Error::Correction));
@@ -247,6 +250,11 @@ fn demodulator_and_gpio() {
     let rate = demod::set_sample_rate_xtal(2_048_000, 28_800_000, &done());
     assert_eq!((rate.transcript.get(0).unwrap().bytes, rate.transcript.get(1).unwrap().bytes), (&[0x03, 0x84][..], &[0, 0][..]));
     assert_eq!(demod::set_sample_rate_xtal(0, 0, &done()).result, Err(Error::Rate));
+    let answer = demod::set_sample_rate_xtal(225_000, 28_800_000, &done());
+    assert_eq!((answer.result, answer.transcript.len()), (Err(Error::Ratio), 0));
+    let rates =
+        [225_001, 300_000, 300_001, 900_000, 900_001].map(|rate| demod::set_sample_rate_xtal(rate, 28_800_000, &done()).result.is_ok());
+    assert_eq!(rates, [true, true, false, false, true]);
     assert_eq!(demod::set_if_freq_xtal(1, 0, &done()).result, Err(Error::Correction));
     assert_eq!(gpio::set_bit(8, true, &done()).result, Err(Error::Pin));
     assert_eq!(gpio::set_output(8, &done()).result, Err(Error::Pin));
@@ -269,6 +277,7 @@ fn register_values_and_fir() {
 fn errors_have_numbers_and_words() {
     assert_eq!((Error::Step { index: 7 }.number(), Error::Step { index: 7 }.word()), (11, "step"));
     assert_eq!((Error::Coefficient.number(), Error::Coefficient.word()), (7, "coefficient"));
+    assert_eq!((Error::Ratio.number(), Error::Ratio.word()), (13, "ratio"));
     assert_eq!(Transcript::read(&[]).map(|_| ()).unwrap_err().number(), 12);
-    assert_eq!(pasetone::version(), (2, 0, 0));
+    assert_eq!(pasetone::version(), (2, 1, 0));
 }

@@ -213,5 +213,6 @@ pub fn calls() -> Vec<Case> {
         all.extend((0..times).map(|_| random(call, &mut dice)));
     }
     tune::figures(&mut all, &mut dice);
+    rest::held_rates(&mut all);
     all
 }

@@ -3,7 +3,7 @@
 use crate::answer;
 use crate::case::{Answer, By, Case};
 use crate::page;
-use crate::records::Tuner;
+use crate::records::{Driver, Tuner};
 use crate::run::{self, run};
 use original::tuner::Tuner as Calls;
 
@@ -15,6 +15,7 @@ pub fn answered(call: u8) -> Option<usize> {
 pub fn answer(case: &Case) -> Answer {
     match case.call {
         3 => looked_at(if too_small(case) { as_above_the_band(case) } else { answer::answer(case) }),
+        19 | 28 if not_held(case) => Answer::refused(13, By::PageOverRust),
         39 | 40 => figures(case),
         _ => answer::answer(case),
     }
@@ -52,6 +53,24 @@ fn as_above_the_band(case: &Case) -> Answer {
         answer.by = By::PageOverRust;
     }
     answer
+}
+
+/// #103: "With r the ratio before any masking or cut to 32 bits, a rate is taken only if r is at least 4, below 2^29, and its bits 27 and 28 are
+/// equal."
+pub fn holds(rate: u32, xtal: u32) -> bool {
+    let r = ((xtal as u64) << 22) / rate as u64;
+    let bit = |n: u32| r >> n & 1 == 1;
+    r >= 4 && r < 1 << 29 && bit(27) == bit(28)
+}
+
+/// A rate that the resampler does not hold, in a call that gets as far as its ratio: "after 3 and after 4 for a zero reference, before 8", and after 1
+/// for a record that is none. The reference is the demod call's own, or the driver's corrected one.
+pub fn not_held(case: &Case) -> bool {
+    let xtal = match case.call {
+        28 => Some(case.b as u32),
+        _ => Tuner::read(&case.tuner).and(Driver::read(&case.driver)).and_then(|driver| page::corrected(driver.nominal, driver.ppm)),
+    };
+    case.a != 0 && xtal.is_some_and(|xtal| xtal != 0 && !holds(case.a as u32, xtal))
 }
 
 /// The two leaves of #111: "the same divider, N, S, rest and refusal". "At the host's leaves: a kind that is none 1, a reference of 0 is 4, then 2"

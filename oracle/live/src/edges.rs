@@ -90,6 +90,11 @@ fn xtal(dice: &mut Dice) -> u64 {
     if dice.yes() { near(dice, &[2, 28_800_000, (1 << 32) - 3]) } else { 0 }
 }
 
+/// A rate about the ends of what is held with this reference: ratios of 2^27, 3 * 2^27, 2^29 and 4.
+fn held(dice: &mut Dice, xtal: u64) -> u64 {
+    near(dice, &[xtal / 32, xtal / 96, xtal / 128, xtal << 20])
+}
+
 const BANDS: [u64; 8] = [2_200_000, 28_800_000, 85_000_000, 112_000_000, 172_000_000, 242_000_000, 250_000_000, u64::MAX - 28_800_000];
 
 /// lo, reference and kind of the two leaves of #111: those of a tune, on a record with such a reference.
@@ -123,9 +128,14 @@ pub fn arguments(case: &mut Case, dice: &mut Dice) {
             case.d = ppm(dice, case.a);
         }
         17 => case.d = ppm(dice, Driver::read(&case.driver).map_or(1, |driver| driver.nominal as u64)),
+        19 if dice.yes() => {
+            let driver = Driver::read(&case.driver);
+            case.a = held(dice, driver.and_then(|driver| page::corrected(driver.nominal, driver.ppm)).unwrap_or(1) as u64);
+        }
         19 => case.a = rate(dice),
         26 => (case.a, case.b) = (near(dice, &[0, 16]), near(dice, &[0, 0x100])),
         27 | 34 => (case.a, case.b) = (near(dice, &[0, 3_570_000, 28_800_000, 1 << 32]), xtal(dice)),
+        28 if dice.yes() => case.a = held(dice, case.b),
         28 | 35 => (case.a, case.b) = (rate(dice), xtal(dice)),
         31 | 32 => (case.a, case.b) = (dice.pick(&[7, 8, 9, 16, 128, 255]), dice.pick(&[0, 1, 2, 255])),
         33 => (case.a, case.c) = (near(dice, &BANDS), dice.pick(&[0, 1, 1, 1, 2, 255, 256, u64::MAX])),

@@ -15,7 +15,7 @@ pub struct Rule {
 }
 
 #[rustfmt::skip]
-pub const RULES: [Rule; 19] = [
+pub const RULES: [Rule; 20] = [
     Rule { row: 1, inputs: "tune: hz not 0, hz + IF of 2^64 or more, and the wrapped sum is not tunable" },
     Rule { row: 2, inputs: "tune: the same, and the wrapped sum is tunable" },
     Rule { row: 3, inputs: "tune: lo of 2^58 or more, all lent, entries 0 to 11 done, no wrapped product tunable; differs where overflow panics" },
@@ -35,6 +35,7 @@ pub const RULES: [Rule; 19] = [
     Rule { row: 18, inputs: "fresh tuner: kind above 1, or nominal not 1 to 4,294,967,295" },
     Rule { row: 19, inputs: "FIR packer: 64 bytes, a value past its width" },
     Rule { row: 20, inputs: "tune: N below 13, all lent, entries 0 to 11 done" },
+    Rule { row: 22, inputs: "sample rate, set_sample_rate_xtal: rate and reference not 0, a ratio below 4, of 2^29 or more, or whose bits 27 and 28 differ" },
 ];
 
 /// The row that names this case, if one does.
@@ -47,8 +48,10 @@ pub fn row(given: &Given) -> Option<u8> {
         4 => gain(given),
         10 => correction(Tuner::read(&case.tuner)?.nominal, case.d as i32),
         12 => (Tuner::read(&case.tuner).is_some() && a < 5).then_some(13),
+        19 if requests::not_held(case) => Some(22),
         16..=19 => driver(given),
         27 | 34 => (b == 0).then_some(14),
+        28 if requests::not_held(case) => Some(22),
         28 => (a != 0 && b == 0).then_some(16),
         31 | 32 => (a > 7).then_some(12),
         35 if a == 0 => Some(15),

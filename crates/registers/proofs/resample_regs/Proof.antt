@@ -1,38 +1,47 @@
 -- `registers::resample_regs` meets its contract. Assumes nothing.
-use borrow.Author.Tests.{eq-eqb, ne-eqb}
-use Rattle.registers.specs.Rates.{resampleRegsOf}
+use mathlib.Core.Path.{sym, _∙_}
+use Rattle.registers.proofs.Ratios.{no-regs, none-given, some-regs}
 use borrow.Author.Needs.{needs}
 use Rattle.registers.proofs.resample_regs.Statement.{statement}
 use Rattle.registers.proofs.resample_regs.Tie as tie
 
-returns : tie.Need-returns
-unfolding resampleRegsOf
-returns c = simp (eq-eqb _ _ (c .if1 .taken))
+zero-number-requires : tie.Need-zero-number-requires
+zero-number-requires c κs = search needs
 
-returns-2 : tie.Need-returns-2
-unfolding resampleRegsOf
-returns-2 c = simp (ne-eqb _ _ (c .before .if1 .left), eq-eqb _ _ (c .if2 .taken))
+cast-t6 : tie.Need-cast-t6
+cast-t6 c = search needs
+
+returns : tie.Need-returns
+returns c = no-regs _ _ _ (c .before .zero-number .ensures) (c .if1 .taken)
 
 ratio-requires : tie.Need-ratio-requires
-ratio-requires c κs = search needs
+ratio-requires c κs = none-given (c .before .before .args .rate) (c .before .before .args .xtal) 0 (sym (c .before .zero-number .ensures) ∙ c .if1 .left) .0
 
-cast-t9 : tie.Need-cast-t9
-cast-t9 c = search needs
+cast-t10 : tie.Need-cast-t10
+cast-t10 c = search needs
 
-cast-t12 : tie.Need-cast-t12
-cast-t12 c = search needs
+cast-t13 : tie.Need-cast-t13
+cast-t13 c = search needs
 
-cast-t15 : tie.Need-cast-t15
-cast-t15 c = search needs
+cast-t16 : tie.Need-cast-t16
+cast-t16 c = search needs
 
-cast-t17 : tie.Need-cast-t17
-cast-t17 c = search needs
+cast-t18 : tie.Need-cast-t18
+cast-t18 c = search needs
 
-returns-3 : tie.Need-returns-3
-unfolding resampleRegsOf
-returns-3 c = simp (c .ratio .ensures, ne-eqb _ _ (c .before .before .if1 .left), ne-eqb _ _ (c .before .if2 .left))
+returns-2 : tie.Need-returns-2
+returns-2 c = some-regs _ _ _ _ (c .before .before .zero-number .ensures) (c .before .if1 .left) (c .ratio .ensures)
 
 pub resample-regs-spec : {M : Type 1} → statement M
 resample-regs-spec =
     tie.close
-    (tie.spec returns returns-2 ratio-requires cast-t9 cast-t12 cast-t15 cast-t17 returns-3)
+    (tie.spec
+    zero-number-requires
+    cast-t6
+    returns
+    ratio-requires
+    cast-t10
+    cast-t13
+    cast-t16
+    cast-t18
+    returns-2)

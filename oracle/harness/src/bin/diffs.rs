@@ -257,6 +257,57 @@ fn makings() {
     }
 }
 
+/// Rates that the resampler does not hold: what the Rust sends of them.
+fn rates() {
+    let sent = |made: &[Entry]| {
+        made.iter().filter(|entry| entry[0] == 5).map(|entry| format!("{:02x}{:02x}", entry[8], entry[9])).collect::<String>()
+    };
+    let usb = run::usb();
+    for (number, rate, xtal) in [
+        ("22", 1, 32),
+        ("22a", 1, 31),
+        ("22b", 1, 95),
+        ("22c", 1, 96),
+        ("22d", 1, 127),
+        ("22e", 1, 128),
+        ("22f", (1 << 20) + 1, 1),
+        ("22g", 1 << 20, 1),
+        ("22h", 225_000, 28_800_000),
+        ("22i", 225_001, 28_800_000),
+        ("22j", 300_000, 28_800_000),
+        ("22k", 300_001, 28_800_000),
+        ("22l", 900_000, 28_800_000),
+        ("22m", 900_001, 28_800_000),
+    ] {
+        let case = Case { a: rate as u64, b: xtal as u64, ..plain(28) };
+        let ratio = ((xtal as u64) << 22) / rate as u64;
+        row(
+            number,
+            &format!("set_sample_rate_xtal({rate}, {xtal}), ratio {ratio:#010x}"),
+            rust(|| demod::set_sample_rate_xtal(usb.as_hw(), rate, xtal).map(|()| sent(&run::entries()))),
+            later(&case),
+        );
+    }
+    let given = Driver { board: 0, nominal: 32, ppm: 0, frequency: 0, rate: 0 };
+    let case = Case { a: 1, driver: given.bytes(), ..plain(19) };
+    row(
+        "22n",
+        "set_sample_rate(1), driver's reference 32, recorded",
+        rust(|| {
+            let mut driver = run::driver(Arc::new(run::chip(&record(2_300_000))), 1, &given);
+            block_on(driver.set_sample_rate(1)).map(|()| (driver.sample_rate, sent(&run::entries())))
+        }),
+        later(&case),
+    );
+}
+
+/// Document 01 does as the Rust; what document 02 makes of it.
+fn later(case: &Case) -> String {
+    let (first, then) = (answer(case), requests::answer(case));
+    let ruling = if then.refusal == 0 { "the same".to_string() } else { format!("refused {}, {} entries", then.refusal, then.count) };
+    format!("the same, {} entries; document 02: {ruling}", first.count)
+}
+
 /// The packets of pages above 15 and registers above 0xff are those of others; the entries tell them apart.
 fn aliases() {
     let usb = run::usb();
@@ -315,5 +366,6 @@ fn main() {
     small();
     makings();
     aliases();
+    rates();
     left_out();
 }

@@ -167,6 +167,43 @@ pub fn sample_rates(all: &mut Vec<Case>, dice: &mut Dice) {
     }
 }
 
+/// Document 02, #103: where a ratio begins and ceases to be held, for both calls, and 13 among the other refusals.
+pub fn held_rates(all: &mut Vec<Case>) {
+    let corrected = |nominal: u32, ppm: i32| Driver { board: 1, nominal, ppm, frequency: 7 * MHZ, rate: 2_048_000 };
+    // With a rate of 1 the ratio is xtal * 2^22: 2^27 at 32, 3 * 2^27 at 96, 2^29 at 128, 2^32 at 1,024. With a reference of 1 it is 4 at a rate of 2^20.
+    for (rate, xtal) in [(1, 32), (1, 96), (1, 128), (1, 1_024)] {
+        for xtal in around(xtal) {
+            all.push(Case { a: rate, b: xtal, ..plain(28) });
+            all.push(Case { a: rate, driver: corrected(xtal as u32, 0).bytes(), ..plain(19) });
+        }
+    }
+    for rate in around(1 << 20) {
+        all.push(Case { a: rate, b: 1, ..plain(28) });
+        all.push(Case { a: rate, driver: corrected(1, 0).bytes(), ..plain(19) });
+    }
+    for rate in [225_000, 300_000, 900_000].into_iter().flat_map(around) {
+        all.push(Case { a: rate, ..plain(28) });
+        // The corrected reference decides: at -1 ppm 28,799,972 Hz, at 2 ppm 28,800,057.
+        all.extend([-1, 0, 2].map(|ppm| Case { a: rate, driver: corrected(28_800_000, ppm).bytes(), ..plain(19) }));
+    }
+    all.extend([(u32::MAX as u64, 4_095), (u32::MAX as u64, 4_096), (u32::MAX as u64, u32::MAX as u64)].map(|(a, b)| Case {
+        a,
+        b,
+        ..plain(28)
+    }));
+    // 13 stands after 1, 3 and 4, and before 8 and 9; a step that would fail is not taken.
+    for call in [19, 28] {
+        let low = Case { a: 600_000, ..plain(call) };
+        all.extend([0, 1, 16].map(|room| Case { room, ..low.clone() }));
+        all.extend([Case { outcomes: vec![], ..low.clone() }, Case { room: 0, outcomes: vec![], ..low.clone() }]);
+        all.push(Case { outcomes: vec![1; low.outcomes.len()], ..low.clone() });
+    }
+    all.push(Case { a: 0, b: 0, ..plain(28) });
+    all.push(Case { a: 600_000, b: 0, ..plain(28) });
+    all.push(Case { a: 600_000, tuner: vec![], ..plain(19) });
+    all.push(Case { a: 600_000, driver: corrected(28_800_000, -1_000_000).bytes(), ..plain(19) });
+}
+
 pub fn steps_of_each(all: &mut Vec<Case>, dice: &mut Dice) {
     for call in (2..=32).filter(|&call| page::most(call).is_some() && call != 3) {
         let mut case = plain(call);

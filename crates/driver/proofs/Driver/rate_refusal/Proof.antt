@@ -1,0 +1,23 @@
+-- `Driver::rate_refusal` meets its contract. Assumes nothing.
+use mathlib.Core.Path.{ap, _∙_}
+use mir.Facts.{toZ-ofZ}
+use mir.Syntax.{w32}
+use Rattle.registers.specs.Rates.{rateNumber}
+use Rattle.driver.specs.Record.{xtalBy}
+use borrow.Author.Needs.{needs}
+use Rattle.driver.proofs.Driver.rate_refusal.Statement.{statement}
+use Rattle.driver.proofs.Driver.rate_refusal.Tie as tie
+
+xtal-by-requires : tie.Need-xtal-by-requires
+xtal-by-requires c κs = search needs
+
+rate-number-requires : tie.Need-rate-number-requires
+rate-number-requires c κs = search needs
+
+returns : tie.Need-returns
+returns c =
+    c .rate-number .ensures
+    ∙ ap (rateNumber (c .before .before .before .args .rate)) (c .before .xtal-by .ensures ∙ ap (xtalBy (c .before .before .before .args .self .nominal)) (toZ-ofZ {w = w32} {z = c .before .before .before .args .self .ppm} (record { sfits = c .before .before .struct-told .given .1 .1 .0 .1 })))
+
+pub rate-refusal-spec : {M : Type 1} → statement M
+rate-refusal-spec = tie.close (tie.spec xtal-by-requires rate-number-requires returns)

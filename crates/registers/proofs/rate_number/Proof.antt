@@ -1,0 +1,30 @@
+-- `registers::rate_number` meets its contract: the zeros first, then the ratio. Assumes nothing.
+use mathlib.Core.Path.{sym, ap, _∙_}
+use mathlib.Core.Bool.{Bool, cond}
+use Rattle.registers.proofs.Ratios.{none-given, number-first, number-last}
+use borrow.Author.Needs.{needs}
+use Rattle.registers.proofs.rate_number.Statement.{statement}
+use Rattle.registers.proofs.rate_number.Tie as tie
+
+zero-number-requires : tie.Need-zero-number-requires
+zero-number-requires c κs = search needs
+
+returns : tie.Need-returns
+returns c = number-first _ _ _ (c .before .zero-number .ensures) (c .if1 .taken)
+
+ratio-requires : tie.Need-ratio-requires
+ratio-requires c κs = none-given (c .before .before .args .rate) (c .before .before .args .xtal) 0 (sym (c .before .zero-number .ensures) ∙ c .if1 .left) .0
+
+held-requires : tie.Need-held-requires
+held-requires c κs = search needs
+
+returns-2 : tie.Need-returns-2
+returns-2 c = sym (ap (λ (b : Bool). cond b 0 13) (c .if2 .taken)) ∙ number-last _ _ _ _ _ (c .before .before .before .before .zero-number .ensures) (c .before .before .before .if1 .left) (c .before .before .ratio .ensures) (c .before .held .ensures)
+
+returns-3 : tie.Need-returns-3
+returns-3 c = sym (ap (λ (b : Bool). cond b 0 13) (c .if2 .left)) ∙ number-last _ _ _ _ _ (c .before .before .before .before .zero-number .ensures) (c .before .before .before .if1 .left) (c .before .before .ratio .ensures) (c .before .held .ensures)
+
+pub rate-number-spec : {M : Type 1} → statement M
+rate-number-spec =
+    tie.close
+    (tie.spec zero-number-requires returns ratio-requires held-requires returns-2 returns-3)
