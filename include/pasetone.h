@@ -2,7 +2,7 @@
  * Pasetone: control of an RTL2832U receiver with an R820T or R828D tuner, after rtlsdr-next. This header is the manual of libpasetone.a.
  *
  * The library talks to no hardware, reads no clock and waits for nothing. A call is given
- *   - a record: what is known of a tuner (105 bytes) or of a driver (21 bytes), kept by the host as plain bytes;
+ *   - a record: what is known of a tuner (105 bytes) or of a driver (29 bytes), kept by the host as plain bytes;
  *   - a script: how each step is to end (outcomes) and what each read is to give (replies);
  *   - room, into which it writes a transcript of the steps that it took;
  *   - a slice for the next record, which takes the place of the given one.
@@ -97,13 +97,18 @@ extern "C" {
 #define PASETONE_FIRST_REGISTER 0x05
 #define PASETONE_REGISTER_COUNT 27
 
-/* The driver's record. Bytes that are a record: exactly this long, board 0 or 1, nominal and ppm with a corrected reference in its range. */
-#define PASETONE_DRIVER_SIZE 21
+/*
+ * The driver's record. Bytes that are a record: exactly this long, board 0 or 1, nominal and ppm with a corrected reference in its range. The true rate
+ * is the one that samples come at, whole: the resampler drops the two low bits of its ratio, so it is the rate asked or somewhat more, and may be past
+ * 32 bits. It is 0 until `set_sample_rate` is done, which sets it with the rate; no other call does, so it is the one of the correction of that time.
+ */
+#define PASETONE_DRIVER_SIZE 29
 #define PASETONE_DRIVER_BOARD 0
 #define PASETONE_DRIVER_NOMINAL 1   /* u32, Hz */
 #define PASETONE_DRIVER_PPM 5       /* i32 */
 #define PASETONE_DRIVER_FREQUENCY 9 /* u64, Hz */
-#define PASETONE_DRIVER_RATE 17     /* u32, samples per second */
+#define PASETONE_DRIVER_RATE 17     /* u32, samples per second: the rate asked */
+#define PASETONE_DRIVER_TRUE_RATE 21 /* u64, samples per second, any */
 
 /* The most entries of a call are its outcomes' least length; room for n entries; replies are 0 where none are named. */
 #define PASETONE_ENTRY_SIZE 16
@@ -213,8 +218,8 @@ uint32_t pasetone_version(void);
 pasetone_reply pasetone_tuner_new(uint64_t kind, uint8_t address, uint64_t nominal, uint8_t *next, size_t next_len);
 
 /*
- * A driver: its board, reference, correction in parts per million, and the frequency and rate to start from (0 is taken). `next`: 21 bytes.
- * Value 0. Refuses 1 (board, nominal), 4, 8.
+ * A driver: its board, reference, correction in parts per million, and the frequency and rate to start from (0 is taken); its true rate is 0.
+ * `next`: 29 bytes. Value 0. Refuses 1 (board, nominal), 4, 8.
  */
 pasetone_reply pasetone_driver_new(uint64_t board, uint64_t nominal, int32_t ppm, uint64_t frequency, uint32_t rate, uint8_t *next,
                                    size_t next_len);
@@ -304,9 +309,12 @@ pasetone_reply pasetone_set_ppm(uint8_t *tuner, size_t tuner_len, int32_t ppm);
 /* The notch, for the next tuning: 0 off, else on. CHANGES the given record where it lies, in its byte at 50. Value 0. Refuses 1. */
 pasetone_reply pasetone_apply_notch(uint8_t *tuner, size_t tuner_len, uint8_t on);
 
-/* ---- The driver's calls. `driver` is a record of 21 bytes and stays as it is. ---- */
+/* ---- The driver's calls. `driver` is a record of 29 bytes and stays as it is. ---- */
 
-/* The driver with another correction; the tuner keeps its own. `next`: 21 bytes. Value 0. Refuses 1, 4, 8. */
+/*
+ * The driver with another correction; the tuner keeps its own. Rate and true rate stay, so the true rate is that of the old correction until a rate is
+ * set again. `next`: 29 bytes. Value 0. Refuses 1, 4, 8.
+ */
 pasetone_reply pasetone_driver_set_ppm(const uint8_t *driver, size_t driver_len, int32_t ppm, uint8_t *next, size_t next_len);
 
 /* Value: the driver's corrected reference in Hz. Refuses 1. */
@@ -314,8 +322,9 @@ pasetone_reply pasetone_corrected_xtal_hz(const uint8_t *driver, size_t driver_l
 
 /*
  * The sample rate: IF and filter of the tuner, reset, rate and IF of the demodulator, spectrum by the board's plan for the driver's frequency.
- * An IF of 0 stays 0. Outcomes 17, room 280; `next_driver` 21 bytes, `next_tuner` 105. Both are written once steps were taken; the driver's
- * rate changes only when all are done, the tuner's IF before them. Value 0. Refuses 1 (either record), 3, 13 (by the corrected reference: at
+ * An IF of 0 stays 0. Outcomes 17, room 280; `next_driver` 29 bytes, `next_tuner` 105. Both are written once steps were taken; the driver's
+ * rate and true rate change only when all are done, the tuner's IF before them. The true rate is the corrected reference times 2^22 divided by the
+ * ratio as it was sent, cut to a whole number, and at least the rate asked. Value 0. Refuses 1 (either record), 3, 13 (by the corrected reference: at
  * 28,800,000 Hz the rates from 225,001 to 300,000 and from 900,001 up are taken), 8, 9, 11.
  */
 pasetone_reply pasetone_set_sample_rate(const uint8_t *driver, size_t driver_len, const uint8_t *tuner, size_t tuner_len, uint32_t rate,

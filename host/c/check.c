@@ -20,7 +20,7 @@ SAME_AT_COMPILE_TIME(tune_reply_tries_at_24, offsetof(pasetone_tune_reply, tries
 SAME_AT_COMPILE_TIME(tune_reply_locked_at_28, offsetof(pasetone_tune_reply, locked), 28);
 SAME_AT_COMPILE_TIME(section_refusal_at_16, offsetof(pasetone_section, refusal), 16);
 SAME_AT_COMPILE_TIME(tuner_record_ends, PASETONE_TUNER_DOUBTFUL + PASETONE_REGISTER_COUNT, PASETONE_TUNER_SIZE);
-SAME_AT_COMPILE_TIME(driver_record_ends, PASETONE_DRIVER_RATE + 4, PASETONE_DRIVER_SIZE);
+SAME_AT_COMPILE_TIME(driver_record_ends, PASETONE_DRIVER_TRUE_RATE + 8, PASETONE_DRIVER_SIZE);
 SAME_AT_COMPILE_TIME(tune_room_is_856, PASETONE_TUNE_ROOM, 856);
 
 static unsigned checks, faults;
@@ -75,7 +75,7 @@ static void looked(const char *what, pasetone_tune_reply reply, uint32_t tries, 
 
 static void check_making(void)
 {
-    same("version", pasetone_version(), 0x00020100);
+    same("version", pasetone_version(), 0x00030000);
     done("fresh tuner", pasetone_tuner_new(PASETONE_R828D, 0x74, 28800000, TUNER), 0, 0);
     same("fresh kind", tuner[PASETONE_TUNER_KIND], PASETONE_R828D);
     same("fresh address", tuner[PASETONE_TUNER_ADDRESS], 0x74);
@@ -298,6 +298,8 @@ static void check_driver(void)
     done("sample rate", pasetone_set_sample_rate(DRIVER, TUNER, 3200000, OUTCOMES, ROOM, next_driver, sizeof next_driver, NEXT), 0, 17);
     done("its IF", pasetone_get_if_freq(NEXT), 3570000, 0);
     same("its rate", next_driver[PASETONE_DRIVER_RATE] | next_driver[PASETONE_DRIVER_RATE + 1] << 8, 3200000 & 0xffff);
+    done("rate 5,497,289", pasetone_set_sample_rate(DRIVER, TUNER, 5497289, OUTCOMES, ROOM, next_driver, sizeof next_driver, NEXT), 0, 17);
+    same("its true rate", next_driver[PASETONE_DRIVER_TRUE_RATE] | next_driver[PASETONE_DRIVER_TRUE_RATE + 1] << 8, 5497290 & 0xffff);
     refused("rate 0", pasetone_set_sample_rate(DRIVER, TUNER, 0, OUTCOMES, ROOM, next_driver, sizeof next_driver, NEXT), PASETONE_RATE);
     refused("rate 300,001, a short slice", pasetone_set_sample_rate(DRIVER, TUNER, 300001, OUTCOMES, ROOM, next_driver, 0, NEXT), PASETONE_RATIO);
     done("board path", pasetone_apply_input_path(TUNER, PASETONE_VHF, OUTCOMES, REPLIES, ROOM, NEXT), 0, 10);

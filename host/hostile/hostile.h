@@ -80,6 +80,7 @@ int driver_is_record(const uint8_t *bytes, size_t n);
 uint64_t corrected(uint64_t nominal, int32_t ppm);
 uint64_t driver_xtal(const uint8_t *bytes);
 uint32_t rate_model(uint64_t rate, uint64_t xtal);
+uint64_t true_rate_model(uint64_t rate, uint64_t xtal);
 /* 0 with the rest, or 2. */
 uint32_t pll_model(uint64_t kind, uint64_t lo, uint32_t reference, uint64_t *rest);
 uint32_t read_model(const uint8_t *bytes, size_t n, uint64_t *start, uint64_t *count);

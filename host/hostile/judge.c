@@ -55,6 +55,27 @@ static const char *judge_bytes(const struct attempt *a, int stands)
     return stands && in_place(a->call) ? judge_in_place(a) : NULL;
 }
 
+/* A driver's rates: of a fresh one as given and 0; after a call that has set one as asked and the true one; else as they were. */
+static const char *judge_rates(const struct attempt *a)
+{
+    const uint8_t *was = a->before[DRIVER], *is = a->at[NEXT_DRIVER];
+    uint64_t rate, actual;
+    if (!(a->call->slots & HAS(DRIVER))) {
+        rate = (uint32_t)a->arg[4];
+        actual = 0;
+    } else if ((a->call->slots & HAS(TUNER)) && a->reply.refusal == 0) {
+        rate = (uint32_t)a->arg[0];
+        actual = true_rate_model(rate, driver_xtal(was));
+    } else {
+        rate = number_at(was + PASETONE_DRIVER_RATE, 4);
+        actual = number_at(was + PASETONE_DRIVER_TRUE_RATE, 8);
+    }
+    if (number_at(is + PASETONE_DRIVER_RATE, 4) != rate || number_at(is + PASETONE_DRIVER_TRUE_RATE, 8) != actual) {
+        return "the next driver record has other rates";
+    }
+    return NULL;
+}
+
 /* A next record is one, of the same chip or board. */
 static const char *judge_next(const struct attempt *a)
 {
@@ -75,7 +96,7 @@ static const char *judge_next(const struct attempt *a)
          memcmp(a->at[NEXT_DRIVER] + PASETONE_DRIVER_FREQUENCY, a->before[DRIVER] + PASETONE_DRIVER_FREQUENCY, 8) != 0)) {
         return "the next driver record is of another board";
     }
-    return NULL;
+    return (slots & HAS(NEXT_DRIVER)) ? judge_rates(a) : NULL;
 }
 
 /* Entry i as its script has it: the outcome, and for a read the replies from *used on. */

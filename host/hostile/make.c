@@ -57,7 +57,7 @@ static void damage(uint8_t *bytes, size_t *n)
     case 3:
         bytes[flags[at % sizeof flags] % *n] = (uint8_t)(any % 4);
         break;
-    case 4: /* the gain's top bits, around infinity and NaN; in a driver's record, frequency or rate */
+    case 4: /* the gain's top bits, around infinity and NaN; in a driver's record, the frequency */
         bytes[41 % *n] = (uint8_t)(0x7f + 0x80 * below(2));
         bytes[40 % *n] = (uint8_t)(0x7f + below(130));
         break;

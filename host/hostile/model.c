@@ -65,6 +65,13 @@ uint32_t rate_model(uint64_t rate, uint64_t xtal)
     return (r >= 4 && r < 134217728) || (r >= 402653184 && r < 536870912) ? 0 : 13;
 }
 
+/* Document 02's true rate, for a rate that is taken: of a ratio that is held all but the two low bits are sent. */
+uint64_t true_rate_model(uint64_t rate, uint64_t xtal)
+{
+    uint64_t r = xtal * 4194304 / rate;
+    return xtal * 4194304 / (r - r % 4);
+}
+
 int tuner_is_record(const uint8_t *bytes, size_t n)
 {
     uint32_t gain;

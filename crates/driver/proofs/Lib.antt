@@ -3,4 +3,5 @@ pub mod Making
 pub mod Refusals
 pub mod Paths
 pub mod Rates
+pub mod Trues
 pub mod Lengths

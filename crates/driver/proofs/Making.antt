@@ -37,7 +37,7 @@ module _ (board nominal : ℕ) (ppm : ℤ) (frequency rate : ℕ) (b : BoardRead
       pub new-bad : xtal < 1 → nothingMade 4 ≡ driverOf board nominal ppm frequency rate
       new-bad h = rw (le-leb 1 nominal low, le-leb nominal 4_294_967_295 high, ← worked, lt-leb 1 xtal h) at on
 
-      pub new-good : 1 ≤ xtal → made (Done 0) (driver named nominal ppm frequency rate) ≡ driverOf board nominal ppm frequency rate
+      pub new-good : 1 ≤ xtal → made (Done 0) (driver named nominal ppm frequency rate 0) ≡ driverOf board nominal ppm frequency rate
       new-good h = rw (le-leb 1 nominal low, le-leb nominal 4_294_967_295 high, ← worked, le-leb 1 xtal h) at on
 
 -- `corrected_xtal_hz`

@@ -99,24 +99,24 @@ module _ (os room : List ℕ) (rate : ℕ) (t : Tuner) (d : Driver) (s : Bool) (
   rate-refused h =
       refuse-by (refusalWith (sound t && soundDriver d) (rateRefusal rate d) 17 0 (length room) (length os) 0) given (Done 0) os
       (sampleRateSteps (ifFor (t .ifreq) rate) rate (xtalOf d) (planOf (d .board) (d .frequency) .inverted)) (t .chip)
-      (λ (tr : Trace). both (retuned t (ifFor (t .ifreq) rate) (tr .chip)) (ratedBy d rate (tr .went))) (both t d) room number h
+      (λ (tr : Trace). both (retuned t (ifFor (t .ifreq) rate) (tr .chip)) (ratedBy d rate (xtalOf d) (tr .went))) (both t d) room number h
 
   pub rate-performed : (hz : ℕ) (plan : Plan) (f : Flow) (mid after : List ℕ) (answer : Answer) (next : Tuner) (later : Driver)
       → given ≡ 0 → hz ≡ ifFor (t .ifreq) rate → plan ≡ planOf (d .board) (d .frequency)
       → onRoom f mid ≡ run inRoom os (sampleRateSteps hz rate xtal (plan .inverted)) (line (t .chip) (logged room unseen) 0 Going false)
       → after ≡ sealed mid (f .log .count) → answer ≡ answerOf (Done 0) (f .log .went)
-      → next ≡ retuned t hz (f .chip) → later ≡ ratedBy d rate (f .log .went)
+      → next ≡ retuned t hz (f .chip) → later ≡ ratedBy d rate xtal (f .log .went)
       → called (both next later) after (f .log .count) answer ≡ rateResult rate os t d room
   unfolding rateResult leftBy
   rate-performed hz plan f mid after answer next later z by-if by-plan k q a n l =
       perform-by (refusalWith (sound t && soundDriver d) (rateRefusal rate d) 17 0 (length room) (length os) 0) given (Done 0) os
       (sampleRateSteps (ifFor (t .ifreq) rate) rate (xtalOf d) (planOf (d .board) (d .frequency) .inverted)) (t .chip)
-      (λ (tr : Trace). both (retuned t (ifFor (t .ifreq) rate) (tr .chip)) (ratedBy d rate (tr .went)))
-      (λ (w : Line Logged). both (retuned t (ifFor (t .ifreq) rate) (w .chip)) (ratedBy d rate (w .went)))
+      (λ (tr : Trace). both (retuned t (ifFor (t .ifreq) rate) (tr .chip)) (ratedBy d rate (xtalOf d) (tr .went)))
+      (λ (w : Line Logged). both (retuned t (ifFor (t .ifreq) rate) (w .chip)) (ratedBy d rate (xtalOf d) (w .went)))
       (both t d) (both next later) room f mid after answer number z
       (sample-rate-eight (ifFor (t .ifreq) rate) rate (xtalOf d) (planOf (d .board) (d .frequency) .inverted))
       (k ∙ (λ i. run inRoom os (sampleRateSteps (by-if i) rate (by-driver i) (by-plan i .inverted)) (line (t .chip) (logged room unseen) 0 Going false)))
-      q a (λ i. both ((n ∙ ap (λ (x : ℕ). retuned t x (f .chip)) by-if) i) (l i)) refl
+      q a (λ i. both ((n ∙ ap (λ (x : ℕ). retuned t x (f .chip)) by-if) i) ((l ∙ ap (λ (x : ℕ). ratedBy d rate x (f .log .went)) by-driver) i)) refl
 
 -- Document 02, #103: a rate that the resampler doesn't hold is refused 13 "with record and buffers unchanged", whatever is lent to it
 pub not-held : (rate : ℕ) (os : List ℕ) (t : Tuner) (d : Driver) (room : List ℕ) → (sound t && soundDriver d) ≡ true → rateRefusal rate d ≡ 13

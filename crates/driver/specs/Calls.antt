@@ -18,7 +18,7 @@ use Rattle.chip.specs.Calls.{Called, called}
 use Rattle.chip.specs.Courses.{Course, leftBy}
 use Rattle.chip.specs.Courses.Course.{Still, Taken}
 use Rattle.chip.specs.Steps.{goes}
-use Rattle.registers.specs.Rates.{rateNumber}
+use Rattle.registers.specs.Rates.{rateNumber, trueOf}
 use Rattle.r82xx.specs.declared.Tuner.{Tuner}
 use Rattle.r82xx.specs.Record.{sound, withChip, withIf}
 use Rattle.driver.specs.declared.Driver.{Driver}
@@ -52,16 +52,16 @@ rateRefusal rate d = rateNumber rate (xtalOf d)
 abbrev pub retuned : Tuner → ℕ → Chip → Tuner
 retuned t hz chip = withChip (withIf t hz) chip
 
--- the driver's: "the rate is recorded only when all steps are done"
-abbrev pub ratedBy : Driver → ℕ → Went → Driver
-ratedBy d rate went = cond (goes went) (withRate d rate) d
+-- the driver's: "the rate is recorded only when all steps are done", and with it the true one
+abbrev pub ratedBy : Driver → ℕ → ℕ → Went → Driver
+ratedBy d rate xtal went = cond (goes went) (withRate d rate (trueOf rate xtal)) d
 
 -- the rows of both calls with steps. "sample rate 17, 0"
 abbrev pub rateRow : ℕ → Tuner → Driver → Course Both
 rateRow rate t d =
     Taken (rateRefusal rate d) 17 0 [] (Done 0)
     (sampleRateSteps (ifFor (t .ifreq) rate) rate (xtalOf d) (planOf (d .board) (d .frequency) .inverted))
-    (λ tr. both (retuned t (ifFor (t .ifreq) rate) (tr .chip)) (ratedBy d rate (tr .went)))
+    (λ tr. both (retuned t (ifFor (t .ifreq) rate) (tr .chip)) (ratedBy d rate (xtalOf d) (tr .went)))
 
 -- "board path 10, 3", on R820T too; a number that names no path is a setup: 1
 abbrev pub boardRow : PathRead → List ℕ → Tuner → Course Tuner

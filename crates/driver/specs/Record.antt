@@ -28,23 +28,24 @@ xtalOf d = xtalBy (d .nominal) (d .ppm)
 abbrev pub soundDriver : Driver → Bool
 soundDriver d = leb 1 (xtalOf d)
 
-abbrev pub driver : Board → ℕ → ℤ → ℕ → ℕ → Driver
-driver board nominal ppm frequency rate =
-    record { board = board; nominal = nominal; ppm = ppm; frequency = frequency; rate = rate }
+-- Document 02, #104: "Record both: the rate asked, and the true rate"
+abbrev pub driver : Board → ℕ → ℤ → ℕ → ℕ → ℕ → Driver
+driver board nominal ppm frequency rate actual =
+    record { board = board; nominal = nominal; ppm = ppm; frequency = frequency; rate = rate; actual = actual }
 
 abbrev pub made : Answer → Driver → Made
 made answer d = record { answer = answer; driver = d }
 
 -- "nothing made": the record beside a refusal is always this one
 abbrev pub nothingMade : ℕ → Made
-nothingMade number = made (Refused number) (driver Generic 1 (pos 0) 0 0)
+nothingMade number = made (Refused number) (driver Generic 1 (pos 0) 0 0 0)
 
--- a board by its number (0 generic, 1 V4) that was read: 1, then 4
+-- a board by its number (0 generic, 1 V4) that was read: 1, then 4. "At the record's making the true rate is 0"
 abbrev pub madeOn : BoardRead → ℕ → ℤ → ℕ → ℕ → Made
 madeOn board-read.Refused nominal ppm frequency rate = nothingMade 1
 madeOn (board-read.Is board) nominal ppm frequency rate =
     cond (leb 1 nominal && leb nominal 4_294_967_295)
-    (cond (leb 1 (xtalBy nominal ppm)) (made (Done 0) (driver board nominal ppm frequency rate)) (nothingMade 4))
+    (cond (leb 1 (xtalBy nominal ppm)) (made (Done 0) (driver board nominal ppm frequency rate 0)) (nothingMade 4))
     (nothingMade 1)
 
 unfoldable pub driverOf : ℕ → ℕ → ℤ → ℕ → ℕ → Made
@@ -52,7 +53,7 @@ driverOf board nominal ppm frequency rate = madeOn (boardOf board) nominal ppm f
 
 -- the record with one part changed
 abbrev pub withPpm : Driver → ℤ → Driver
-withPpm d ppm = driver (d .board) (d .nominal) ppm (d .frequency) (d .rate)
+withPpm d ppm = driver (d .board) (d .nominal) ppm (d .frequency) (d .rate) (d .actual)
 
-abbrev pub withRate : Driver → ℕ → Driver
-withRate d rate = driver (d .board) (d .nominal) (d .ppm) (d .frequency) rate
+abbrev pub withRate : Driver → ℕ → ℕ → Driver
+withRate d rate actual = driver (d .board) (d .nominal) (d .ppm) (d .frequency) rate actual

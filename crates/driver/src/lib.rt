@@ -1,6 +1,6 @@
 // The driver's record and its calls: `corrected_xtal_hz`, `set_sample_rate` and `apply_input_path` of src/lib.rs, with our making and ppm call.
 // Document 01, "The record": "The driver's record holds board, nominal .., ppm, frequency and rate, all given at its making"; "`set_sample_rate` takes
-// both records". `sample_rate_steps` and `path_steps` are what a larger call holds: they look at no board.
+// both records". Document 02, #104: the true rate beside the rate asked. `sample_rate_steps` and `path_steps` are what a larger call holds: they look at no board.
 ghost use mathlib.Core.Path.{_≡_};
 ghost use mathlib.Core.List.{[]};
 ghost use Prim.Native.Nat.{_+_, _*_, _≤_, _<_};
@@ -8,6 +8,7 @@ ghost use lib.ListN.{length};
 ghost use Rattle.board.specs.Numbers.{boardOf};
 ghost use Rattle.chip.specs.Calls.{called};
 ghost use Rattle.chip.specs.Steps.{due, inRoom, onRoom, run};
+ghost use Rattle.registers.specs.Rates.{rateNumber};
 ghost use Rattle.driver.specs.Record.{driverOf, nothingMade, xtalBy, xtalOf};
 ghost use Rattle.driver.specs.Programs.{anewSteps, boardPathSteps, filterSteps, ifFor, levelFor, sampleRateSteps, tunerPath};
 ghost use Rattle.driver.specs.Calls.{both, boardResult, driverPpmCall, rateRefusal, rateResult, ratedBy, retuned, xtalAnswer};
@@ -28,7 +29,9 @@ pub struct Driver {
     pub nominal: u32,
     pub ppm: i32,
     pub frequency: u64,
+    // The rate asked, and the one that is had for it: 0 until one is set.
     pub rate: u32,
+    pub actual: u64,
 }
 
 // A record that was asked for: made, or refused, and then nothing of it counts.
@@ -85,6 +88,7 @@ fn nothing(number: u8) -> Made
             ppm: 0,
             frequency: 0,
             rate: 0,
+            actual: 0,
         },
     }
 }
@@ -196,15 +200,17 @@ fn retune(tuner: Tuner, hz: u32, chip: Chip) -> Tuner
     next
 }
 
-// The driver's record behind a rate.
-fn with_rate(d: Driver, rate: u32, went: Went) -> Driver
-    ensures { λ r. ⌜ r ≡ ratedBy d rate went ⌝ }
+// The driver's record behind a rate: the rate asked and the true one.
+fn with_rate(d: Driver, rate: u32, xtal: u32, went: Went) -> Driver
+    requires { ⌜ rateNumber rate xtal ≡ 0 ⌝ }
+    ensures { λ r. ⌜ r ≡ ratedBy d rate xtal went ⌝ }
 {
     let Went::Going = went else {
         return d;
     };
     let mut next = d;
     next.rate = rate;
+    next.actual = registers::true_rate(rate, xtal);
     next
 }
 
@@ -234,6 +240,7 @@ impl Driver {
                 ppm: ppm,
                 frequency: frequency,
                 rate: rate,
+                actual: 0,
             },
         }
     }
@@ -314,7 +321,7 @@ impl Driver {
         let left = f.chip;
         Rated {
             tuner: retune(tuner, hz, left),
-            driver: with_rate(self, rate, went),
+            driver: with_rate(self, rate, xtal, went),
             answer: answered,
             count: f.log.count,
         }

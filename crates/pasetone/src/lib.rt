@@ -26,12 +26,12 @@ use replies::Parts;
 use replies::Reply;
 use replies::TuneReply;
 
-// 2.1.0: the major number times 65,536, the minor times 256, the patch.
+// 3.0.0: the major number times 65,536, the minor times 256, the patch.
 #[no_mangle]
 pub extern "C" fn pasetone_version() -> u32
-    ensures { λ r. ⌜ r ≡ 131328 ⌝ }
+    ensures { λ r. ⌜ r ≡ 196608 ⌝ }
 {
-    0x0002_0100
+    0x0003_0000
 }
 
 // The tuner: src/tuners/r82xx.rs.

@@ -34,12 +34,12 @@ word-fits n h = record { fits = h }
 -- ---- the code
 
 module _ (b : List ℕ) where
-  pub driver-made : (board : Board) (k n m f r : ℕ) (z : ℤ) → k ≡ leValue (take 1 b) → board ≡ boardFrom k → n ≡ leValue (take 4 (drop 1 b))
+  pub driver-made : (board : Board) (k n m f r a : ℕ) (z : ℤ) → k ≡ leValue (take 1 b) → board ≡ boardFrom k → n ≡ leValue (take 4 (drop 1 b))
       → m ≡ leValue (take 4 (drop 5 b)) → m < 4_294_967_296 → z ≡ toZ w32 m → f ≡ leValue (take 8 (drop 9 b)) → r ≡ leValue (take 4 (drop 17 b))
-      → driver board n (toZ w32 (ofZ w32 z)) f r ≡ driverFrom (partsFrom 0 driverWidths b)
-  driver-made board k n m f r z ek eb en em h ez ef er =
+      → a ≡ leValue (take 8 (drop 21 b)) → driver board n (toZ w32 (ofZ w32 z)) f r a ≡ driverFrom (partsFrom 0 driverWidths b)
+  driver-made board k n m f r a z ek eb en em h ez ef er ea =
       let same : toZ w32 (ofZ w32 z) ≡ toZ w32 m = ap (λ (y : ℤ). toZ w32 (ofZ w32 y)) ez ∙ ap (toZ w32) (ofZ-toZ (word-fits m h)) in
-      rw (same, eb, ek, en, em, ef, er)
+      rw (same, eb, ek, en, em, ef, er, ea)
 
   pub driver-tested : (k x : ℕ) (d : Driver) → k ≡ leValue (take 1 b) → d ≡ driverFrom (partsFrom 0 driverWidths b) → SFits w32 (d .ppm)
       → x ≡ xtalBy (d .nominal) (toZ w32 (ofZ w32 (d .ppm))) → leb k 1 && leb 1 x ≡ driverFits (partsFrom 0 driverWidths b)
@@ -47,32 +47,32 @@ module _ (b : List ℕ) where
   driver-tested k x d ek ed s ex =
       ap₂ _&&_ (ap (λ (n : ℕ). leb n 1) ek) (ap (leb 1) (ex ∙ ap (xtalBy (d .nominal)) (toZ-ofZ s) ∙ ap xtalOf ed))
 
-  pub driver-short : (length b ≡ 21 → ⊥) → driverRead false (driver Generic 1 (pos 0) 0 0) ≡ driverOf b
+  pub driver-short : (length b ≡ 29 → ⊥) → driverRead false (driver Generic 1 (pos 0) 0 0 0) ≡ driverOf b
   unfolding driverOf isDriver
-  driver-short h = rw (ne-eqb (length b) 21 h)
+  driver-short h = rw (ne-eqb (length b) 29 h)
 
-  pub driver-bad : (f : Bool) → length b ≡ 21 → f ≡ driverFits (partsFrom 0 driverWidths b) → f ≡ false
-      → driverRead false (driver Generic 1 (pos 0) 0 0) ≡ driverOf b
+  pub driver-bad : (f : Bool) → length b ≡ 29 → f ≡ driverFits (partsFrom 0 driverWidths b) → f ≡ false
+      → driverRead false (driver Generic 1 (pos 0) 0 0 0) ≡ driverOf b
   unfolding driverOf isDriver
-  driver-bad f h e never = rw (eq-eqb (length b) 21 h, ← e, never)
+  driver-bad f h e never = rw (eq-eqb (length b) 29 h, ← e, never)
 
-  pub driver-good : (f : Bool) (d : Driver) → length b ≡ 21 → f ≡ driverFits (partsFrom 0 driverWidths b) → f ≡ true
+  pub driver-good : (f : Bool) (d : Driver) → length b ≡ 29 → f ≡ driverFits (partsFrom 0 driverWidths b) → f ≡ true
       → d ≡ driverFrom (partsFrom 0 driverWidths b) → driverRead true d ≡ driverOf b
   unfolding driverOf isDriver
-  driver-good f d h e fine same = rw (same, eq-eqb (length b) 21 h, ← e, fine)
+  driver-good f d h e fine same = rw (same, eq-eqb (length b) 29 h, ← e, fine)
 
 sized : (d : Driver) → Sized driverWidths (driverParts d)
 sized d = (
   length-leBytes 1 (boardNumber (d .board)),
-  (length-leBytes 4 (d .nominal), (length-leBytes 4 (ofZ w32 (d .ppm)), (length-leBytes 8 (d .frequency), (length-leBytes 4 (d .rate), tt)))),
+  (length-leBytes 4 (d .nominal), (length-leBytes 4 (ofZ w32 (d .ppm)), (length-leBytes 8 (d .frequency), (length-leBytes 4 (d .rate), (length-leBytes 8 (d .actual), tt))))),
 )
 
-long : (d : Driver) → length (driverBytes d) ≡ 21
+long : (d : Driver) → length (driverBytes d) ≡ 29
 unfolding driverBytes
 long d = length-joined driverWidths (driverParts d) (sized d)
 
--- the parts stored one after the other over 21 bytes
-pub driver-image-whole : (d : Driver) (l : List ℕ) → length l ≡ 21 → laid l 0 driverWidths (driverParts d) ≡ driverBytes d
+-- the parts stored one after the other over 29 bytes
+pub driver-image-whole : (d : Driver) (l : List ℕ) → length l ≡ 29 → laid l 0 driverWidths (driverParts d) ≡ driverBytes d
 unfolding driverBytes
 driver-image-whole d l e =
     laid-joined l 0 driverWidths (driverParts d) (sized d) ∙ sets-whole l (driverBytes d) (long d ∙ sym e)
@@ -100,6 +100,7 @@ pub record RangedDriver (d : Driver) : Type 0 where
   pub ppm : SFits w32 (d .ppm)
   pub frequency : d .frequency < 18_446_744_073_709_551_616
   pub rate : d .rate < 4_294_967_296
+  pub actual : d .actual < 18_446_744_073_709_551_616
   pub right : 1 ≤ xtalOf d
 
 module _ (d : Driver) (h : RangedDriver d) where
@@ -113,7 +114,7 @@ module _ (d : Driver) (h : RangedDriver d) where
   fields-read : driverFrom (driverParts d) ≡ d
   fields-read i =
       driver (board-read (d .board) i) (value-bytes 4 (d .nominal) (h .nominal) i) (ppm-read i) (value-bytes 8 (d .frequency) (h .frequency) i)
-      (value-bytes 4 (d .rate) (h .rate) i)
+      (value-bytes 4 (d .rate) (h .rate) i) (value-bytes 8 (d .actual) (h .actual) i)
 
   parts-fit : driverFits (driverParts d) ≡ true
   unfolding driverFits
@@ -121,7 +122,7 @@ module _ (d : Driver) (h : RangedDriver d) where
 
   accepted : isDriver (driverBytes d) ≡ true
   unfolding isDriver
-  accepted = rw (eq-eqb (length (driverBytes d)) 21 (long d)) (ap driverFits parted ∙ parts-fit)
+  accepted = rw (eq-eqb (length (driverBytes d)) 29 (long d)) (ap driverFits parted ∙ parts-fit)
 
   -- what was written is read
   pub driver-read : driverOf (driverBytes d) ≡ driverRead true d
@@ -129,19 +130,19 @@ module _ (d : Driver) (h : RangedDriver d) where
   driver-read = rw accepted (ap (driverRead true) (ap driverFrom parted ∙ fields-read))
 
 module _ (b : List ℕ) (bytes : Bytes b) (good : isDriver b ≡ true) where
-  size : length b ≡ 21
+  size : length b ≡ 29
   unfolding isDriver
-  size = eqb-true (length b) 21 (both (eqb (length b) 21) (driverFits (partsFrom 0 driverWidths b)) good .0)
+  size = eqb-true (length b) 29 (both (eqb (length b) 29) (driverFits (partsFrom 0 driverWidths b)) good .0)
 
   tests : (leValue (take 1 b) ≤ 1) × (1 ≤ xtalOf (driverFrom (partsFrom 0 driverWidths b)))
   unfolding isDriver driverFits
   tests =
       let k = leb (leValue (take 1 b)) 1 in
       let x = soundDriver (driverFrom (partsFrom 0 driverWidths b)) in
-      let p = both k x (both (eqb (length b) 21) (k && x) good .1) in
+      let p = both k x (both (eqb (length b) 29) (k && x) good .1) in
       (leb-true (leValue (take 1 b)) 1 (p .0), leb-true 1 (xtalOf (driverFrom (partsFrom 0 driverWidths b))) (p .1))
 
-  number : (k at : ℕ) → at + k ≤ 21 → leBytes k (leValue (take k (drop at b))) ≡ take k (drop at b)
+  number : (k at : ℕ) → at + k ≤ 29 → leBytes k (leValue (take k (drop at b))) ≡ take k (drop at b)
   number k at h = one-number k at b bytes (omega (arith, size))
 
   word : leValue (take 4 (drop 5 b)) < 4_294_967_296
@@ -149,7 +150,7 @@ module _ (b : List ℕ) (bytes : Bytes b) (good : isDriver b ≡ true) where
 
   parts-written : driverParts (driverFrom (partsFrom 0 driverWidths b)) ≡ partsFrom 0 driverWidths b
   parts-written =
-      rw (board-written (leValue (take 1 b)) (tests .0), number 1 0 (omega arith), number 4 1 (omega arith), ofZ-toZ (word-fits (leValue (take 4 (drop 5 b))) word), number 4 5 (omega arith), number 8 9 (omega arith), number 4 17 (omega arith))
+      rw (board-written (leValue (take 1 b)) (tests .0), number 1 0 (omega arith), number 4 1 (omega arith), ofZ-toZ (word-fits (leValue (take 4 (drop 5 b))) word), number 4 5 (omega arith), number 8 9 (omega arith), number 4 17 (omega arith), number 8 21 (omega arith))
 
   taken : driverOf b ≡ driverRead true (driverFrom (partsFrom 0 driverWidths b))
   unfolding driverOf
@@ -162,6 +163,7 @@ module _ (b : List ℕ) (bytes : Bytes b) (good : isDriver b ≡ true) where
         ppm = sfits-toZ (word-fits (leValue (take 4 (drop 5 b))) word);
         frequency = one-below 8 9 b bytes (omega (arith, size));
         rate = one-below 4 17 b bytes (omega (arith, size));
+        actual = one-below 8 21 b bytes (omega (arith, size));
         right = tests .1;
       }
 
@@ -170,4 +172,4 @@ module _ (b : List ℕ) (bytes : Bytes b) (good : isDriver b ≡ true) where
   unfolding driverBytes
   driver-written =
       rw taken
-      (refl, ap joined parts-written ∙ joined-parts b 0 driverWidths ∙ take-all 21 b (omega (arith, size)), in-ranges)
+      (refl, ap joined parts-written ∙ joined-parts b 0 driverWidths ∙ take-all 29 b (omega (arith, size)), in-ranges)

@@ -50,7 +50,9 @@ const FREQUENCY: usize = 9;
 
 const RATE: usize = 17;
 
-pub const DRIVER: usize = 21;
+const ACTUAL: usize = 21;
+
+pub const DRIVER: usize = 29;
 
 // A record that bytes were read as. Where they are no record's, `tuner` is a fresh one and counts for nothing.
 pub struct TunerRead {
@@ -255,7 +257,7 @@ fn board_from(n: u64) -> Board
 }
 
 fn driver_in(b: &[u8]) -> Driver
-    requires { ⌜ length (now b) ≡ 21 ⌝ }
+    requires { ⌜ length (now b) ≡ 29 ⌝ }
     ensures { λ r. ⌜ r ≡ driverFrom (partsFrom 0 driverWidths (now (b .entry))) ⌝ }
 {
     Driver {
@@ -264,6 +266,7 @@ fn driver_in(b: &[u8]) -> Driver
         ppm: wire::to_signed(wire::get(b, PPM, 4) as u32),
         frequency: wire::get(b, FREQUENCY, 8),
         rate: wire::get(b, RATE, 4) as u32,
+        actual: wire::get(b, ACTUAL, 8),
     }
 }
 
@@ -277,6 +280,7 @@ pub fn decode_driver(b: &[u8]) -> DriverRead
         ppm: 0,
         frequency: 0,
         rate: 0,
+        actual: 0,
     };
     let refused = DriverRead {
         ok: false,
@@ -295,23 +299,24 @@ pub fn decode_driver(b: &[u8]) -> DriverRead
     }
 }
 
-fn field(image: &mut [u8; 21], at: usize, n: u64, k: usize)
-    requires { ⌜ at + k ≤ 21 ⌝ }
+fn field(image: &mut [u8; 29], at: usize, n: u64, k: usize)
+    requires { ⌜ at + k ≤ 29 ⌝ }
     ensures { λ _. ⌜ now (image .exit) ≡ sets (now (image .entry)) at (leBytes k n) ⌝ }
 {
     wire::put(image, at, n, k);
 }
 
-// The record's 21 bytes.
-pub fn driver_image(d: Driver) -> [u8; 21]
+// The record's 29 bytes.
+pub fn driver_image(d: Driver) -> [u8; 29]
     ensures { λ r. ⌜ r ≡ driverBytes d ⌝ }
 {
     let board = d.board;
-    let mut image = [0u8; 21];
+    let mut image = [0u8; 29];
     field(&mut image, 0, board::board_number(board) as u64, 1);
     field(&mut image, REFERENCE, d.nominal as u64, 4);
     field(&mut image, PPM, wire::to_bits(d.ppm) as u64, 4);
     field(&mut image, FREQUENCY, d.frequency, 8);
     field(&mut image, RATE, d.rate as u64, 4);
+    field(&mut image, ACTUAL, d.actual, 8);
     image
 }

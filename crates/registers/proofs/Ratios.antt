@@ -1,15 +1,15 @@
 -- Which ratios the resampler's register holds, and that then the ratio is sent, without its two low bits; which rates are taken with a reference of
--- 28,800,000 Hz. Document 02, #103. Assumes nothing.
+-- 28,800,000 Hz; the true rate is at least the rate asked. Document 02, #103 and #104. Assumes nothing.
 use mathlib.Core.Path.{_≡_, refl, sym, ap, _∙_}
 use mathlib.Core.Bool.{Bool, true, false, _&&_, _||_, cond, false≢true}
 use Prim.Native.Nat.{ℕ, zero, suc, _+_, _*_, _/_, _%_, _^_, _<_, _≤_}
 use native.Mathlib.Omega.{arith}
-use native.Mathlib.Nat.{div-lt-iff-lt-mul, le-div-iff-mul-le}
+use native.Mathlib.Nat.{div-lt-iff-lt-mul, le-div-iff-mul-le, le-trans, mul-div-le, mul-le-mul-left}
 use borrow.Author.Tests.{eq-eqb, eqb-false, eqb-true, le-leb, le-ltb, leb-false, leb-true, lt-leb, lt-ltb, ltb-true, ne-eqb}
 use lib.Dec.{eqb, leb, ltb}
 use mathlib.Core.List.{[], _∷_}
 use Rattle.registers.specs.declared.ResampleRegs.{ResampleRegs}
-use Rattle.registers.specs.Rates.{fourOf, holds, ratioOf, rateNumber, resampleRegsOf, sentOf, zeroNumber}
+use Rattle.registers.specs.Rates.{fourOf, holds, ratioOf, rateNumber, resampleRegsOf, sentOf, trueOf, zeroNumber}
 use Rattle.registers.proofs.Values.{sent-fits, sent-is}
 
 -- ---- the numbers of zeros
@@ -126,6 +126,30 @@ taken rate xtal e =
 
 pub sent-taken : (rate xtal : ℕ) → rateNumber rate xtal ≡ 0 → sentOf (ratioOf rate xtal) ≡ ratioOf rate xtal / 4 * 4
 sent-taken rate xtal e = sent-held (ratioOf rate xtal) (taken rate xtal e .ratio)
+
+-- ---- the true rate
+
+-- something is sent of a ratio that is held
+pub sent-some : (rate xtal : ℕ) → rateNumber rate xtal ≡ 0 → 0 < sentOf (ratioOf rate xtal)
+sent-some rate xtal e =
+    let least : 4 ≤ ratioOf rate xtal = held (ratioOf rate xtal) (taken rate xtal e .ratio) .least in
+    let is : sentOf (ratioOf rate xtal) ≡ ratioOf rate xtal / 4 * 4 = sent-taken rate xtal e in
+    above-none (sentOf (ratioOf rate xtal)) (ratioOf rate xtal) is least
+  where
+    above-none : (s r : ℕ) → s ≡ r / 4 * 4 → 4 ≤ r → 0 < s
+    above-none s r e h = omega (arith, e, h)
+
+-- "The true rate must be shown to be at least the rate asked wherever #103 accepts"
+pub true-least : (rate xtal : ℕ) → rateNumber rate xtal ≡ 0 → rate ≤ trueOf rate xtal
+unfolding trueOf
+true-least rate xtal e =
+    let is : sentOf (ratioOf rate xtal) ≡ ratioOf rate xtal / 4 * 4 = sent-taken rate xtal e in
+    let below : sentOf (ratioOf rate xtal) ≤ ratioOf rate xtal = no-more (sentOf (ratioOf rate xtal)) (ratioOf rate xtal) is in
+    le-div-iff-mul-le (sent-some rate xtal e) .1
+    (le-trans (mul-le-mul-left rate below) (mul-div-le (xtal * 2 ^ 22) rate))
+  where
+    no-more : (s r : ℕ) → s ≡ r / 4 * 4 → s ≤ r
+    no-more s r e = omega (arith, e)
 
 -- the ratios that are held, as two ranges
 pub held-low : (r : ℕ) → 4 ≤ r → r < 2 ^ 27 → holds r ≡ true

@@ -3,7 +3,7 @@
 -- "Rate: r = xtal·2^22 / rate, kept to 32 bits, and 0x0ffffffc, then bit 27 copied into bit 28".
 -- "Refusal numbers": "`if_freq_regs` and its demod sister refuse 4 for reference zero; so do both resampler calls, after rate";
 -- "A refused call's value is 0".
--- Document 02, #103: which rates the resampler holds, and the numbers of those that are refused.
+-- Document 02, #103: which rates the resampler holds, and the numbers of those that are refused; #104: the rate that is had.
 use Prim.Native.Nat.{ℕ, _+_, _-_, _*_, _/_, _%_, _^_}
 use mathlib.Core.Bool.{Bool, _&&_, cond}
 use mathlib.Core.List.{List, [], _∷_}
@@ -50,6 +50,10 @@ zeroNumber rate xtal later = cond (eqb rate 0) 3 (xtalNumber xtal later)
 -- why a rate is not sent, 0 where it is: "new 13 ratio, after 3 and after 4 for a zero reference"
 unfoldable pub rateNumber : ℕ → ℕ → ℕ
 rateNumber rate xtal = zeroNumber rate xtal (cond (holds (ratioOf rate xtal)) 0 13)
+
+-- Document 02, #104: "the true rate, xtal·2^22 divided by the ratio as sent after masking and the copied bit, cut to a whole u64"
+unfoldable pub trueOf : ℕ → ℕ → ℕ
+trueOf rate xtal = xtal * 2 ^ 22 / sentOf (ratioOf rate xtal)
 
 -- 22 bits in three registers: six bits and two bytes, high first
 abbrev pub threeOf : ℕ → List ℕ

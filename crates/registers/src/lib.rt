@@ -1,7 +1,7 @@
 // Register addresses, block numbers, and the demodulator's values for an intermediate frequency and a sample rate,
 // from src/registers.rs and the arithmetic of `set_if_freq_xtal` and `set_sample_rate_xtal` of src/demod.rs.
 // Document 01, "Modules, leaves first" ("constants, `if_freq_regs`, `resample_regs`"), "Demodulator", and "Refusal numbers" for 3 and 4;
-// document 02, #103, for 13.
+// document 02, #103, for 13, and #104 for the true rate.
 // The constants are all of the Rust's, under its names; some no call uses.
 ghost use mathlib.Core.Path.{_≡_};
 ghost use Prim.Native.Nat.{_<_};
@@ -13,6 +13,7 @@ ghost use Rattle.registers.specs.Rates.{
   holds,
   zeroNumber,
   rateNumber,
+  trueOf,
   ifRegsOf,
   resampleRegsOf,
 };
@@ -180,6 +181,16 @@ pub fn rate_number(rate: u32, xtal: u32) -> u8
         return 0;
     }
     13
+}
+
+// The rate that is had for one that is asked: the ratio is sent without its two low bits.
+pub fn true_rate(rate: u32, xtal: u32) -> u64
+    requires { ⌜ rateNumber rate xtal ≡ 0 ⌝ }
+    ensures { λ r. ⌜ r ≡ trueOf rate xtal ⌝ }
+{
+    let full = ratio(rate, xtal);
+    let kept = sent(full) as u64;
+    (xtal as u64) * 4_194_304 / kept
 }
 
 // A refusal number, 0 for none, and the register bytes, zeros where it is refused.

@@ -25,7 +25,7 @@ pub size-6 : (c : List ℕ) (k v : ℕ) → k ≡ 6 → v ≡ flagged c 2 105 �
 unfolding sizeAt
 size-6 c k v h f = f ∙ ap (sizeAt c) (sym h)
 
-pub size-7 : (c : List ℕ) (k v : ℕ) → k ≡ 7 → v ≡ flagged c 4 21 → v ≡ sizeAt c k
+pub size-7 : (c : List ℕ) (k v : ℕ) → k ≡ 7 → v ≡ flagged c 4 29 → v ≡ sizeAt c k
 unfolding sizeAt
 size-7 c k v h f = f ∙ ap (sizeAt c) (sym h)
 

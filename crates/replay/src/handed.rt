@@ -45,11 +45,11 @@ pub fn next_tuner(told: compare::Answer, tuner: Tuner) -> [u8; 105] {
     [0xa5u8; 105]
 }
 
-pub fn next_driver(told: compare::Answer, driver: Driver) -> [u8; 21] {
+pub fn next_driver(told: compare::Answer, driver: Driver) -> [u8; 29] {
     if hands(told) {
         return records::driver_image(driver);
     }
-    [0xa5u8; 21]
+    [0xa5u8; 29]
 }
 
 // The room of a case: the array's length is in its type, so that its part needs no fact about what a call wrote there.

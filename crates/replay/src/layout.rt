@@ -108,7 +108,7 @@ fn size(c: &[u8], k: usize) -> usize
         return flag(c, 2, 105);
     }
     if k == NEXT_DRIVER {
-        return flag(c, 4, 21);
+        return flag(c, 4, 29);
     }
     if k == ANSWERED {
         return two(c, 64);

@@ -118,7 +118,7 @@ pub tune-reached : length (entries (lent (Tuned (Tune 100_000_000 (replicate 35 
 unfolding trace run step lentOf inVco firstOf settingOf turnOf turnsOf planWith pllOf innerSteps repairUpdates triesFrom reversed
 tune-reached = refl
 
-pub rate-reached : length (entries (lent (SampleRate 2_048_000 (driver Generic 28_800_000 (pos 0) 0 0))) fresh) ≡ most (SampleRate 2_048_000 (driver Generic 28_800_000 (pos 0) 0 0)) fresh
+pub rate-reached : length (entries (lent (SampleRate 2_048_000 (driver Generic 28_800_000 (pos 0) 0 0 0))) fresh) ≡ most (SampleRate 2_048_000 (driver Generic 28_800_000 (pos 0) 0 0 0)) fresh
 unfolding trace run step lentOf accessStep xtalBy correctedOf holds rateNumber resetSteps rateSteps ifSteps ddcSteps
 rate-reached = refl
 

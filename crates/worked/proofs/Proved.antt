@@ -12,7 +12,7 @@ use Rattle.pll.specs.Setting.{settingOf}
 use Rattle.pll.specs.Fraction.{turnOf, turnsOf}
 use Rattle.pll.specs.Plan.{planWith, planOf}
 use Rattle.reference.specs.Correct.{correctedOf}
-use Rattle.registers.specs.Rates.{holds, ifRegsOf, rateNumber, sentOf}
+use Rattle.registers.specs.Rates.{holds, ifRegsOf, rateNumber, sentOf, trueOf}
 use Rattle.worked.specs.Numbers.{wholeIn, Worked}
 
 too-small : (kind : Kind) → planOf kind 885_000_000 100_000_000 ≡ Refused
@@ -31,7 +31,7 @@ below-least R820T = refl
 below-least R828D = refl
 
 pub worked : Worked
-unfolding inVco firstOf settingOf turnOf turnsOf planWith planOf correctedOf ifRegsOf sentOf holds rateNumber
+unfolding inVco firstOf settingOf turnOf turnsOf planWith planOf correctedOf ifRegsOf sentOf holds rateNumber trueOf
 worked =
     record {
       lowest = refl;
@@ -65,6 +65,10 @@ worked =
       first-between = refl;
       last-between = refl;
       first-wide = refl;
+      true-wide = refl;
+      last-true = refl;
+      first-other = refl;
+      true-most = refl;
       shifted = last-below;
       stays = first-above;
       notch-first = refl;

@@ -20,7 +20,7 @@ use Rattle.pll.specs.Plan.{wholeOf, planOf}
 use Rattle.pll.specs.Setting.{settingOf}
 use Rattle.reference.specs.declared.Corrected.the-variants as reference
 use Rattle.reference.specs.Correct.{correctedOf}
-use Rattle.registers.specs.Rates.{ifValueOf, ifRegsOf, ratioOf, rateNumber, sentOf, threeOf}
+use Rattle.registers.specs.Rates.{ifValueOf, ifRegsOf, ratioOf, rateNumber, sentOf, threeOf, trueOf}
 
 -- the divider and N of a plan; of a refusal 0, which no line below names
 abbrev pub dividerIn : Pll → ℕ
@@ -81,6 +81,11 @@ pub record Worked : Type 0 where
   pub first-between : rateNumber 300_001 28_800_000 ≡ 13
   pub last-between : rateNumber 900_000 28_800_000 ≡ 13
   pub first-wide : rateNumber 900_001 28_800_000 ≡ 0
+  -- Document 02, #104: the true rates of that line's first, of the first rate whose true one is another and of the one before it, and of the last u32, past 32 bits
+  pub true-wide : trueOf 2_048_000 28_800_000 ≡ 2_048_000
+  pub last-true : trueOf 5_497_288 28_800_000 ≡ 5_497_288
+  pub first-other : trueOf 5_497_289 28_800_000 ≡ 5_497_290
+  pub true-most : trueOf 4_294_967_295 28_800_000 ≡ 4_295_120_011
   -- V4: 28,799,999 goes to 57,599,999 inverted; 28,800,000 stays
   pub shifted : board.planOf V4 28_799_999 ≡ record { hz = 57_599_999; inverted = true; path = By Hf; notch = false }
   pub stays : board.planOf V4 28_800_000 ≡ record { hz = 28_800_000; inverted = false; path = By Vhf; notch = false }

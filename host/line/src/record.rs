@@ -1,5 +1,5 @@
 //! A kept record: the bytes of the tuner's record, then those of the driver's, and nothing else. Both sizes are the library's.
-use pasetone::{Driver, Tuner};
+use pasetone::{Driver, Error, Tuner};
 
 pub const SIZE: usize = Tuner::SIZE + Driver::SIZE;
 
@@ -15,6 +15,13 @@ pub fn read(bytes: &[u8]) -> Result<(Tuner, Driver), String> {
     let (tuner, driver) = bytes.split_at(Tuner::SIZE);
     let none = |whose: &str| format!("its bytes for the {whose} are no record (refusal 1): give a file that --keep has written");
     Ok((Tuner::from_bytes(tuner).map_err(|_| none("tuner"))?, Driver::from_bytes(driver).map_err(|_| none("driver"))?))
+}
+
+/// The driver's record for another frequency, which stands in its bytes 9 to 16; its rates stay.
+pub fn at(driver: &Driver, hz: u64) -> Result<Driver, Error> {
+    let mut bytes = *driver.as_bytes();
+    bytes[9..17].copy_from_slice(&hz.to_le_bytes());
+    Driver::from_bytes(&bytes)
 }
 
 pub fn write(tuner: &Tuner, driver: &Driver) -> Vec<u8> {

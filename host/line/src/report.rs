@@ -78,8 +78,8 @@ impl Report {
         let corrected = self.corrected().map_or_else(String::new, |hz| format!(", corrected {hz} Hz"));
         let place = format!("{} at 0x{:02x} on a {} board", kind(head.kind), head.address, board(head.board));
         let rate = match (self.asked.rate, head.kept) {
-            (None, Some((rate, _))) => format!("rate {rate} as kept"),
-            (rate, _) => format!("rate {}", rate.unwrap_or(0)),
+            (None, Some((rate, _))) => format!("rate {rate} as kept{}", self.true_rate(rate)),
+            (rate, _) => format!("rate {}{}", rate.unwrap_or(0), self.true_rate(rate.unwrap_or(0))),
         };
         let gain = match (self.asked.gain, head.kept) {
             (None, Some((_, gain))) => format!("gain {gain:.1} dB as kept"),
@@ -95,6 +95,13 @@ impl Report {
             format!("{rate}, {gain}"),
             format!("{} Hz: the tuner goes to {} Hz, {path}, {notch}{inverted}", self.asked.hz, plan.hz),
         ]
+    }
+
+    /// The true rate beside a rate, where the record has it.
+    fn true_rate(&self, rate: u32) -> String {
+        let driver = self.run.records.as_ref().map(|(_, driver)| driver);
+        let set = driver.filter(|driver| driver.rate() == rate && driver.true_rate() != 0);
+        set.map_or_else(String::new, |driver| format!(" (true rate {})", driver.true_rate()))
     }
 
     /// The tuner's corrected reference, where a correction was taken now or before.
@@ -134,6 +141,8 @@ impl Report {
             ("answer", self.told.json(&self.run)),
             ("steps", self.run.steps.to_string()),
             ("unreached", json::maybe(self.unreached)),
+            ("rate", json::maybe(records.map(|(_, driver)| driver.rate()))),
+            ("true_rate", json::maybe(records.map(|(_, driver)| driver.true_rate()))),
             ("tries", json::maybe(self.run.lock().map(|lock| lock.tries))),
             ("locked", json::maybe(self.run.lock().map(|lock| lock.locked))),
             ("registers", records.map_or_else(|| String::from("[]"), |(tuner, _)| registers(tuner))),

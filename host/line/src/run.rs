@@ -1,4 +1,5 @@
 //! The calls of a run, one after the other over the same records. Each is made only while none before it was refused or stopped.
+use crate::record;
 use pasetone::{Answer, Board, Driver, Error, InputPath, Lock, Need, Plan, Script, Transcript, Tuner, TunerKind};
 
 /// The calls by the names that are printed.
@@ -106,7 +107,7 @@ impl Run {
             Start::Fresh { kind, address, board, reference } => {
                 (Tuner::new(kind, address, reference), Driver::new(board, reference, 0, hz, 0))
             }
-            Start::Kept { tuner, driver } => (Ok(tuner), Driver::new(driver.board(), driver.nominal(), driver.ppm(), hz, driver.rate())),
+            Start::Kept { tuner, driver } => (Ok(tuner), record::at(&driver, hz)),
         };
         let tuner = self.fresh(Call::FreshTuner, tuner)?;
         Some((tuner, self.fresh(Call::FreshDriver, driver)?))

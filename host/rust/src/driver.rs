@@ -39,7 +39,7 @@ impl Board {
     }
 }
 
-/// What is known of a receiver beside its tuner: board, reference, correction, frequency and rate.
+/// What is known of a receiver beside its tuner: board, reference, correction, frequency, and its rate as asked and as it truly is.
 #[derive(Clone, PartialEq, Eq, Hash)]
 pub struct Driver {
     record: [u8; Driver::SIZE],
@@ -47,9 +47,9 @@ pub struct Driver {
 
 impl Driver {
     /// The record's bytes.
-    pub const SIZE: usize = 21;
+    pub const SIZE: usize = 29;
 
-    /// A driver: its board, its reference in Hz, the correction in parts per million, and the frequency and rate to start from (0 is taken).
+    /// A driver: its board, its reference in Hz, the correction in parts per million, and the frequency and rate to start from (0 is taken). Its true rate is 0.
     ///
     /// # Errors
     ///
@@ -101,7 +101,7 @@ impl Driver {
     }
 
     /// The sample rate, on tuner and demodulator: 17 outcomes. Updates both records whenever it took steps: the tuner's IF changes before the
-    /// first, the driver's rate when all are done. An IF of 0 stays 0. The spectrum follows the board's plan for the driver's frequency.
+    /// first, the driver's rate and true rate when all are done. An IF of 0 stays 0. The spectrum follows the board's plan for the driver's frequency.
     ///
     /// # Errors
     ///
@@ -143,13 +143,22 @@ impl Driver {
 
     /// The frequency given at its making, in Hz.
     pub fn frequency(&self) -> u64 {
-        let b = &self.record[9..17];
-        u64::from_le_bytes([b[0], b[1], b[2], b[3], b[4], b[5], b[6], b[7]])
+        self.wide(9)
     }
 
-    /// The rate last set in full, in samples per second.
+    /// The rate last set in full, in samples per second, as it was asked for.
     pub fn rate(&self) -> u32 {
         self.number(17)
+    }
+
+    /// The rate that samples come at, cut to a whole number: at least [`Driver::rate`], since the resampler drops the two low bits of its ratio. 0 until a
+    /// rate is set in full; a later correction leaves it as it was.
+    pub fn true_rate(&self) -> u64 {
+        self.wide(21)
+    }
+
+    fn wide(&self, at: usize) -> u64 {
+        u64::from(self.number(at)) | u64::from(self.number(at + 4)) << 32
     }
 
     fn number(&self, at: usize) -> u32 {
@@ -175,6 +184,7 @@ impl fmt::Debug for Driver {
             .field("ppm", &self.ppm())
             .field("frequency", &self.frequency())
             .field("rate", &self.rate())
+            .field("true_rate", &self.true_rate())
             .finish()
     }
 }

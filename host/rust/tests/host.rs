@@ -142,7 +142,10 @@ fn driver_tells_its_fields() {
     assert_eq!(driver.ppm(), -1);
     driver.set_ppm(-999_999).unwrap();
     assert_eq!((driver.ppm(), driver.nominal(), driver.corrected_xtal_hz()), (-999_999, 4_294_967_295, 4_295));
-    assert_eq!(format!("{driver:?}"), "Driver { board: V4, nominal: 4294967295, ppm: -999999, frequency: 7100000, rate: 2048000 }");
+    assert_eq!(
+        format!("{driver:?}"),
+        "Driver { board: V4, nominal: 4294967295, ppm: -999999, frequency: 7100000, rate: 2048000, true_rate: 0 }"
+    );
 }
 
 #[test]

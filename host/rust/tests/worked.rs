@@ -186,7 +186,7 @@ fn driver() {
     let mut tuner = r828d();
     let mut driver = Driver::new(Board::V4, 28_800_000, 0, 102_300_000, 2_048_000).unwrap();
     assert_eq!(driver.set_sample_rate(&mut tuner, 3_200_000, &done()).transcript.len(), 17);
-    assert_eq!((tuner.if_freq(), driver.rate()), (3_570_000, 3_200_000));
+    assert_eq!((tuner.if_freq(), driver.rate(), driver.true_rate()), (3_570_000, 3_200_000, 3_200_000));
     let answer = driver.set_sample_rate(&mut tuner, 2_048_000, &done().failing(0).unwrap());
     assert_eq!(answer.result, Err(Error::Step { index: 0 }));
     assert_eq!((tuner.if_freq(), driver.rate()), (2_300_000, 3_200_000));
@@ -194,6 +194,12 @@ fn driver() {
     let before = (tuner.clone(), driver.clone());
     assert_eq!(driver.set_sample_rate(&mut tuner, 900_000, &done()).result, Err(Error::Ratio));
     assert_eq!((tuner.as_bytes(), driver.as_bytes()), (before.0.as_bytes(), before.1.as_bytes()));
+    for (rate, actual) in [(5_497_288, 5_497_288), (5_497_289, 5_497_290), (u32::MAX, 4_295_120_011)] {
+        driver.set_sample_rate(&mut tuner, rate, &done()).result.unwrap();
+        assert_eq!((driver.rate(), driver.true_rate()), (rate, actual));
+    }
+    driver.set_sample_rate(&mut tuner, 2_048_000, &done().failing(16).unwrap()).result.unwrap_err();
+    assert_eq!((driver.rate(), driver.true_rate()), (u32::MAX, 4_295_120_011));
     driver.set_ppm(-1).unwrap();
     assert_eq!(driver.corrected_xtal_hz(), 28_799_972);
     assert_eq!(driver.set_ppm(-1_000_000), Err(Error::Correction));
@@ -279,5 +285,5 @@ fn errors_have_numbers_and_words() {
     assert_eq!((Error::Coefficient.number(), Error::Coefficient.word()), (7, "coefficient"));
     assert_eq!((Error::Ratio.number(), Error::Ratio.word()), (13, "ratio"));
     assert_eq!(Transcript::read(&[]).map(|_| ()).unwrap_err().number(), 12);
-    assert_eq!(pasetone::version(), (2, 1, 0));
+    assert_eq!(pasetone::version(), (3, 0, 0));
 }

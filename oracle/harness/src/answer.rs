@@ -26,7 +26,7 @@ struct Given {
 impl Given {
     fn read(case: &Case) -> Option<Self> {
         let tuner = if takes_tuner(case.call) { Tuner::read(&case.tuner)? } else { Tuner::fresh(1, 28_800_000, 0x74) };
-        let none = Driver { board: 0, nominal: 28_800_000, ppm: 0, frequency: 0, rate: 0 };
+        let none = Driver { board: 0, nominal: 28_800_000, ppm: 0, frequency: 0, rate: 0, actual: 0 };
         let driver = if takes_driver(case.call) { Driver::read(&case.driver)? } else { none };
         Some(Self { tuner, driver })
     }
@@ -208,7 +208,7 @@ fn on_driver(case: &Case, given: &Driver) -> Answer {
     let ppm = case.d as i32;
     match case.call {
         16 => {
-            let made = Driver { board: case.c as u8, nominal: case.a as u32, ppm, frequency: case.b, rate: case.e };
+            let made = Driver { board: case.c as u8, nominal: case.a as u32, ppm, frequency: case.b, rate: case.e, actual: 0 };
             Answer { by: By::Page, driver: Some(made.bytes()), ..Answer::default() }
         }
         17 => Answer { by: By::Page, driver: Some(Driver { ppm, ..given.clone() }.bytes()), ..Answer::default() },

@@ -28,7 +28,7 @@ pub fn plain(call: u8) -> Case {
         case.tuner = Tuner::fresh(1, 28_800_000, 0x74).bytes();
     }
     if takes_driver(call) {
-        case.driver = Driver { board: 1, nominal: 28_800_000, ppm: 0, frequency: 7 * MHZ, rate: 2_048_000 }.bytes();
+        case.driver = Driver { board: 1, nominal: 28_800_000, ppm: 0, frequency: 7 * MHZ, rate: 2_048_000, actual: 0 }.bytes();
     }
     // Arguments for which the call takes its longest way.
     match call {
@@ -111,7 +111,10 @@ pub fn random_driver(dice: &mut Dice) -> Driver {
     let nominal = if dice.yes() { 28_800_000 } else { dice.within(1, u32::MAX as u64) as u32 };
     let ppm = dice.below(2001) as i32 - 1000;
     let ppm = if page::corrected(nominal, ppm).is_some() { ppm } else { 0 };
-    Driver { board: dice.below(2) as u8, nominal, ppm, frequency: dice.below(60 * MHZ), rate: dice.next() as u32 }
+    let (board, frequency, rate) = (dice.below(2) as u8, dice.below(60 * MHZ), dice.next() as u32);
+    // Any true rate, without another throw of the dice, so that later cases stay what they are.
+    let actual = (rate as u64 ^ frequency << 32).wrapping_mul(0x9e37_79b9_7f4a_7c15);
+    Driver { board, nominal, ppm, frequency, rate, actual }
 }
 
 /// Outcomes with a failure now and then, told by any byte but 0.
@@ -214,5 +217,6 @@ pub fn calls() -> Vec<Case> {
     }
     tune::figures(&mut all, &mut dice);
     rest::held_rates(&mut all);
+    rest::true_rates(&mut all);
     all
 }

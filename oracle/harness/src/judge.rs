@@ -106,7 +106,9 @@ fn afterwards(case: &Case, found: &Answer, tally: &mut Tally) {
     if case.call == 19 {
         let given = Driver::read(&case.driver).expect("given");
         let rate = if found.refusal == 0 { case.a as u32 } else { given.rate };
-        tally.same(found.driver.clone(), Some(Driver { rate, ..given }.bytes()), || format!("driver record after {case:?}"));
+        // The true rate is document 02's: requests.rs has its rule.
+        let actual = found.driver.as_deref().and_then(Driver::read).map_or(0, |driver| driver.actual);
+        tally.same(found.driver.clone(), Some(Driver { rate, actual, ..given }.bytes()), || format!("driver record after {case:?}"));
     }
 }
 

@@ -4,7 +4,7 @@ use original::tuners::r82xx::{SEEN_INIT, Seen};
 use rusb::rec::Entry;
 
 pub const TUNER: usize = 105;
-pub const DRIVER: usize = 21;
+pub const DRIVER: usize = 29;
 /// The first register that has a shadow byte.
 pub const FIRST: usize = 0x05;
 
@@ -31,6 +31,8 @@ pub struct Driver {
     pub ppm: i32,
     pub frequency: u64,
     pub rate: u32,
+    /// Document 02, #104: the true rate. Document 01 knows none: there it stays as it was given, and is 0 in a fresh record.
+    pub actual: u64,
 }
 
 /// Takes a record's bytes apart from the left.
@@ -162,6 +164,7 @@ impl Driver {
         all.extend(self.ppm.to_le_bytes());
         all.extend(self.frequency.to_le_bytes());
         all.extend(self.rate.to_le_bytes());
+        all.extend(self.actual.to_le_bytes());
         all
     }
 
@@ -176,9 +179,10 @@ impl Driver {
         let ppm = i32::from_le_bytes(at.take());
         let frequency = u64::from_le_bytes(at.take());
         let rate = u32::from_le_bytes(at.take());
+        let actual = u64::from_le_bytes(at.take());
         if board > 1 || nominal == 0 || page::corrected(nominal, ppm).is_none() {
             return None;
         }
-        Some(Self { board, nominal, ppm, frequency, rate })
+        Some(Self { board, nominal, ppm, frequency, rate, actual })
     }
 }

@@ -2,6 +2,7 @@
 //! stay document 01; this file answers first where a request asks for something else.
 use crate::answer;
 use crate::case::{Answer, By, Case};
+use crate::judge;
 use crate::page;
 use crate::records::{Driver, Tuner};
 use crate::run::{self, run};
@@ -16,6 +17,7 @@ pub fn answer(case: &Case) -> Answer {
     match case.call {
         3 => looked_at(if too_small(case) { as_above_the_band(case) } else { answer::answer(case) }),
         19 | 28 if not_held(case) => Answer::refused(13, By::PageOverRust),
+        19 => with_true_rate(case, answer::answer(case)),
         39 | 40 => figures(case),
         _ => answer::answer(case),
     }
@@ -71,6 +73,22 @@ pub fn not_held(case: &Case) -> bool {
         _ => Tuner::read(&case.tuner).and(Driver::read(&case.driver)).and_then(|driver| page::corrected(driver.nominal, driver.ppm)),
     };
     case.a != 0 && xtal.is_some_and(|xtal| xtal != 0 && !holds(case.a as u32, xtal))
+}
+
+/// #104: "the true rate, xtal·2^22 divided by the ratio as sent after masking and the copied bit, cut to a whole u64". What was sent is read off the
+/// entries that the Rust made: two demodulator writes of 16 bits, at 0x9f and 0xa1 of page 1.
+fn with_true_rate(case: &Case, mut answer: Answer) -> Answer {
+    if answer.refusal == 0 {
+        let given = Driver::read(&case.driver).expect("taken");
+        let xtal = page::corrected(given.nominal, given.ppm).expect("taken");
+        let made = judge::entries(&answer);
+        let written = |register: u8| {
+            made.iter().find(|entry| entry[0] == 5 && entry[4] == register).map_or(0, |entry| (entry[8] as u64) << 8 | entry[9] as u64)
+        };
+        let actual = ((xtal as u64) << 22) / (written(0x9f) << 16 | written(0xa1));
+        answer.driver = Some(Driver { rate: case.a as u32, actual, ..given }.bytes());
+    }
+    answer
 }
 
 /// The two leaves of #111: "the same divider, N, S, rest and refusal". "At the host's leaves: a kind that is none 1, a reference of 0 is 4, then 2"

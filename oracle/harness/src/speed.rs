@@ -20,7 +20,7 @@ pub type Work = Box<dyn FnMut()>;
 pub fn rows() -> Vec<(&'static str, usize, Work)> {
     let record = Tuner::fresh(1, 28_800_000, 0x74);
     let chip = || Arc::new(run::chip(&record));
-    let given = Driver { board: 1, nominal: 28_800_000, ppm: 0, frequency: 7_000_000, rate: 0 };
+    let given = Driver { board: 1, nominal: 28_800_000, ppm: 0, frequency: 7_000_000, rate: 0, actual: 0 };
     let (a, b, c, d, e) = (chip(), chip(), chip(), chip(), chip());
     let mut driver = run::driver(chip(), 1, &given);
     let tune = |chip: Arc<original::tuners::r82xx::R82xx>, replies: Vec<u8>, hz: u64| -> Work {

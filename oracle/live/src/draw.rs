@@ -23,7 +23,7 @@ impl Receiver {
         let nominal =
             if dice.below(4) == 0 { dice.within(1, u32::MAX as u64) as u32 } else { dice.pick(&[28_800_000, 28_800_000, 16_000_000]) };
         let tuner = Tuner::fresh(dice.below(2) as u8, nominal, dice.pick(&[0x34, 0x74]));
-        let driver = Driver { board: dice.below(2) as u8, nominal, ppm: 0, frequency: dice.below(60 * MHZ), rate: 2_048_000 };
+        let driver = Driver { board: dice.below(2) as u8, nominal, ppm: 0, frequency: dice.below(60 * MHZ), rate: 2_048_000, actual: 0 };
         Self { tuner: tuner.bytes(), driver: driver.bytes(), section: page::section(&[]) }
     }
 }

@@ -87,7 +87,7 @@ fn without_steps(case: &Case) -> Answer {
 fn on_driver(case: &Case) -> Answer {
     let ppm = case.d as i32;
     let driver = match case.call {
-        16 => Driver { board: case.c as u8, nominal: case.a as u32, ppm, frequency: case.b, rate: case.e },
+        16 => Driver { board: case.c as u8, nominal: case.a as u32, ppm, frequency: case.b, rate: case.e, actual: 0 },
         17 => Driver { ppm, ..rules::loose(&case.driver).expect("a record") },
         _ => rules::loose(&case.driver).expect("a record but for its correction"),
     };

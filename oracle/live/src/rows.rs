@@ -22,7 +22,7 @@ struct Memory {
 impl Memory {
     fn new(call: u8, replies: Vec<u8>) -> Self {
         let (entries, _) = page::most(call).unwrap_or((0, 0));
-        let driver = Driver { board: 1, nominal: 28_800_000, ppm: 0, frequency: 7_000_000, rate: 0 }.bytes();
+        let driver = Driver { board: 1, nominal: 28_800_000, ppm: 0, frequency: 7_000_000, rate: 0, actual: 0 }.bytes();
         let tuner = Tuner::fresh(1, 28_800_000, 0x74).bytes();
         Self {
             next: tuner.clone(),

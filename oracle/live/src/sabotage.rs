@@ -108,8 +108,8 @@ pub fn spoiled(found: &Found, how: usize) -> Option<(&'static str, Found)> {
         }
         6 => spoil_byte(next.next_tuner.lent_mut(), 104, "last byte of the next tuner record")?,
         7 => spoil_byte(next.next_tuner.lent_mut(), 105, "byte behind the next tuner record")?,
-        8 => spoil_byte(next.next_driver.lent_mut(), 20, "last byte of the next driver record")?,
-        9 => spoil_byte(next.next_driver.lent_mut(), 21, "byte behind the next driver record")?,
+        8 => spoil_byte(next.next_driver.lent_mut(), 28, "last byte of the next driver record")?,
+        9 => spoil_byte(next.next_driver.lent_mut(), 29, "byte behind the next driver record")?,
         10 => spoil_byte(next.outcomes.lent_mut(), 0, "given outcome")?,
         11 => spoil_byte(next.replies.lent_mut(), 0, "given reply")?,
         12 => spoil_byte(next.tuner.lent_mut(), 37, "given tuner record")?,

@@ -1,4 +1,4 @@
--- `records::driver_image` meets its contract: the parts, stored one after the other over 21 bytes, are the record's bytes.
+-- `records::driver_image` meets its contract: the parts, stored one after the other over 29 bytes, are the record's bytes.
 -- Assumes nothing.
 use mathlib.Core.Path.{_≡_, refl, ap, _∙_}
 use mir.Syntax.{w32}
@@ -43,13 +43,16 @@ cast-field-4 c = search needs
 field-requires-5 : tie.Need-field-requires-5
 field-requires-5 c κs = search needs
 
+field-requires-6 : tie.Need-field-requires-6
+field-requires-6 c κs = search needs
+
 returns : tie.Need-returns
 returns c =
-    let d = c .before .before .before .before .before .before .before .before .before .before .before .before .before .before .before .args .d in
+    let d = c .before .before .before .before .before .before .before .before .before .before .before .before .before .before .before .before .before .args .d in
     let small : SFits w32 (d .ppm) = search needs in
-    let bits : c .before .before .before .before .before .before .to-bits .result ≡ ofZ w32 (d .ppm) = c .before .before .before .before .before .before .to-bits .ensures ∙ ap (ofZ w32) (toZ-ofZ small) in
-    rw (c .field5 .ensures, c .before .before .before .field4 .ensures, c .before .before .before .before .before .field3 .ensures, bits, c .before .before .before .before .before .before .before .before .before .field2 .ensures, c .before .before .before .before .before .before .before .before .before .before .before .before .field .ensures, c .before .before .before .before .before .before .before .before .before .before .before .before .before .board-number .ensures)
-    (driver-image-whole d (replicate 21 0) refl)
+    let bits : c .before .before .before .before .before .before .before .before .to-bits .result ≡ ofZ w32 (d .ppm) = c .before .before .before .before .before .before .before .before .to-bits .ensures ∙ ap (ofZ w32) (toZ-ofZ small) in
+    rw (c .field6 .ensures, c .before .before .field5 .ensures, c .before .before .before .before .before .field4 .ensures, c .before .before .before .before .before .before .before .field3 .ensures, bits, c .before .before .before .before .before .before .before .before .before .before .before .field2 .ensures, c .before .before .before .before .before .before .before .before .before .before .before .before .before .before .field .ensures, c .before .before .before .before .before .before .before .before .before .before .before .before .before .before .before .board-number .ensures)
+    (driver-image-whole d (replicate 29 0) refl)
 
 pub driver-image-spec : {M : Type 1} → statement M
 driver-image-spec =
@@ -66,4 +69,5 @@ driver-image-spec =
     field-requires-4
     cast-field-4
     field-requires-5
+    field-requires-6
     returns)

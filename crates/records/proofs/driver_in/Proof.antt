@@ -36,9 +36,12 @@ get-requires-5 c κs = search needs
 cast-t11 : tie.Need-cast-t11
 cast-t11 c = search needs
 
+get-requires-6 : tie.Need-get-requires-6
+get-requires-6 c κs = search needs
+
 returns : tie.Need-returns
 returns c =
-    driver-made (now (c .before .before .before .before .before .before .before .before .args .b)) _ _ _ _ _ _ _ (c .before .before .before .before .before .before .get .ensures .0) (c .before .before .before .before .before .board-from .ensures) (c .before .before .before .before .get2 .ensures .0) (c .before .before .before .get3 .ensures .0) (c .before .before .before .get3 .ensures .1) (c .before .before .to-signed .ensures) (c .before .get4 .ensures .0) (c .get5 .ensures .0)
+    driver-made (now (c .before .before .before .before .before .before .before .before .before .args .b)) _ _ _ _ _ _ _ _ (c .before .before .before .before .before .before .before .get .ensures .0) (c .before .before .before .before .before .before .board-from .ensures) (c .before .before .before .before .before .get2 .ensures .0) (c .before .before .before .before .get3 .ensures .0) (c .before .before .before .before .get3 .ensures .1) (c .before .before .before .to-signed .ensures) (c .before .before .get4 .ensures .0) (c .before .get5 .ensures .0) (c .get6 .ensures .0)
 
 pub driver-in-spec : {M : Type 1} → statement M
 driver-in-spec =
@@ -54,4 +57,5 @@ driver-in-spec =
     get-requires-4
     get-requires-5
     cast-t11
+    get-requires-6
     returns)

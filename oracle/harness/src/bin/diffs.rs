@@ -115,7 +115,7 @@ fn references() {
     corrected("7", 148_130_809, 100 * MHZ);
     corrected("7a", 148_130_808, 100 * MHZ);
     for (number, ppm) in [("8", -1_000_000), ("8a", -1_000_001), ("8b", 148_130_809), ("8c", i32::MIN), ("8d", i32::MAX)] {
-        let driver = Driver { board: 0, nominal: 28_800_000, ppm, frequency: 0, rate: 0 };
+        let driver = Driver { board: 0, nominal: 28_800_000, ppm, frequency: 0, rate: 0, actual: 0 };
         let chip = Arc::new(run::chip(&record(2_300_000)));
         let made = page(Case { a: 28_800_000, d: ppm as u32, ..plain(16) });
         row(
@@ -125,7 +125,7 @@ fn references() {
             format!("{made} (at the driver's making)"),
         );
     }
-    let driver = Driver { board: 0, nominal: 28_800_000, ppm: -1_000_000, frequency: 0, rate: 0 };
+    let driver = Driver { board: 0, nominal: 28_800_000, ppm: -1_000_000, frequency: 0, rate: 0, actual: 0 };
     let chip = Arc::new(run::chip(&record(2_300_000)));
     let found = rust(|| block_on(run::driver(chip, 1, &driver).set_sample_rate(2_048_000)));
     row("9", "set_sample_rate(2048000), driver's reference 0", found, page(Case { driver: driver.bytes(), ..plain(19) }));
@@ -288,7 +288,7 @@ fn rates() {
             later(&case),
         );
     }
-    let given = Driver { board: 0, nominal: 32, ppm: 0, frequency: 0, rate: 0 };
+    let given = Driver { board: 0, nominal: 32, ppm: 0, frequency: 0, rate: 0, actual: 0 };
     let case = Case { a: 1, driver: given.bytes(), ..plain(19) };
     row(
         "22n",
@@ -346,7 +346,7 @@ fn left_out() {
     };
     println!("calls left out: ( ) repeater, w r tuner write and read, d demodulator, b g block write and read, - wait");
     for (name, kind) in [("R828D", 1), ("R820T", 0)] {
-        let given = Driver { board: 1, nominal: 28_800_000, ppm: 0, frequency: 100 * MHZ, rate: 2_048_000 };
+        let given = Driver { board: 1, nominal: 28_800_000, ppm: 0, frequency: 100 * MHZ, rate: 2_048_000, actual: 0 };
         let fresh = || run::driver(Arc::new(run::chip(&Tuner::fresh(kind, 28_800_000, 0x74))), kind, &given);
         println!(
             "    {name} Driver::set_frequency(7 MHz): {}",

@@ -68,7 +68,7 @@ fn references(n: u64, dice: &mut Dice, tally: &mut Tally) -> u64 {
         refused += wanted.is_none() as u64;
         let next = wanted.map(|corrected| Tuner { corrected, ..tuner }.bytes());
         tally.same((found.refusal, found.tuner), (if wanted.is_some() { 0 } else { 4 }, next), || format!("{ppm} ppm of {nominal}"));
-        let driver = Driver { board: 0, nominal, ppm, frequency: 0, rate: 0 };
+        let driver = Driver { board: 0, nominal, ppm, frequency: 0, rate: 0, actual: 0 };
         let found = answer(&Case { driver: driver.bytes(), ..plain(18) });
         tally.same((found.refusal, found.value), (wanted.is_none() as u8, wanted.unwrap_or(0) as u64), || {
             format!("driver's {ppm} ppm of {nominal}")

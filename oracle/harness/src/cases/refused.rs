@@ -65,14 +65,15 @@ fn damaged_tuners() -> Vec<Vec<u8>> {
 }
 
 fn damaged_drivers() -> Vec<Vec<u8>> {
-    let good = Driver { board: 1, nominal: 28_800_000, ppm: 5, frequency: TUNED, rate: 2_048_000 };
+    let good = Driver { board: 1, nominal: 28_800_000, ppm: 5, frequency: TUNED, rate: 2_048_000, actual: 2_048_000 };
     let changed = |change: &dyn Fn(&mut Driver)| {
         let mut next = good.clone();
         change(&mut next);
         next.bytes()
     };
     vec![
-        good.bytes()[..20].to_vec(),
+        good.bytes()[..28].to_vec(),
+        good.bytes()[..21].to_vec(),
         [good.bytes(), vec![0]].concat(),
         changed(&|d| d.board = 2),
         changed(&|d| d.board = 255),

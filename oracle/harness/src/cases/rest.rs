@@ -42,7 +42,7 @@ pub fn references(all: &mut Vec<Case>) {
             all.push(Case { d, tuner: Tuner::fresh(1, nominal, 0x74).bytes(), ..plain(10) });
             if nominal == 28_800_000 || matches!(ppm, 0 | -1 | 1 | i32::MAX) {
                 all.push(Case { a: nominal as u64, d, ..plain(16) });
-                let given = Driver { board: 0, nominal, ppm: 0, frequency: 1, rate: 0 };
+                let given = Driver { board: 0, nominal, ppm: 0, frequency: 1, rate: 0, actual: 7 };
                 all.push(Case { d, driver: given.bytes(), ..plain(17) });
                 let given = Driver { ppm, ..given };
                 all.push(Case { driver: given.bytes(), ..plain(18) });
@@ -162,14 +162,14 @@ pub fn sample_rates(all: &mut Vec<Case>, dice: &mut Dice) {
         all.extend([999_999, 1_000_000, 2_500_000].map(|rate| Case { a: rate, tuner: tuner.bytes(), ..plain(19) }));
     }
     for (board, frequency) in [(0, 7 * MHZ), (1, 28_799_999), (1, 28_800_000), (1, 28_800_001), (1, 0), (1, u64::MAX)] {
-        let driver = Driver { board, nominal: 28_800_000, ppm: dice.below(200) as i32 - 100, frequency, rate: 1 };
+        let driver = Driver { board, nominal: 28_800_000, ppm: dice.below(200) as i32 - 100, frequency, rate: 1, actual: u64::MAX };
         all.push(Case { driver: driver.bytes(), ..plain(19) });
     }
 }
 
 /// Document 02, #103: where a ratio begins and ceases to be held, for both calls, and 13 among the other refusals.
 pub fn held_rates(all: &mut Vec<Case>) {
-    let corrected = |nominal: u32, ppm: i32| Driver { board: 1, nominal, ppm, frequency: 7 * MHZ, rate: 2_048_000 };
+    let corrected = |nominal: u32, ppm: i32| Driver { board: 1, nominal, ppm, frequency: 7 * MHZ, rate: 2_048_000, actual: 2_048_000 };
     // With a rate of 1 the ratio is xtal * 2^22: 2^27 at 32, 3 * 2^27 at 96, 2^29 at 128, 2^32 at 1,024. With a reference of 1 it is 4 at a rate of 2^20.
     for (rate, xtal) in [(1, 32), (1, 96), (1, 128), (1, 1_024)] {
         for xtal in around(xtal) {
@@ -202,6 +202,36 @@ pub fn held_rates(all: &mut Vec<Case>) {
     all.push(Case { a: 600_000, b: 0, ..plain(28) });
     all.push(Case { a: 600_000, tuner: vec![], ..plain(19) });
     all.push(Case { a: 600_000, driver: corrected(28_800_000, -1_000_000).bytes(), ..plain(19) });
+}
+
+/// Document 02, #104: the true rate beside the rate asked. At 28,800,000 Hz 5,497,289 is the first whose two differ; the top rate's is past 32 bits.
+pub fn true_rates(all: &mut Vec<Case>) {
+    let given = Driver { board: 1, nominal: 28_800_000, ppm: 0, frequency: 7 * MHZ, rate: 1_000_000, actual: 0x0123_4567_89ab_cdef };
+    for rate in [225_001, 300_000, 900_001, 5_497_288, 5_497_289, 5_497_290, 7_000_001, 28_800_000, 3_000_000_000, u32::MAX as u64] {
+        all.push(Case { a: rate, driver: given.bytes(), ..plain(19) });
+    }
+    // Other references: the ratio's least and greatest, and a correction.
+    for (rate, nominal, ppm) in [
+        (1 << 20, 1, 0),
+        ((1 << 20) - 1, 1, 0),
+        (1, 127, 0),
+        (1, 96, 0),
+        (1, 31, 0),
+        (2, 63, 0),
+        (5_497_289, 28_800_000, 1),
+        (u32::MAX, 4_096, 0),
+    ] {
+        all.push(Case { a: rate as u64, driver: Driver { nominal, ppm, ..given.clone() }.bytes(), ..plain(19) });
+    }
+    // A step that fails, the last one too, leaves both as they were; so does another correction, and a fresh record has 0.
+    for step in [0, 8, 16] {
+        let mut cut = Case { a: 5_497_289, driver: given.bytes(), ..plain(19) };
+        cut.outcomes[step] = 1;
+        all.push(cut);
+    }
+    all.push(Case { driver: given.bytes(), ..plain(17) });
+    all.push(Case { driver: Driver { actual: u64::MAX, ..given }.bytes(), ..plain(17) });
+    all.push(Case { e: 5_497_289, ..plain(16) });
 }
 
 pub fn steps_of_each(all: &mut Vec<Case>, dice: &mut Dice) {

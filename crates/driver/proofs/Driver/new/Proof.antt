@@ -53,7 +53,7 @@ returns-4 : tie.Need-returns-4
 returns-4 c = c .nothing4 .ensures ∙ new-bad (c .before .before .before .before .before .before .before .before .before .args .board) (c .before .before .before .before .before .before .before .before .before .args .nominal) (c .before .before .before .before .before .before .before .before .before .args .ppm) (c .before .before .before .before .before .before .before .before .before .args .frequency) (c .before .before .before .before .before .before .before .before .before .args .rate) _ (c .before .before .before .before .before .before .before .before .board-named .ensures) _ (c .before .before .before .before .before .before .named .given .1) (c .before .before .before .before .if1 .left) (c .before .before .before .if2 .left) _ (c .before .before .xtal-by .ensures ∙ ap (xtalBy (c .before .before .before .before .before .before .before .before .before .args .nominal)) (toZ-ofZ (c .before .before .before .before .before .before .before .before .before .fits .ppm))) (c .before .if3 .taken)
 
 returns-5 : tie.Need-returns-5
-returns-5 c = (λ i. made (Done 0) (driver (c .before .before .before .before .before .named .given .0 .0) (c .before .before .before .before .before .before .before .before .args .nominal) (toZ-ofZ (c .before .before .before .before .before .before .before .before .fits .ppm) i) (c .before .before .before .before .before .before .before .before .args .frequency) (c .before .before .before .before .before .before .before .before .args .rate))) ∙ new-good (c .before .before .before .before .before .before .before .before .args .board) (c .before .before .before .before .before .before .before .before .args .nominal) (c .before .before .before .before .before .before .before .before .args .ppm) (c .before .before .before .before .before .before .before .before .args .frequency) (c .before .before .before .before .before .before .before .before .args .rate) _ (c .before .before .before .before .before .before .before .board-named .ensures) _ (c .before .before .before .before .before .named .given .1) (c .before .before .before .if1 .left) (c .before .before .if2 .left) _ (c .before .xtal-by .ensures ∙ ap (xtalBy (c .before .before .before .before .before .before .before .before .args .nominal)) (toZ-ofZ (c .before .before .before .before .before .before .before .before .fits .ppm))) (c .if3 .left)
+returns-5 c = (λ i. made (Done 0) (driver (c .before .before .before .before .before .named .given .0 .0) (c .before .before .before .before .before .before .before .before .args .nominal) (toZ-ofZ (c .before .before .before .before .before .before .before .before .fits .ppm) i) (c .before .before .before .before .before .before .before .before .args .frequency) (c .before .before .before .before .before .before .before .before .args .rate) 0)) ∙ new-good (c .before .before .before .before .before .before .before .before .args .board) (c .before .before .before .before .before .before .before .before .args .nominal) (c .before .before .before .before .before .before .before .before .args .ppm) (c .before .before .before .before .before .before .before .before .args .frequency) (c .before .before .before .before .before .before .before .before .args .rate) _ (c .before .before .before .before .before .before .before .board-named .ensures) _ (c .before .before .before .before .before .named .given .1) (c .before .before .before .if1 .left) (c .before .before .if2 .left) _ (c .before .xtal-by .ensures ∙ ap (xtalBy (c .before .before .before .before .before .before .before .before .args .nominal)) (toZ-ofZ (c .before .before .before .before .before .before .before .before .fits .ppm))) (c .if3 .left)
 
 pub new-spec : {M : Type 1} → statement M
 new-spec =

@@ -47,7 +47,7 @@ retune-requires : tie.Need-retune-requires
 retune-requires c κs = search needs
 
 with-rate-requires : tie.Need-with-rate-requires
-with-rate-requires c κs = search needs
+with-rate-requires c κs = let z = taken-by (c .before .before .before .before .before .before .before .before .before .before .before .before .before .before .before .before .before .sound .result && leb 1 (c .before .before .before .before .before .before .before .before .before .before .before .before .before .before .before .before .before .before .xtal-by .result)) (c .before .before .before .before .before .before .before .before .before .before .before .before .before .before .before .before .rate-number .result) 17 0 (length (now (c .before .before .before .before .before .before .before .before .before .before .before .before .before .before .before .before .before .before .before .before .before .before .args .room))) (length (now (c .before .before .before .before .before .before .before .before .before .before .before .before .before .before .before .before .before .before .before .before .before .before .args .outcomes))) 0 (sym (c .before .before .before .before .before .before .before .before .before .before .before .before .before .before .before .refusal .ensures) ∙ c .before .before .before .before .before .before .before .before .before .before .before .before .before .before .if1 .left) in sym (c .before .before .before .before .before .before .before .before .before .before .before .before .before .before .before .before .rate-number .ensures) ∙ z .taken
 
 same-length : tie.Need-same-length
 same-length c = search needs
