@@ -205,6 +205,18 @@ typedef struct {
     uint32_t zero;
 } pasetone_section;
 
+/*
+ * Where two sections part. The part's entries stand from `start` to `start + 16 * count` of the slice that `whose` names, and `index` entries before them
+ * are the same steps in both. 32 bytes without padding.
+ */
+typedef struct {
+    uint64_t start;   /* how many bytes stand before the part in its slice */
+    uint64_t count;   /* entries in it, to the end of its section; 0 where the sections are equal */
+    uint64_t index;   /* its first entry's, counted from the section's first */
+    uint32_t whose;   /* 1 the first's, 2 the second's; 0 where refused */
+    uint32_t refusal; /* 0, or 12: then the other fields are 0 */
+} pasetone_part;
+
 /* The library's version: major * 65536 + minor * 256 + patch. Refuses nothing. */
 uint32_t pasetone_version(void);
 
@@ -427,6 +439,14 @@ pasetone_reply pasetone_unpack_fir(const uint8_t *bytes, size_t bytes_len, uint8
  * (none is a section too; a wait's outcome is 0). Refuses 12.
  */
 pasetone_section pasetone_read_section(const uint8_t *bytes, size_t bytes_len);
+
+/*
+ * Where the sections in which two slices end part: the entries of the second from the first that differs from the first section's, or that the first
+ * lacks; where the second ends first, the rest of the first. Outcomes and what reads gave are not compared; kind, target, n, address and a write's data
+ * are, a wait's milliseconds and a repeater's byte too. Equal sections give the second's empty part, where its entries end. What stands before either
+ * section is not looked at. Nothing is written. Refuses 12 (either).
+ */
+pasetone_part pasetone_parting(const uint8_t *first, size_t first_len, const uint8_t *second, size_t second_len);
 
 #ifdef __cplusplus
 }

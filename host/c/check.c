@@ -13,6 +13,8 @@
 SAME_AT_COMPILE_TIME(reply_is_24, sizeof(pasetone_reply), 24);
 SAME_AT_COMPILE_TIME(tune_reply_is_32, sizeof(pasetone_tune_reply), 32);
 SAME_AT_COMPILE_TIME(section_is_24, sizeof(pasetone_section), 24);
+SAME_AT_COMPILE_TIME(part_is_32, sizeof(pasetone_part), 32);
+SAME_AT_COMPILE_TIME(part_whose_at_24, offsetof(pasetone_part, whose), 24);
 SAME_AT_COMPILE_TIME(reply_refusal_at_16, offsetof(pasetone_reply, refusal), 16);
 SAME_AT_COMPILE_TIME(reply_count_at_20, offsetof(pasetone_reply, count), 20);
 SAME_AT_COMPILE_TIME(tune_reply_count_at_20, offsetof(pasetone_tune_reply, count), 20);
@@ -75,7 +77,7 @@ static void looked(const char *what, pasetone_tune_reply reply, uint32_t tries, 
 
 static void check_making(void)
 {
-    same("version", pasetone_version(), 0x00030000);
+    same("version", pasetone_version(), 0x00030100);
     done("fresh tuner", pasetone_tuner_new(PASETONE_R828D, 0x74, 28800000, TUNER), 0, 0);
     same("fresh kind", tuner[PASETONE_TUNER_KIND], PASETONE_R828D);
     same("fresh address", tuner[PASETONE_TUNER_ADDRESS], 0x74);
@@ -396,6 +398,25 @@ static void check_fir(void)
     refused("FIR, 19 bytes", pasetone_unpack_fir(packed, 19, back, sizeof back), PASETONE_COEFFICIENT);
 }
 
+/* Two nights that part at their second entry: a bandwidth of 2,048,000 and one of 6,500,000. */
+static void check_parting(void)
+{
+    uint8_t other[PASETONE_BANDWIDTH_ROOM];
+    pasetone_part part;
+    done("last night", pasetone_set_bandwidth(TUNER, 2048000, OUTCOMES, ROOM, NEXT), 0, 3);
+    done("tonight", pasetone_set_bandwidth(TUNER, 6500000, OUTCOMES, other, sizeof other, NEXT), 0, 3);
+    part = pasetone_parting(room, sizeof other, other, sizeof other);
+    same("they part", part.whose << 24 | part.start << 16 | part.count << 8 | part.index, 2u << 24 | 16 << 16 | 2 << 8 | 1);
+    same("not refused", part.refusal, 0);
+    other[17] = 1;
+    other[25] = room[25];
+    part = pasetone_parting(room, sizeof other, other, sizeof other);
+    same("an outcome is no difference", part.whose << 24 | part.start << 16 | part.count << 8 | part.index, 2u << 24 | 48 << 16 | 3);
+    part = pasetone_parting(other, 7, room, sizeof other);
+    same("seven bytes", part.refusal, PASETONE_SECTION);
+    same("nobody's", part.start | part.count | part.index | part.whose, 0);
+}
+
 int main(void)
 {
     check_making();
@@ -409,6 +430,7 @@ int main(void)
     check_demod();
     check_numbers();
     check_fir();
+    check_parting();
     printf("check: %u checks, %u faults\n", checks, faults);
     return faults == 0 ? 0 : 1;
 }

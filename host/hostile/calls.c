@@ -40,6 +40,17 @@ static pasetone_reply run_read(struct attempt *a)
     return reply;
 }
 
+/* Where two sections part: start, whose and index as one value. */
+static pasetone_reply run_parting(struct attempt *a)
+{
+    pasetone_part told = pasetone_parting(S(INPUT), S(SECOND));
+    pasetone_reply reply = {0, 0, 0, 0};
+    reply.value = parting_value(told.start, told.whose, told.index);
+    reply.refusal = told.refusal;
+    reply.count = (uint32_t)told.count;
+    return reply;
+}
+
 RUN(run_tuner_new, pasetone_tuner_new(a->arg[0], (uint8_t)a->arg[1], a->arg[2], S(NEXT)))
 RUN(run_driver_new, pasetone_driver_new(a->arg[0], a->arg[1], (int32_t)(uint32_t)a->arg[2], a->arg[3], (uint32_t)a->arg[4], S(NEXT_DRIVER)))
 RUN(run_initialize, pasetone_initialize(S(TUNER), S(OUTCOMES), S(ROOM), S(NEXT)))
@@ -125,13 +136,19 @@ static uint32_t read_args(const struct attempt *a)
     return read_model(a->before[INPUT], a->n[INPUT], &start, &count);
 }
 
+static uint32_t parting_args(const struct attempt *a)
+{
+    uint64_t value, count;
+    return parting_model(a, &value, &count);
+}
+
 /* Values of done calls. */
 
 #define VALUE(name, expression) \
     static uint64_t name(const struct attempt *a) { return (void)a, (expression); }
 
 VALUE(nothing, 0)
-VALUE(version_value, 0x00030000)
+VALUE(version_value, 0x00030100)
 VALUE(asked, a->arg[0])
 VALUE(gain_set, number_at(a->at[NEXT] + PASETONE_TUNER_GAIN, 4))
 VALUE(gain_held, number_at(a->before[TUNER] + PASETONE_TUNER_GAIN, 4))
@@ -158,6 +175,13 @@ static uint64_t start_value(const struct attempt *a)
     uint64_t start, count;
     read_model(a->before[INPUT], a->n[INPUT], &start, &count);
     return start;
+}
+
+static uint64_t part_value(const struct attempt *a)
+{
+    uint64_t value, count;
+    parting_model(a, &value, &count);
+    return value;
 }
 
 #define FREE (HAS(OUTCOMES) | HAS(ROOM))
@@ -205,5 +229,6 @@ const struct call calls[] = {
     {"pack_fir", COMMON, HAS(INPUT) | HAS(OUT), 0, 0, 20, "7 8", run_pack, pack_args, nothing},
     {"unpack_fir", COMMON, HAS(INPUT) | HAS(OUT), 0, 0, 64, "7 8", run_unpack, unpack_args, nothing},
     {"read_section", READER, HAS(INPUT), 0, 0, 0, "12", run_read, read_args, start_value},
+    {"parting", PARTING, HAS(INPUT) | HAS(SECOND), 0, 0, 0, "12", run_parting, parting_args, part_value},
 };
 const unsigned call_count = sizeof calls / sizeof *calls;

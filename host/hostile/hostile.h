@@ -8,7 +8,7 @@
 #include "pasetone.h"
 
 /* The slices that calls take. */
-enum slot { TUNER, DRIVER, INPUT, OUTCOMES, REPLIES, ROOM, NEXT, NEXT_DRIVER, OUT, SLOTS };
+enum slot { TUNER, DRIVER, INPUT, SECOND, OUTCOMES, REPLIES, ROOM, NEXT, NEXT_DRIVER, OUT, SLOTS };
 #define HAS(slot) (1u << (slot))
 
 /* The longest slice: 4,097 entries with their trailer, one more than a section may have, and some bytes before. */
@@ -21,7 +21,8 @@ enum way {
     CHIP_PATH, /* takes no step on an R820T */
     PPM,       /* changes the record where it lies, as does NOTCH */
     NOTCH,
-    READER
+    READER,
+    PARTING /* compares the sections of INPUT and SECOND */
 };
 
 struct attempt;
@@ -84,6 +85,14 @@ uint64_t true_rate_model(uint64_t rate, uint64_t xtal);
 /* 0 with the rest, or 2. */
 uint32_t pll_model(uint64_t kind, uint64_t lo, uint32_t reference, uint64_t *rest);
 uint32_t read_model(const uint8_t *bytes, size_t n, uint64_t *start, uint64_t *count);
+/* parting.c: where two sections part, as document 02 says: 0 or 12; the value is start, whose and index in one number. */
+uint32_t parting_model(const struct attempt *a, uint64_t *value, uint64_t *count);
+uint64_t parting_value(uint64_t start, uint64_t whose, uint64_t index);
+/* make.c's, for a second section that is nearly the first */
+void make_entry(uint8_t *e);
+void put_u32(uint8_t *to, uint64_t v);
+void damage_section(struct attempt *a, enum slot slot);
+void make_second(struct attempt *a);
 uint32_t refusal_before_steps(const struct attempt *a);
 int without_steps(const struct attempt *a);
 size_t needed(const struct call *call, enum slot slot);

@@ -181,6 +181,8 @@ static const char *judge_stepless(const struct attempt *a)
     uint64_t start, count = 0;
     if (a->call->way == READER) {
         read_model(a->before[INPUT], a->n[INPUT], &start, &count);
+    } else if (a->call->way == PARTING) {
+        parting_model(a, &start, &count);
     }
     return a->reply.refusal == 0 && a->reply.count == count ? NULL : "refused, or a wrong count of entries";
 }

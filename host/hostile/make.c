@@ -92,7 +92,7 @@ static void make_driver(struct attempt *a)
 }
 
 /* An entry that fits the table. */
-static void make_entry(uint8_t *e)
+void make_entry(uint8_t *e)
 {
     static const uint8_t least[10] = {0, 1, 1, 1, 1, 2, 1, 2, 1, 0}, most[10] = {0, 1, 8, 5, 1, 2, 1, 2, 1, 0};
     uint8_t kind = (uint8_t)(1 + below(9));
@@ -112,7 +112,7 @@ static void make_entry(uint8_t *e)
     }
 }
 
-static void put_u32(uint8_t *to, uint64_t v)
+void put_u32(uint8_t *to, uint64_t v)
 {
     int i;
     for (i = 0; i < 4; i++) {
@@ -124,7 +124,7 @@ static void put_u32(uint8_t *to, uint64_t v)
 static void make_section(struct attempt *a)
 {
     uint8_t *bytes = a->before[INPUT];
-    uint64_t count = below(4000) == 0 ? 4090 + below(8) : below(12), start = below(20), any = hostile_number(), i;
+    uint64_t count = below(4000) == 0 ? 4090 + below(8) : below(12), start = below(20), i;
     random_bytes(bytes, start);
     for (i = 0; i < count; i++) {
         make_entry(bytes + start + 16 * i);
@@ -132,20 +132,29 @@ static void make_section(struct attempt *a)
     a->n[INPUT] = start + 16 * count + 8;
     put_u32(bytes + a->n[INPUT] - 8, count);
     put_u32(bytes + a->n[INPUT] - 4, 16 * count);
+    if (a->call->way == READER || below(3) == 0) {
+        damage_section(a, INPUT);
+    }
+}
+
+/* Two thirds of the time; a slice with a whole section in it is at least 8 bytes long. */
+void damage_section(struct attempt *a, enum slot slot)
+{
+    uint8_t *bytes = a->before[slot];
+    uint64_t any = hostile_number();
     switch (below(6)) {
     case 0:
-        a->n[INPUT] = below(a->n[INPUT] + 8);
+        a->n[slot] = below(a->n[slot] + 8);
         break;
     case 1:
-        i = below(a->n[INPUT]);
-        bytes[i] ^= (uint8_t)(1u << any % 8);
+        bytes[below(a->n[slot])] ^= (uint8_t)(1u << any % 8);
         break;
     case 2:
-        put_u32(bytes + a->n[INPUT] - 8 + 4 * below(2), any);
+        put_u32(bytes + a->n[slot] - 8 + 4 * below(2), any);
         break;
     case 3:
-        a->n[INPUT] = below(80);
-        random_bytes(bytes, a->n[INPUT]);
+        a->n[slot] = below(80);
+        random_bytes(bytes, a->n[slot]);
         break;
     default:
         break;
@@ -156,7 +165,7 @@ static void make_section(struct attempt *a)
 static void make_input(struct attempt *a)
 {
     int i;
-    if (a->call->way == READER) {
+    if (a->call->way == READER || a->call->way == PARTING) {
         make_section(a);
         return;
     }
@@ -233,6 +242,8 @@ void make_attempt(struct attempt *a, const struct call *call)
             make_driver(a);
         } else if (slot == INPUT) {
             make_input(a);
+        } else if (slot == SECOND) {
+            make_second(a);
         } else {
             a->n[slot] = make_length(needed(call, (enum slot)slot), enough || below(3) > 0);
             random_bytes(a->before[slot], a->n[slot]);

@@ -16,22 +16,24 @@ ghost use Rattle.drivers.specs.Drivers as driver;
 ghost use Rattle.drivers.specs.Drivers.{ppmInto, rateOver, rates, xtalOver};
 ghost use Rattle.r82xx.specs.Orders.{courseOf};
 ghost use Rattle.r82xx.specs.Orders.Order.{Initialize, Reload, Bandwidth, IfFreq, Gain, GainIndex, InputPath, Tune, Shadow, Ppm, Notch, GainTold, IfTold};
+ghost use Rattle.parting.specs.Parting.{partingOf};
 ghost use Rattle.replies.specs.Replies.{partsOf, replyOf};
 ghost use Rattle.transcript.specs.Sections.{sectionOf};
 ghost use Rattle.tuners.specs.Over.{after, overTuner, overTuning, tunedTo};
 ghost use Rattle.tuners.specs.Still as tuner;
 ghost use Rattle.tuners.specs.Still.{answerOver, changedInto, tableOver};
 ghost use Rattle.pasetone.specs.Told.{lent, lentBy, shown, shownBy, yes};
+use parting::Place;
 use replies::Parts;
 use replies::Reply;
 use replies::TuneReply;
 
-// 3.0.0: the major number times 65,536, the minor times 256, the patch.
+// 3.1.0: the major number times 65,536, the minor times 256, the patch.
 #[no_mangle]
 pub extern "C" fn pasetone_version() -> u32
-    ensures { λ r. ⌜ r ≡ 196608 ⌝ }
+    ensures { λ r. ⌜ r ≡ 196864 ⌝ }
 {
-    0x0003_0000
+    0x0003_0100
 }
 
 // The tuner: src/tuners/r82xx.rs.
@@ -478,4 +480,12 @@ pub extern "C" fn pasetone_read_section(bytes: &[u8]) -> Parts
 {
     let section = transcript::read_section(bytes);
     replies::located(section)
+}
+
+// Where two sections part: document 02, #114.
+#[no_mangle]
+pub extern "C" fn pasetone_parting(first: &[u8], second: &[u8]) -> Place
+    ensures { λ r. ⌜ r ≡ partingOf (now (first .entry)) (now (second .entry)) ⌝ }
+{
+    parting::parting(first, second)
 }

@@ -44,6 +44,16 @@ pub struct Section {
     pub zero: u32,
 }
 
+/// `pasetone_part`.
+#[repr(C)]
+pub struct Part {
+    pub start: u64,
+    pub count: u64,
+    pub index: u64,
+    pub whose: u32,
+    pub refusal: u32,
+}
+
 /// A call that takes outcomes and room alone.
 pub type Plain = unsafe extern "C" fn(Bytes, usize, BytesMut, usize) -> Reply;
 
@@ -196,6 +206,7 @@ unsafe extern "C" {
     pub fn pasetone_plan_pll(kind: u64, lo: u64, reference: u32, out: BytesMut, n: usize) -> Reply;
     pub fn pasetone_plan_pll_by_worksheet(kind: u64, lo: u64, reference: u32, out: BytesMut, n: usize) -> Reply;
     pub fn pasetone_read_section(bytes: Bytes, b: usize) -> Section;
+    pub fn pasetone_parting(first: Bytes, f: usize, second: Bytes, s: usize) -> Part;
 }
 
 impl Reply {

@@ -226,7 +226,7 @@ impl Transcript {
 
     /// All entries in order.
     pub fn iter(&self) -> Entries<'_> {
-        Entries { rest: self.section[..ENTRY * self.len()].chunks_exact(ENTRY) }
+        Entries::of(&self.section[..ENTRY * self.len()])
     }
 }
 
@@ -243,6 +243,13 @@ impl<'a> IntoIterator for &'a Transcript {
 #[derive(Clone, Debug)]
 pub struct Entries<'a> {
     rest: core::slice::ChunksExact<'a, u8>,
+}
+
+impl<'a> Entries<'a> {
+    /// Entries that the reader has accepted, without their trailer.
+    pub(crate) fn of(bytes: &'a [u8]) -> Entries<'a> {
+        Entries { rest: bytes.chunks_exact(ENTRY) }
+    }
 }
 
 impl<'a> Iterator for Entries<'a> {

@@ -1,7 +1,7 @@
 //! Document 01's worked numbers, and what a call leaves where it is refused.
 use pasetone::{
-    Board, Driver, EntryKind, Error, InputPath, Lock, PllPlan, Script, Transcript, Tuner, TunerKind, demod, gpio, if_freq_regs, pack_fir,
-    resample_regs, unpack_fir,
+    Board, Driver, EntryKind, Error, InputPath, Lock, PllPlan, Script, Transcript, Tuner, TunerKind, Whose, demod, gpio, if_freq_regs,
+    pack_fir, parting, resample_regs, unpack_fir,
 };
 
 fn r828d() -> Tuner {
@@ -285,5 +285,29 @@ fn errors_have_numbers_and_words() {
     assert_eq!((Error::Coefficient.number(), Error::Coefficient.word()), (7, "coefficient"));
     assert_eq!((Error::Ratio.number(), Error::Ratio.word()), (13, "ratio"));
     assert_eq!(Transcript::read(&[]).map(|_| ()).unwrap_err().number(), 12);
-    assert_eq!(pasetone::version(), (3, 0, 0));
+    assert_eq!(pasetone::version(), (3, 1, 0));
+}
+
+/// Where two nights part: a write's data count, outcomes and read data do not, and the longer one goes on.
+#[test]
+fn two_nights() {
+    let night = |hz, script: &Script| r828d().set_frequency(hz, script).transcript.bytes().to_vec();
+    let (one, two) = (night(100_000_000, &done()), night(101_000_000, &done()));
+    let part = parting(&one, &two).unwrap();
+    let at = part.index;
+    assert_eq!((part.whose, part.len()), (Whose::Second, 53 - at));
+    assert_eq!(part.bytes, &two[16 * at..16 * 53]);
+    assert!(part.bytes.as_ptr_range().end <= two.as_ptr_range().end && part.bytes.as_ptr() >= two.as_ptr());
+    assert_eq!(parting(&two, &one).unwrap().bytes, &one[16 * at..16 * 53]);
+    // A lock at once leaves out the tries: the first goes on where the second has ended, or the other way about.
+    let locked = night(100_000_000, &done().replying(4, 0x08).unwrap().replying(7, 0x02).unwrap());
+    assert_eq!(parting(&one, &locked).map(|part| (part.whose, part.is_empty())), Ok((Whose::Second, false)));
+    let cut = r828d().set_frequency(100_000_000, &done().failing(12).unwrap()).transcript;
+    assert!(parting(&one, cut.bytes()).unwrap().index >= 12);
+    let empty = [7, 0, 0, 0, 0, 0, 0, 0, 0];
+    assert_eq!(parting(&one, &empty).map(|part| (part.whose, part.index, part.len())), Ok((Whose::First, 0, 53)));
+    assert_eq!(parting(&empty, &one).map(|part| (part.whose, part.index, part.len())), Ok((Whose::Second, 0, 53)));
+    assert_eq!(parting(&one, &one).map(|part| (part.whose, part.index, part.len())), Ok((Whose::Second, 53, 0)));
+    assert_eq!(parting(&one[1..], &one).map(|part| part.len()), Err(Error::Section));
+    assert_eq!(parting(&one, &[]).map(|part| part.len()), Err(Error::Section));
 }

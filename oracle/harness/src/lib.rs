@@ -1,9 +1,10 @@
 //! The judge: document 01's calls answered by the original Rust (run.rs), by document 01's own rules where the Rust is
-//! not asked or has no answer (page.rs), and both put together for one case (answer.rs); document 02 over them (requests.rs).
+//! not asked or has no answer (page.rs), and both put together for one case (answer.rs); document 02 over them (requests.rs, files.rs).
 pub mod answer;
 pub mod case;
 pub mod cases;
 pub mod dice;
+pub mod files;
 pub mod judge;
 pub mod page;
 pub mod records;

@@ -32,6 +32,17 @@ pub struct Section {
     pub zero: u32,
 }
 
+/// Where two sections part.
+#[repr(C)]
+#[derive(Debug, Clone, Copy, Default, PartialEq, Eq)]
+pub struct Part {
+    pub start: u64,
+    pub count: u64,
+    pub index: u64,
+    pub whose: u32,
+    pub refusal: u32,
+}
+
 type In = *const u8;
 type Out = *mut u8;
 type N = usize;
@@ -79,4 +90,5 @@ unsafe extern "C" {
     pub fn pasetone_plan_pll(kind: u64, lo: u64, reference: u32, out: Out, mn: N) -> Reply;
     pub fn pasetone_plan_pll_by_worksheet(kind: u64, lo: u64, reference: u32, out: Out, mn: N) -> Reply;
     pub fn pasetone_read_section(bytes: In, bn: N) -> Section;
+    pub fn pasetone_parting(first: In, fnn: N, second: In, sn: N) -> Part;
 }

@@ -1,0 +1,269 @@
+//! The port's calls on sections and settings on file beside a second writing of document 02 (harness::files), on fresh random input: whole,
+//! damaged, cut and joined. Of each call are compared what it answers, every byte that it was lent, what it was given, and the memory beside both.
+//!
+//!   files [CASES [SEED]]      exits 1 on a fault, and where a case that must be met was not
+//!   files self-test           answers and lent bytes are changed on purpose; each change must be found
+//!   files run rust|port NAME N    makes N calls of one kind, for oracle/speed to count their instructions
+use harness::dice::Dice;
+use harness::files::{self as document, Parted};
+use harness::page;
+use harness::tally::Tally;
+use live::ffi::*;
+use live::given::Lent;
+use live::numbers;
+use std::collections::BTreeMap;
+use std::hint::black_box;
+
+/// How often each thing that must be met was met.
+type Met = BTreeMap<&'static str, u64>;
+
+const MUST: [&str; 9] = [
+    "parting: refused, first",
+    "parting: refused, second",
+    "parting: equal",
+    "parting: the first goes on",
+    "parting: the second goes on",
+    "parting: an entry differs",
+    "parting: outcomes differ before it",
+    "parting: read data differ before it",
+    "parting: 4,096 entries",
+];
+
+fn entry(dice: &mut Dice) -> [u8; 16] {
+    const N: [(u64, u64); 10] = [(0, 0), (1, 1), (1, 8), (1, 5), (1, 1), (2, 2), (1, 1), (2, 2), (1, 1), (0, 0)];
+    loop {
+        let (mut entry, kind) = ([0; 16], dice.within(1, 9) as u8);
+        let (least, most) = N[kind as usize];
+        (entry[0], entry[1], entry[3]) = (kind, dice.below(2) as u8, dice.within(least, most) as u8);
+        // Few values, so that two entries are often nearly the same.
+        (entry[2], entry[4], entry[8]) = (dice.below(3) as u8, dice.below(3) as u8, dice.below(3) as u8);
+        (entry[9], entry[15]) = (dice.below(2) as u8, dice.below(2) as u8);
+        if dice.below(4) == 0 {
+            entry[5] = dice.byte();
+        }
+        if page::fits(&entry) {
+            return entry;
+        }
+    }
+}
+
+/// The same steps with other outcomes and other read data.
+fn replayed(entries: &[[u8; 16]], dice: &mut Dice) -> Vec<[u8; 16]> {
+    let mut all = entries.to_vec();
+    for entry in &mut all {
+        let mut other = *entry;
+        let n = other[3] as usize;
+        match dice.below(4) {
+            0 => other[1] ^= 1,
+            1 if matches!(other[0], 3 | 8) => other[8..8 + n].copy_from_slice(&dice.bytes(n)),
+            _ => {}
+        }
+        if other[1] == 1 && matches!(other[0], 3 | 8) {
+            other[8..].fill(0);
+        }
+        if page::fits(&other) {
+            *entry = other;
+        }
+    }
+    all
+}
+
+/// One entry of the second made another: a byte changed to one that fits too, where there is one.
+fn changed(entries: &mut [[u8; 16]], dice: &mut Dice) {
+    if entries.is_empty() {
+        return;
+    }
+    let at = dice.below(entries.len() as u64) as usize;
+    for _ in 0..64 {
+        let mut other = entries[at];
+        let place = dice.below(16) as usize;
+        other[place] = if dice.yes() { other[place] ^ 1 << dice.below(8) } else { dice.byte() };
+        if page::fits(&other) {
+            entries[at] = other;
+            return;
+        }
+    }
+}
+
+fn damaged(mut bytes: Vec<u8>, dice: &mut Dice) -> Vec<u8> {
+    let length = bytes.len() as u64;
+    match dice.below(24) {
+        0 => bytes.truncate(dice.below(length + 1) as usize),
+        1 if length > 0 => bytes[dice.below(length) as usize] ^= 1 << dice.below(8),
+        2 => bytes.push(dice.byte()),
+        3 if length > 0 => drop(bytes.remove(dice.below(length) as usize)),
+        4 => {
+            let count = dice.below(80) as usize;
+            bytes = dice.bytes(count)
+        }
+        5 if length >= 8 => {
+            let at = length as usize - 8 + 4 * dice.below(2) as usize;
+            bytes[at..at + 4].copy_from_slice(&(dice.spread() as u32).to_le_bytes());
+        }
+        _ => {}
+    }
+    bytes
+}
+
+/// Bytes or other sections before the section.
+fn preceded(section: Vec<u8>, dice: &mut Dice) -> Vec<u8> {
+    let before = match dice.below(3) {
+        0 => vec![],
+        1 => {
+            let count = dice.below(40) as usize;
+            dice.bytes(count)
+        }
+        _ => page::section(&[entry(dice), entry(dice)]),
+    };
+    [before, section].concat()
+}
+
+fn two_nights(dice: &mut Dice) -> (Vec<u8>, Vec<u8>) {
+    let count = if dice.below(3000) == 0 { 4090 + dice.below(8) } else { dice.below(9) };
+    let mut one: Vec<_> = (0..count).map(|_| entry(dice)).collect();
+    let mut other = replayed(&one, dice);
+    match dice.below(6) {
+        0 => other.truncate(dice.below(count + 1) as usize),
+        1 => one.truncate(dice.below(count + 1) as usize),
+        2 | 3 => changed(&mut other, dice),
+        4 => other = (0..dice.below(9)).map(|_| entry(dice)).collect(),
+        _ => {}
+    }
+    let (one, other) = (preceded(page::section(&one), dice), preceded(page::section(&other), dice));
+    (damaged(one, dice), damaged(other, dice))
+}
+
+fn met_parting(first: &[u8], second: &[u8], wanted: Option<Parted>, met: &mut Met) {
+    let mut note = |what| *met.entry(what).or_insert(0) += 1;
+    let Some(part) = wanted else {
+        if page::read_section(first).is_none() {
+            note("parting: refused, first")
+        }
+        if page::read_section(second).is_none() {
+            note("parting: refused, second")
+        }
+        return;
+    };
+    let ((a, m), (b, n)) = (page::read_section(first).unwrap(), page::read_section(second).unwrap());
+    note(match (part.whose, part.index == m, part.index == n) {
+        (1, ..) => "parting: the first goes on",
+        (_, true, true) => "parting: equal",
+        (_, true, false) => "parting: the second goes on",
+        _ => "parting: an entry differs",
+    });
+    let alike = |k: usize| (&first[a + 16 * k..][..16], &second[b + 16 * k..][..16]);
+    if (0..part.index).map(alike).any(|(one, other)| one[1] != other[1]) {
+        note("parting: outcomes differ before it")
+    }
+    if (0..part.index).map(alike).any(|(one, other)| one[8..] != other[8..]) {
+        note("parting: read data differ before it")
+    }
+    if m == 4096 {
+        note("parting: 4,096 entries")
+    }
+}
+
+/// What the second writing says, in the port's form.
+fn told(wanted: Option<Parted>) -> Part {
+    wanted.map_or(Part { refusal: 12, ..Part::default() }, |part| Part {
+        start: part.start as u64,
+        count: part.count as u64,
+        index: part.index as u64,
+        whose: part.whose,
+        refusal: 0,
+    })
+}
+
+fn parting(dice: &mut Dice, tally: &mut Tally, met: &mut Met, spoil: u64) {
+    let (first, second) = two_nights(dice);
+    let wanted = document::parting(&first, &second);
+    met_parting(&first, &second, wanted, met);
+    let (mut one, mut other) = (Lent::holding(&first, dice.byte()), Lent::holding(&second, dice.byte()));
+    let ((f, fnn), (s, sn)) = (one.slice(), other.slice());
+    // Safe: both pointers come with the length of memory that is alive for the call.
+    let mut found = unsafe { pasetone_parting(f, fnn, s, sn) };
+    match spoil {
+        1 => found.start ^= 1,
+        2 => found.count ^= 1,
+        3 => found.index ^= 1,
+        4 => found.whose ^= 3,
+        5 => found.refusal ^= 12,
+        6 => one.margin_mut()[0] ^= 1,
+        7 => other.margin_mut()[0] ^= 1,
+        _ => {}
+    }
+    tally.that(found == told(wanted), || format!("parting: found {found:?}, must be {wanted:?}: {first:02x?} {second:02x?}"));
+    tally.that(one.differs(&first).is_none() && other.differs(&second).is_none(), || {
+        format!("parting changed memory: {first:02x?} {second:02x?}")
+    });
+}
+
+const SPOILS: u64 = 7;
+
+fn self_test() -> ! {
+    let (mut tally, mut dice) = (Tally::default(), Dice(0x6669_6c65));
+    for turn in 0..200 * SPOILS {
+        let mut inner = Tally { silent: true, ..Tally::default() };
+        parting(&mut dice, &mut inner, &mut Met::new(), turn % SPOILS + 1);
+        tally.that(inner.faults == 1, || format!("change {} of parting was not found", turn % SPOILS + 1));
+    }
+    tally.end("spoiled", format!("; {SPOILS} ways"))
+}
+
+/// Two equal sections of 4,096 entries as a night of tunings makes them: repeater, writes, a read, a wait.
+fn equal_nights() -> (Vec<u8>, Vec<u8>) {
+    let step = |kind, target, n, address, data: [u8; 3]| [kind, 0, target, n, address, 0, 0, 0, data[0], data[1], data[2], 0, 0, 0, 0, 0];
+    let kinds = [
+        step(1, 0, 1, 0, [1, 0, 0]),
+        step(2, 0x74, 2, 0, [0x14, 0xca, 0]),
+        step(2, 0x74, 1, 0, [0, 0, 0]),
+        step(3, 0x74, 3, 0, [0x69, 0x12, 0x02]),
+        step(9, 0, 0, 2, [0, 0, 0]),
+        step(4, 1, 1, 0x19, [0x38, 0, 0]),
+        step(8, 2, 1, 1, [0x5a, 0, 0]),
+        step(1, 0, 1, 0, [0, 0, 0]),
+    ];
+    let night: Vec<_> = kinds.into_iter().cycle().take(4096).collect();
+    (page::section(&night), page::section(&night))
+}
+
+fn run(who: &str, name: &str, times: u64) {
+    let (first, second) = equal_nights();
+    let (f, s) = (&first[..], &second[..]);
+    for _ in 0..times {
+        match (who, name) {
+            ("rust", "parting") => {
+                black_box(document::parting(black_box(f), black_box(s)));
+            }
+            ("port", "parting") => {
+                // Safe: both slices are alive.
+                black_box(unsafe { pasetone_parting(black_box(f).as_ptr(), f.len(), black_box(s).as_ptr(), s.len()) });
+            }
+            _ => panic!("rust or port, and parting"),
+        }
+    }
+}
+
+fn main() {
+    let words: Vec<String> = std::env::args().skip(1).collect();
+    if let [first, who, name, times] = &words[..]
+        && first == "run"
+    {
+        return run(who, name, times.parse().expect("a count of calls"));
+    }
+    if words.first().is_some_and(|word| word == "self-test") {
+        self_test()
+    }
+    let (cases, seed) = numbers(&words, 1_000_000, "files [CASES [SEED]] | files self-test");
+    let (mut tally, mut met, mut dice) = (Tally::default(), Met::new(), Dice(seed));
+    for _ in 0..cases {
+        parting(&mut dice, &mut tally, &mut met, 0);
+    }
+    for (what, count) in &met {
+        println!("    {what}: {count}");
+    }
+    for what in MUST {
+        tally.that(met.contains_key(what), || format!("never reached: {what}"));
+    }
+    tally.end("files", format!("; {cases} cases, seed {seed}"))
+}
