@@ -39,7 +39,7 @@
  *
  * Refusals. The reply's `refusal` is 0 or one of the numbers below, in this order: a given record that is none (1); an argument (1 to 7, and 13
  * after 3 and 4); lent slices too short: room, and the slices for records and bytes that come back (8), outcomes (9), replies (10); then the
- * steps (11, or 2 in the PLL of a tuning). Refused before any step: value, index and count are 0, and every lent byte is as it was. Refused by a step: value 0,
+ * steps (11, or 2 in the PLL of a tuning). Settings on file are refused by their edition (16), then for the rest (17), then 8. Refused before any step: value, index and count are 0, and every lent byte is as it was. Refused by a step: value 0,
  * and the section and the next records are written, since the steps taken stand. `pasetone_stands` tells the two apart.
  */
 #ifndef PASETONE_H
@@ -67,6 +67,8 @@ extern "C" {
 #define PASETONE_STEP 11        /* a step failed: `index` says which entry */
 #define PASETONE_SECTION 12     /* bytes that do not end in a section */
 #define PASETONE_RATIO 13       /* a rate that the resampler cannot hold: xtal * 2^22 / rate is below 4, 2^29 or more, or its bits 27 and 28 differ */
+#define PASETONE_EDITION 16     /* settings of another edition */
+#define PASETONE_SETTINGS 17    /* bytes that do not end in settings of that edition, or a kind, board or gain index that settings do not have */
 
 /* Cases as numbers. */
 #define PASETONE_R820T 0
@@ -158,6 +160,7 @@ extern "C" {
 #define PASETONE_RESAMPLE_REGS_SIZE 4
 #define PASETONE_FIR_SIZE 20
 #define PASETONE_FIR_VALUES_SIZE 64
+#define PASETONE_SETTINGS_1_SIZE 23
 
 /* What a call answers: 24 bytes without padding. */
 typedef struct {
@@ -216,6 +219,21 @@ typedef struct {
     uint32_t whose;   /* 1 the first's, 2 the second's; 0 where refused */
     uint32_t refusal; /* 0, or 12: then the other fields are 0 */
 } pasetone_part;
+
+/*
+ * Settings of edition 1 as they were read: 48 bytes without padding. On file they are 19 bytes and a trailer of 4: kind 1, board 1, correction 4, rate 4,
+ * frequency 8, gain index 1; the edition, a zero, the distance 19 (u16).
+ */
+typedef struct {
+    uint64_t frequency;  /* Hz */
+    uint64_t kind;       /* 0 R820T, 1 R828D */
+    uint64_t board;      /* 0 generic, 1 V4 */
+    uint64_t gain;       /* index of the gain step, 0 to 28 */
+    uint32_t rate;       /* samples per second */
+    int32_t correction;  /* parts per million */
+    uint32_t refusal;    /* 0, or 16 or 17: then the other fields are 0 */
+    uint32_t zero;
+} pasetone_settings_1;
 
 /* The library's version: major * 65536 + minor * 256 + patch. Refuses nothing. */
 uint32_t pasetone_version(void);
@@ -447,6 +465,21 @@ pasetone_section pasetone_read_section(const uint8_t *bytes, size_t bytes_len);
  * section is not looked at. Nothing is written. Refuses 12 (either).
  */
 pasetone_part pasetone_parting(const uint8_t *first, size_t first_len, const uint8_t *second, size_t second_len);
+
+/*
+ * ---- Settings on file. The edition stands in each name, so that a later one has functions of its own. ----
+ * The settings of edition 1 in which `bytes` end; what stands before them is not looked at. The edition is tested before any field, so that another
+ * edition is 16 and never half read. A rate or frequency of 0 and any correction are taken. Refuses 16, 17 (fewer than 23 bytes, under 4 whatever they
+ * are, wrong distance, nonzero filler, kind, board or gain index out of range).
+ */
+pasetone_settings_1 pasetone_read_settings_1(const uint8_t *bytes, size_t bytes_len);
+
+/*
+ * The image of edition 1 of these settings, at the start of `out` (23 bytes); bytes past it stay. Every settings record has one image, and each image
+ * that is read is the one that its record is written to. Value: how many bytes were written, 23. Refuses 17 (kind, board, gain index), 8.
+ */
+pasetone_reply pasetone_write_settings_1(uint64_t kind, uint64_t board, int32_t correction, uint32_t rate, uint64_t frequency, uint64_t gain,
+                                         uint8_t *out, size_t out_len);
 
 #ifdef __cplusplus
 }

@@ -13,6 +13,8 @@
 SAME_AT_COMPILE_TIME(reply_is_24, sizeof(pasetone_reply), 24);
 SAME_AT_COMPILE_TIME(tune_reply_is_32, sizeof(pasetone_tune_reply), 32);
 SAME_AT_COMPILE_TIME(section_is_24, sizeof(pasetone_section), 24);
+SAME_AT_COMPILE_TIME(settings_1_is_48, sizeof(pasetone_settings_1), 48);
+SAME_AT_COMPILE_TIME(settings_1_refusal_at_40, offsetof(pasetone_settings_1, refusal), 40);
 SAME_AT_COMPILE_TIME(part_is_32, sizeof(pasetone_part), 32);
 SAME_AT_COMPILE_TIME(part_whose_at_24, offsetof(pasetone_part, whose), 24);
 SAME_AT_COMPILE_TIME(reply_refusal_at_16, offsetof(pasetone_reply, refusal), 16);
@@ -77,7 +79,7 @@ static void looked(const char *what, pasetone_tune_reply reply, uint32_t tries, 
 
 static void check_making(void)
 {
-    same("version", pasetone_version(), 0x00030100);
+    same("version", pasetone_version(), 0x00030200);
     done("fresh tuner", pasetone_tuner_new(PASETONE_R828D, 0x74, 28800000, TUNER), 0, 0);
     same("fresh kind", tuner[PASETONE_TUNER_KIND], PASETONE_R828D);
     same("fresh address", tuner[PASETONE_TUNER_ADDRESS], 0x74);
@@ -417,6 +419,33 @@ static void check_parting(void)
     same("nobody's", part.start | part.count | part.index | part.whose, 0);
 }
 
+/* Settings of edition 1: an image byte for byte, read back behind other bytes, and what is refused. */
+static void check_settings_1(void)
+{
+    static const uint8_t image[PASETONE_SETTINGS_1_SIZE] = {1,    1,    0xfd, 0xff, 0xff, 0xff, 0,  0x40, 0x1f, 0,  0, 0xe1,
+                                                            0xf5, 0x05, 0,    0,    0,    0,    28, 1,    0,    19, 0};
+    uint8_t file[PASETONE_SETTINGS_1_SIZE + 8] = {7, 7, 7, 7, 7, 7, 7, 7};
+    pasetone_settings_1 read;
+    done("settings", pasetone_write_settings_1(PASETONE_R828D, PASETONE_V4, -3, 2048000, 100000000, 28, file + 3, 26), 23, 0);
+    same_bytes("their image", file + 3, image, sizeof image);
+    read = pasetone_read_settings_1(file, 26);
+    same("read", read.refusal, 0);
+    same("kind, board, gain", read.kind << 16 | read.board << 8 | read.gain, 0x01011c);
+    same("correction", (uint64_t)(int64_t)read.correction, (uint64_t)-3);
+    same("rate", read.rate, 2048000);
+    same("frequency", read.frequency, 100000000);
+    refused("gain 29", pasetone_write_settings_1(0, 0, 0, 0, 0, 29, file, 23), PASETONE_SETTINGS);
+    refused("kind 2", pasetone_write_settings_1(2, 0, 0, 0, 0, 0, file, 0), PASETONE_SETTINGS);
+    refused("22 bytes", pasetone_write_settings_1(0, 0, 0, 0, 0, 0, file, 22), PASETONE_ROOM);
+    same_bytes("as it was", file + 3, image, sizeof image);
+    file[3 + 19] = 2;
+    file[3] = 9;
+    same("edition 2, before its kind", pasetone_read_settings_1(file, 26).refusal, PASETONE_EDITION);
+    same("three bytes", pasetone_read_settings_1(file + 23, 3).refusal, PASETONE_SETTINGS);
+    file[3 + 19] = 1;
+    same("kind 9", pasetone_read_settings_1(file, 26).refusal, PASETONE_SETTINGS);
+}
+
 int main(void)
 {
     check_making();
@@ -431,6 +460,7 @@ int main(void)
     check_numbers();
     check_fir();
     check_parting();
+    check_settings_1();
     printf("check: %u checks, %u faults\n", checks, faults);
     return faults == 0 ? 0 : 1;
 }

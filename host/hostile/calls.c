@@ -51,6 +51,25 @@ static pasetone_reply run_parting(struct attempt *a)
     return reply;
 }
 
+/* Settings that were read: all fields as one value, and `zero`, which must be one, as index. */
+static pasetone_reply run_read_settings_1(struct attempt *a)
+{
+    pasetone_settings_1 told = pasetone_read_settings_1(S(INPUT));
+    uint64_t fields[FIELDS] = {0};
+    pasetone_reply reply = {0, 0, 0, 0};
+    fields[0] = told.kind;
+    fields[1] = told.board;
+    fields[2] = (uint32_t)told.correction;
+    fields[3] = told.rate;
+    fields[4] = told.frequency;
+    fields[5] = told.gain;
+    reply.value = fields_value(fields, told.refusal);
+    reply.index = told.zero;
+    reply.refusal = told.refusal;
+    return reply;
+}
+
+RUN(run_write_settings_1, pasetone_write_settings_1(a->arg[0], a->arg[1], (int32_t)(uint32_t)a->arg[2], (uint32_t)a->arg[3], a->arg[4], a->arg[5], S(OUT)))
 RUN(run_tuner_new, pasetone_tuner_new(a->arg[0], (uint8_t)a->arg[1], a->arg[2], S(NEXT)))
 RUN(run_driver_new, pasetone_driver_new(a->arg[0], a->arg[1], (int32_t)(uint32_t)a->arg[2], a->arg[3], (uint32_t)a->arg[4], S(NEXT_DRIVER)))
 RUN(run_initialize, pasetone_initialize(S(TUNER), S(OUTCOMES), S(ROOM), S(NEXT)))
@@ -142,13 +161,24 @@ static uint32_t parting_args(const struct attempt *a)
     return parting_model(a, &value, &count);
 }
 
+static uint32_t settings_args(const struct attempt *a)
+{
+    uint64_t fields[FIELDS];
+    return settings_model(a->before[INPUT], a->n[INPUT], edition_of(a->call), fields);
+}
+
+static uint32_t fields_args(const struct attempt *a)
+{
+    return fields_model(a->arg);
+}
+
 /* Values of done calls. */
 
 #define VALUE(name, expression) \
     static uint64_t name(const struct attempt *a) { return (void)a, (expression); }
 
 VALUE(nothing, 0)
-VALUE(version_value, 0x00030100)
+VALUE(version_value, 0x00030200)
 VALUE(asked, a->arg[0])
 VALUE(gain_set, number_at(a->at[NEXT] + PASETONE_TUNER_GAIN, 4))
 VALUE(gain_held, number_at(a->before[TUNER] + PASETONE_TUNER_GAIN, 4))
@@ -183,6 +213,15 @@ static uint64_t part_value(const struct attempt *a)
     parting_model(a, &value, &count);
     return value;
 }
+
+static uint64_t settings_value(const struct attempt *a)
+{
+    uint64_t fields[FIELDS];
+    uint32_t refusal = settings_model(a->before[INPUT], a->n[INPUT], edition_of(a->call), fields);
+    return fields_value(fields, refusal);
+}
+
+VALUE(written_value, a->call->out)
 
 #define FREE (HAS(OUTCOMES) | HAS(ROOM))
 #define STEPS (HAS(TUNER) | FREE | HAS(NEXT))
@@ -230,5 +269,7 @@ const struct call calls[] = {
     {"unpack_fir", COMMON, HAS(INPUT) | HAS(OUT), 0, 0, 64, "7 8", run_unpack, unpack_args, nothing},
     {"read_section", READER, HAS(INPUT), 0, 0, 0, "12", run_read, read_args, start_value},
     {"parting", PARTING, HAS(INPUT) | HAS(SECOND), 0, 0, 0, "12", run_parting, parting_args, part_value},
+    {"read_settings_1", SETTINGS_READ, HAS(INPUT), 0, 0, 0, "16 17", run_read_settings_1, settings_args, settings_value},
+    {"write_settings_1", SETTINGS_WRITE, HAS(OUT), 0, 0, 23, "17 8", run_write_settings_1, fields_args, written_value},
 };
 const unsigned call_count = sizeof calls / sizeof *calls;

@@ -28,7 +28,7 @@
 #include "hostile.h"
 
 /* The refusal numbers are 0 to 13; one place more is for any other, which no function lists. */
-#define NUMBERS 14
+#define NUMBERS 20
 
 static struct attempt now;
 static uint8_t *first[SLOTS]; /* what the slices held after a call, for its repetition */

@@ -11,6 +11,10 @@
 enum slot { TUNER, DRIVER, INPUT, SECOND, OUTCOMES, REPLIES, ROOM, NEXT, NEXT_DRIVER, OUT, SLOTS };
 #define HAS(slot) (1u << (slot))
 
+
+/* Fields of settings on file. */
+#define FIELDS 7
+
 /* The longest slice: 4,097 entries with their trailer, one more than a section may have, and some bytes before. */
 #define LONGEST (16 * 4097 + 8 + 64)
 
@@ -22,7 +26,9 @@ enum way {
     PPM,       /* changes the record where it lies, as does NOTCH */
     NOTCH,
     READER,
-    PARTING /* compares the sections of INPUT and SECOND */
+    PARTING,       /* compares the sections of INPUT and SECOND */
+    SETTINGS_READ, /* reads settings at the end of INPUT */
+    SETTINGS_WRITE /* writes an image of the arguments into OUT */
 };
 
 struct attempt;
@@ -41,7 +47,7 @@ struct call {
 /* One call with all that it is given and lent, and what came back. */
 struct attempt {
     const struct call *call;
-    uint64_t arg[5];
+    uint64_t arg[FIELDS];
     uint8_t *before[SLOTS]; /* what each slice holds when the call begins */
     uint8_t *at[SLOTS];     /* where it lies */
     size_t n[SLOTS];        /* how long it is */
@@ -93,6 +99,16 @@ void make_entry(uint8_t *e);
 void put_u32(uint8_t *to, uint64_t v);
 void damage_section(struct attempt *a, enum slot slot);
 void make_second(struct attempt *a);
+/* settings.c: settings on file as document 02 has them. Fields in the order of the image: kind, board, correction's bits, rate, frequency, gain, IF. */
+uint32_t settings_model(const uint8_t *bytes, size_t n, uint32_t edition, uint64_t *fields);
+uint32_t fields_model(const uint64_t *fields);
+size_t image_model(const uint64_t *fields, uint32_t edition, uint8_t *image);
+uint64_t fields_value(const uint64_t *fields, uint32_t refusal);
+void make_settings(struct attempt *a);
+void make_fields(struct attempt *a);
+/* the image that a done call must have left at the start of OUT */
+const char *judge_image(const struct attempt *a);
+uint32_t edition_of(const struct call *call);
 uint32_t refusal_before_steps(const struct attempt *a);
 int without_steps(const struct attempt *a);
 size_t needed(const struct call *call, enum slot slot);

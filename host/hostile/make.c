@@ -165,6 +165,10 @@ void damage_section(struct attempt *a, enum slot slot)
 static void make_input(struct attempt *a)
 {
     int i;
+    if (a->call->way == SETTINGS_READ) {
+        make_settings(a);
+        return;
+    }
     if (a->call->way == READER || a->call->way == PARTING) {
         make_section(a);
         return;
@@ -228,8 +232,11 @@ void make_attempt(struct attempt *a, const struct call *call)
 {
     int slot, enough = below(3) > 0;
     a->call = call;
-    for (slot = 0; slot < 5; slot++) {
+    for (slot = 0; slot < FIELDS; slot++) {
         a->arg[slot] = hostile_number();
+    }
+    if (call->way == SETTINGS_WRITE) {
+        make_fields(a);
     }
     for (slot = 0; slot < SLOTS; slot++) {
         a->n[slot] = 0;

@@ -18,6 +18,7 @@ ghost use Rattle.r82xx.specs.Orders.{courseOf};
 ghost use Rattle.r82xx.specs.Orders.Order.{Initialize, Reload, Bandwidth, IfFreq, Gain, GainIndex, InputPath, Tune, Shadow, Ppm, Notch, GainTold, IfTold};
 ghost use Rattle.parting.specs.Parting.{partingOf};
 ghost use Rattle.replies.specs.Replies.{partsOf, replyOf};
+ghost use Rattle.settings.specs.Reading.{readOf1, settings, toldOf1, writtenTo1};
 ghost use Rattle.transcript.specs.Sections.{sectionOf};
 ghost use Rattle.tuners.specs.Over.{after, overTuner, overTuning, tunedTo};
 ghost use Rattle.tuners.specs.Still as tuner;
@@ -27,13 +28,15 @@ use parting::Place;
 use replies::Parts;
 use replies::Reply;
 use replies::TuneReply;
+use settings::Reply1;
+use settings::Settings;
 
-// 3.1.0: the major number times 65,536, the minor times 256, the patch.
+// 3.2.0: the major number times 65,536, the minor times 256, the patch.
 #[no_mangle]
 pub extern "C" fn pasetone_version() -> u32
-    ensures { λ r. ⌜ r ≡ 196864 ⌝ }
+    ensures { λ r. ⌜ r ≡ 197120 ⌝ }
 {
-    0x0003_0100
+    0x0003_0200
 }
 
 // The tuner: src/tuners/r82xx.rs.
@@ -488,4 +491,37 @@ pub extern "C" fn pasetone_parting(first: &[u8], second: &[u8]) -> Place
     ensures { λ r. ⌜ r ≡ partingOf (now (first .entry)) (now (second .entry)) ⌝ }
 {
     parting::parting(first, second)
+}
+
+// Settings on file: document 02, #108. The edition stands in each name.
+#[no_mangle]
+pub extern "C" fn pasetone_read_settings_1(bytes: &[u8]) -> Reply1
+    ensures { λ r. ⌜ r ≡ toldOf1 (readOf1 (now (bytes .entry))) ⌝ }
+{
+    let read = settings::read_1(bytes);
+    settings::told_1(read)
+}
+
+#[no_mangle]
+pub extern "C" fn pasetone_write_settings_1(
+    kind: u64,
+    board: u64,
+    correction: i32,
+    rate: u32,
+    frequency: u64,
+    gain: u64,
+    out: &mut [u8],
+) -> Reply
+    ensures { λ r. ⌜ lent r (now (out .exit)) ≡ lentBy (writtenTo1 (settings kind board correction rate frequency gain) (now (out .entry))) ⌝ }
+{
+    let s = Settings {
+        kind: kind,
+        board: board,
+        ppm: correction,
+        rate: rate,
+        frequency: frequency,
+        gain: gain,
+    };
+    let answer = settings::write_1(s, out);
+    replies::numbers(answer, 0)
 }

@@ -35,6 +35,10 @@ pub enum Error {
     Section,
     /// 13: a rate that the resampler cannot hold with the reference.
     Ratio,
+    /// 16: settings of another edition.
+    Edition,
+    /// 17: bytes that do not end in settings, or a gain index above 28.
+    Settings,
 }
 
 impl Error {
@@ -55,6 +59,8 @@ impl Error {
             11 => Error::Step { index: index as usize },
             12 => Error::Section,
             13 => Error::Ratio,
+            16 => Error::Edition,
+            17 => Error::Settings,
             other => unreachable!("pasetone.h has no refusal {other}"),
         })
     }
@@ -75,6 +81,8 @@ impl Error {
             Error::Step { .. } => 11,
             Error::Section => 12,
             Error::Ratio => 13,
+            Error::Edition => 16,
+            Error::Settings => 17,
         }
     }
 
@@ -94,6 +102,8 @@ impl Error {
             Error::Step { .. } => "step",
             Error::Section => "section",
             Error::Ratio => "ratio",
+            Error::Edition => "edition",
+            Error::Settings => "settings",
         }
     }
 }
@@ -125,6 +135,8 @@ impl Error {
             Error::Ratio => {
                 "the resampler cannot hold the ratio of reference and rate: with a reference of 28800000 Hz give a rate from 225001 to 300000, or from 900001"
             }
+            Error::Edition => "the settings are of another edition: read them by its own functions",
+            Error::Settings => "the bytes do not end in settings, or a gain index is above 28: give a whole image, its trailer last",
         }
     }
 }

@@ -54,6 +54,19 @@ pub struct Part {
     pub refusal: u32,
 }
 
+/// `pasetone_settings_1`.
+#[repr(C)]
+pub struct Settings1 {
+    pub frequency: u64,
+    pub kind: u64,
+    pub board: u64,
+    pub gain: u64,
+    pub rate: u32,
+    pub correction: i32,
+    pub refusal: u32,
+    pub zero: u32,
+}
+
 /// A call that takes outcomes and room alone.
 pub type Plain = unsafe extern "C" fn(Bytes, usize, BytesMut, usize) -> Reply;
 
@@ -207,6 +220,17 @@ unsafe extern "C" {
     pub fn pasetone_plan_pll_by_worksheet(kind: u64, lo: u64, reference: u32, out: BytesMut, n: usize) -> Reply;
     pub fn pasetone_read_section(bytes: Bytes, b: usize) -> Section;
     pub fn pasetone_parting(first: Bytes, f: usize, second: Bytes, s: usize) -> Part;
+    pub fn pasetone_read_settings_1(bytes: Bytes, b: usize) -> Settings1;
+    pub fn pasetone_write_settings_1(
+        kind: u64,
+        board: u64,
+        correction: i32,
+        rate: u32,
+        frequency: u64,
+        gain: u64,
+        out: BytesMut,
+        n: usize,
+    ) -> Reply;
 }
 
 impl Reply {

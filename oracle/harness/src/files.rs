@@ -27,3 +27,61 @@ pub fn parting(first: &[u8], second: &[u8]) -> Option<Parted> {
     }
     Some(Parted { whose: 2, start: b + 16 * index, count: n - index, index })
 }
+
+/// Receiver settings on file (#108).
+#[derive(Debug, Clone, Copy, Default, PartialEq, Eq)]
+pub struct Stored {
+    pub kind: u64,
+    pub board: u64,
+    pub correction: i32,
+    pub rate: u32,
+    pub frequency: u64,
+    pub gain: u64,
+}
+
+impl Stored {
+    /// "kind (0 R820T, 1 R828D), board (0 generic, 1 V4), .. gain index 0..28"
+    pub fn fits(&self) -> bool {
+        self.kind < 2 && self.board < 2 && self.gain < 29
+    }
+
+    fn fields(&self) -> [u8; 19] {
+        let mut all = [0; 19];
+        (all[0], all[1], all[18]) = (self.kind as u8, self.board as u8, self.gain as u8);
+        all[2..6].copy_from_slice(&self.correction.to_le_bytes());
+        all[6..10].copy_from_slice(&self.rate.to_le_bytes());
+        all[10..18].copy_from_slice(&self.frequency.to_le_bytes());
+        all
+    }
+
+    fn of_fields(all: &[u8; 19]) -> Stored {
+        let (&[kind, board, c0, c1, c2, c3, r0, r1, r2, r3], rest) = all.split_first_chunk().unwrap();
+        let (&frequency, &[gain]) = rest.split_first_chunk().unwrap() else { unreachable!() };
+        Stored {
+            kind: kind as u64,
+            board: board as u64,
+            correction: i32::from_le_bytes([c0, c1, c2, c3]),
+            rate: u32::from_le_bytes([r0, r1, r2, r3]),
+            frequency: u64::from_le_bytes(frequency),
+            gain: gain as u64,
+        }
+    }
+
+    /// "Store 19 bytes ..; then a 4-byte trailer: edition 1, a zero, and the distance back as u16, here 19". Err: the refusal.
+    pub fn image_1(&self) -> Result<[u8; 23], u32> {
+        let mut image = [0; 23];
+        image[..19].copy_from_slice(&self.fields());
+        image[19..].copy_from_slice(&[1, 0, 19, 0]);
+        if self.fits() { Ok(image) } else { Err(17) }
+    }
+}
+
+/// "Reading takes the record from the end of a slice." Err: the refusal, 16 before all but a slice under 4 bytes.
+pub fn read_settings_1(slice: &[u8]) -> Result<Stored, u32> {
+    let Some((front, trailer)) = slice.split_last_chunk::<4>() else { return Err(17) };
+    if trailer[0] != 1 {
+        return Err(16);
+    }
+    let fields = front.last_chunk::<19>().filter(|_| trailer[1..] == [0, 19, 0]).ok_or(17u32)?;
+    Some(Stored::of_fields(fields)).filter(Stored::fits).ok_or(17)
+}

@@ -43,6 +43,20 @@ pub struct Part {
     pub refusal: u32,
 }
 
+/// Settings of edition 1 as they were read.
+#[repr(C)]
+#[derive(Debug, Clone, Copy, Default, PartialEq, Eq)]
+pub struct Settings1 {
+    pub frequency: u64,
+    pub kind: u64,
+    pub board: u64,
+    pub gain: u64,
+    pub rate: u32,
+    pub correction: i32,
+    pub refusal: u32,
+    pub zero: u32,
+}
+
 type In = *const u8;
 type Out = *mut u8;
 type N = usize;
@@ -91,4 +105,6 @@ unsafe extern "C" {
     pub fn pasetone_plan_pll_by_worksheet(kind: u64, lo: u64, reference: u32, out: Out, mn: N) -> Reply;
     pub fn pasetone_read_section(bytes: In, bn: N) -> Section;
     pub fn pasetone_parting(first: In, fnn: N, second: In, sn: N) -> Part;
+    pub fn pasetone_read_settings_1(bytes: In, bn: N) -> Settings1;
+    pub fn pasetone_write_settings_1(kind: u64, board: u64, correction: i32, rate: u32, frequency: u64, gain: u64, out: Out, mn: N) -> Reply;
 }

@@ -5,7 +5,7 @@
 //!   files self-test           answers and lent bytes are changed on purpose; each change must be found
 //!   files run rust|port NAME N    makes N calls of one kind, for oracle/speed to count their instructions
 use harness::dice::Dice;
-use harness::files::{self as document, Parted};
+use harness::files::{self as document, Parted, Stored};
 use harness::page;
 use harness::tally::Tally;
 use live::ffi::*;
@@ -17,7 +17,7 @@ use std::hint::black_box;
 /// How often each thing that must be met was met.
 type Met = BTreeMap<&'static str, u64>;
 
-const MUST: [&str; 9] = [
+const MUST: [&str; 16] = [
     "parting: refused, first",
     "parting: refused, second",
     "parting: equal",
@@ -27,6 +27,13 @@ const MUST: [&str; 9] = [
     "parting: outcomes differ before it",
     "parting: read data differ before it",
     "parting: 4,096 entries",
+    "settings 1: read",
+    "settings 1: read, refused 16",
+    "settings 1: read, refused 17 by the trailer",
+    "settings 1: read, refused 17 by a field",
+    "settings 1: written",
+    "settings 1: written, refused 17",
+    "settings 1: written, refused 8",
 ];
 
 fn entry(dice: &mut Dice) -> [u8; 16] {
@@ -198,14 +205,137 @@ fn parting(dice: &mut Dice, tally: &mut Tally, met: &mut Met, spoil: u64) {
     });
 }
 
+fn stored(dice: &mut Dice) -> Stored {
+    let code = |dice: &mut Dice, most: u64| match dice.below(12) {
+        0 => dice.spread(),
+        1 => most + 1 + dice.below(2),
+        2 => (most + 1) << dice.pick(&[8, 32]),
+        _ => dice.below(most + 1),
+    };
+    let (kind, board, gain) = (code(dice, 1), code(dice, 1), code(dice, 28));
+    Stored {
+        kind,
+        board,
+        gain,
+        correction: dice.spread() as i32 ^ dice.pick(&[0, -1]),
+        rate: dice.spread() as u32,
+        frequency: dice.spread(),
+    }
+}
+
+/// An image of any edition: fields as they come, whether they fit or not.
+fn image(dice: &mut Dice) -> Vec<u8> {
+    let any = stored(dice);
+    let fitting = Stored { kind: any.kind % 2, board: any.board % 2, gain: any.gain % 29, ..any };
+    let mut image = fitting.image_1().unwrap().to_vec();
+    if dice.below(5) == 0 {
+        (image[0], image[1], image[18]) = (any.kind as u8, any.board as u8, any.gain as u8);
+    }
+    image
+}
+
+/// Bytes that end in an image, or nearly: damaged, cut at either end, joined to others, of another edition.
+fn settings_file(dice: &mut Dice) -> Vec<u8> {
+    let mut file = image(dice);
+    let end = file.len();
+    match dice.below(12) {
+        0 => file[end - 1 - dice.below(4) as usize] = dice.byte(),
+        1 => file[end - 4] = dice.pick(&[0, 2, 3, 255]),
+        2 => file.truncate(dice.below(end as u64 + 1) as usize),
+        3 => drop(file.drain(..dice.below(end as u64 + 1) as usize)),
+        4 => file[dice.below(end as u64) as usize] ^= 1 << dice.below(8),
+        _ => {}
+    }
+    let before = if dice.below(3) == 0 { image(dice) } else { vec![] };
+    let more = dice.below(12) as usize * dice.below(2) as usize;
+    [dice.bytes(more), before, file].concat()
+}
+
+/// As the port tells it.
+fn reply_1(wanted: Result<Stored, u32>) -> Settings1 {
+    let (s, refusal) = wanted.map_or_else(|number| (Stored::default(), number), |s| (s, 0));
+    let Stored { kind, board, correction, rate, frequency, gain } = s;
+    Settings1 { frequency, kind, board, gain, rate, correction, refusal, zero: 0 }
+}
+
+fn read_settings_1(dice: &mut Dice, tally: &mut Tally, met: &mut Met, spoil: u64) {
+    let file = settings_file(dice);
+    let wanted = document::read_settings_1(&file);
+    let by_trailer = file.len() < 23 || file[file.len() - 3..] != [0, 19, 0];
+    *met.entry(match wanted {
+        Ok(_) => "settings 1: read",
+        Err(16) => "settings 1: read, refused 16",
+        Err(_) if by_trailer => "settings 1: read, refused 17 by the trailer",
+        Err(_) => "settings 1: read, refused 17 by a field",
+    })
+    .or_insert(0) += 1;
+    let mut given = Lent::holding(&file, dice.byte());
+    let (bytes, n) = given.slice();
+    // Safe: the pointer comes with the length of memory that is alive for the call.
+    let mut found = unsafe { pasetone_read_settings_1(bytes, n) };
+    match spoil {
+        1 => found.frequency ^= 1,
+        2 => found.gain ^= 1,
+        3 => found.correction ^= 1,
+        4 => found.refusal ^= 1,
+        5 => found.zero ^= 1,
+        6 => given.margin_mut()[0] ^= 1,
+        7 => found.kind ^= 1,
+        _ => {}
+    }
+    tally.that(found == reply_1(wanted), || format!("settings 1: found {found:?}, must be {wanted:?}: {file:02x?}"));
+    tally.that(given.differs(&file).is_none(), || format!("reading settings 1 changed memory: {file:02x?}"));
+}
+
+fn write_settings_1(dice: &mut Dice, tally: &mut Tally, met: &mut Met, spoil: u64) {
+    let s = stored(dice);
+    let room = if dice.below(3) == 0 { dice.below(23) } else { 23 + dice.below(20) } as usize;
+    let wanted = s.image_1().and_then(|image| if room < image.len() { Err(8) } else { Ok(image.to_vec()) });
+    *met.entry(match wanted {
+        Ok(_) => "settings 1: written",
+        Err(17) => "settings 1: written, refused 17",
+        Err(_) => "settings 1: written, refused 8",
+    })
+    .or_insert(0) += 1;
+    let mut lent = Lent::new(room, dice.byte());
+    let (out, n) = lent.slice();
+    // Safe: the pointer comes with the length of memory that is alive for the call.
+    let mut found = unsafe { pasetone_write_settings_1(s.kind, s.board, s.correction, s.rate, s.frequency, s.gain, out, n) };
+    match spoil {
+        1 => found.value ^= 1,
+        2 => found.refusal ^= 1,
+        3 => found.index ^= 1,
+        4 => found.count ^= 1,
+        5 => lent.margin_mut()[0] ^= 1,
+        6 | 7 if room > 0 => lent.lent_mut()[room - 1] ^= 1,
+        6 | 7 => found.value ^= 1,
+        _ => {}
+    }
+    let reply = Reply {
+        value: wanted.as_ref().map_or(0, |image| image.len() as u64),
+        refusal: wanted.as_ref().map_or_else(|number| *number, |_| 0),
+        ..Reply::default()
+    };
+    tally.that(found == reply, || format!("settings 1: found {found:?}, must be {reply:?}: {s:?}, {room} bytes"));
+    let bytes = wanted.unwrap_or_default();
+    tally.that(lent.differs(&bytes).is_none(), || format!("settings 1: {:02x?} for {s:?}, {room} bytes", lent.lent()));
+}
+
+type Call = fn(&mut Dice, &mut Tally, &mut Met, u64);
+
+/// What is tried in each case, all of it.
+const CALLS: [(&str, Call); 3] = [("parting", parting), ("reading settings 1", read_settings_1), ("writing settings 1", write_settings_1)];
+
 const SPOILS: u64 = 7;
 
 fn self_test() -> ! {
     let (mut tally, mut dice) = (Tally::default(), Dice(0x6669_6c65));
-    for turn in 0..200 * SPOILS {
-        let mut inner = Tally { silent: true, ..Tally::default() };
-        parting(&mut dice, &mut inner, &mut Met::new(), turn % SPOILS + 1);
-        tally.that(inner.faults == 1, || format!("change {} of parting was not found", turn % SPOILS + 1));
+    for (name, call) in CALLS {
+        for turn in 0..200 * SPOILS {
+            let mut inner = Tally { silent: true, ..Tally::default() };
+            call(&mut dice, &mut inner, &mut Met::new(), turn % SPOILS + 1);
+            tally.that(inner.faults == 1, || format!("change {} of {name} was not found", turn % SPOILS + 1));
+        }
     }
     tally.end("spoiled", format!("; {SPOILS} ways"))
 }
@@ -229,17 +359,37 @@ fn equal_nights() -> (Vec<u8>, Vec<u8>) {
 
 fn run(who: &str, name: &str, times: u64) {
     let (first, second) = equal_nights();
-    let (f, s) = (&first[..], &second[..]);
+    let (one, two) = (&first[..], &second[..]);
+    let s = Stored { kind: 1, board: 1, correction: -3, rate: 2_048_000, frequency: 100_000_000, gain: 28 };
+    let (file, mut room) = (s.image_1().unwrap(), [0; 64]);
     for _ in 0..times {
         match (who, name) {
             ("rust", "parting") => {
-                black_box(document::parting(black_box(f), black_box(s)));
+                black_box(document::parting(black_box(one), black_box(two)));
             }
             ("port", "parting") => {
                 // Safe: both slices are alive.
-                black_box(unsafe { pasetone_parting(black_box(f).as_ptr(), f.len(), black_box(s).as_ptr(), s.len()) });
+                black_box(unsafe { pasetone_parting(black_box(one).as_ptr(), one.len(), black_box(two).as_ptr(), two.len()) });
             }
-            _ => panic!("rust or port, and parting"),
+            ("rust", "read-settings-1") => {
+                black_box(document::read_settings_1(black_box(&file)).is_ok());
+            }
+            ("port", "read-settings-1") => {
+                // Safe: the file is alive.
+                black_box(unsafe { pasetone_read_settings_1(black_box(&file).as_ptr(), file.len()) });
+            }
+            ("rust", "write-settings-1") => {
+                let image = black_box(s).image_1().unwrap();
+                black_box(&mut room)[..23].copy_from_slice(&image);
+            }
+            ("port", "write-settings-1") => {
+                let s = black_box(s);
+                // Safe: the room is alive.
+                black_box(unsafe {
+                    pasetone_write_settings_1(s.kind, s.board, s.correction, s.rate, s.frequency, s.gain, room.as_mut_ptr(), room.len())
+                });
+            }
+            _ => panic!("rust or port, and the name of a call"),
         }
     }
 }
@@ -257,7 +407,9 @@ fn main() {
     let (cases, seed) = numbers(&words, 1_000_000, "files [CASES [SEED]] | files self-test");
     let (mut tally, mut met, mut dice) = (Tally::default(), Met::new(), Dice(seed));
     for _ in 0..cases {
-        parting(&mut dice, &mut tally, &mut met, 0);
+        for (_, call) in CALLS {
+            call(&mut dice, &mut tally, &mut met, 0);
+        }
     }
     for (what, count) in &met {
         println!("    {what}: {count}");

@@ -1,0 +1,28 @@
+-- `pasetone::pasetone_write_settings_1` meets its contract: it tells what the call below answers. Assumes nothing.
+use mathlib.Core.Path.{ap, _∙_}
+use lib.IntN.{ℤ}
+use mir.Facts.{toZ-ofZ}
+use denote.Ref.{now}
+use Rattle.settings.specs.Reading.{settings, writtenTo1}
+use Rattle.pasetone.proofs.Telling.{lent-told}
+use borrow.Author.Needs.{needs}
+use Rattle.pasetone.proofs.pasetone_write_settings_1.Statement.{statement}
+use Rattle.pasetone.proofs.pasetone_write_settings_1.Tie as tie
+
+write-1-requires : tie.Need-write-1-requires
+write-1-requires c κs = search needs
+
+numbers-requires : tie.Need-numbers-requires
+numbers-requires c κs = search needs
+
+same-length : tie.Need-same-length
+same-length c = search needs
+
+returns : tie.Need-returns
+returns c =
+    let a = c .before .before .before .before .before .before .args in
+    lent-told _ _ _ _ (c .numbers .ensures) (c .before .before .before .write-1 .ensures ∙ ap (λ (z : ℤ). writtenTo1 (settings (a .kind) (a .board) z (a .rate) (a .frequency) (a .gain)) (now (a .out))) (toZ-ofZ (c .before .before .before .before .before .before .fits .correction)))
+
+pub pasetone-write-settings-1-spec : {M : Type 1} → statement M
+pasetone-write-settings-1-spec =
+    tie.close (tie.spec write-1-requires numbers-requires same-length returns)
