@@ -39,7 +39,8 @@
  *
  * Refusals. The reply's `refusal` is 0 or one of the numbers below, in this order: a given record that is none (1); an argument (1 to 7, and 13
  * after 3 and 4); lent slices too short: room, and the slices for records and bytes that come back (8), outcomes (9), replies (10); then the
- * steps (11, or 2 in the PLL of a tuning). Settings on file are refused by their edition (16), then for the rest (17), then 8. Refused before any step: value, index and count are 0, and every lent byte is as it was. Refused by a step: value 0,
+ * steps (11, or 2 in the PLL of a tuning). Settings on file are refused by their edition (16), then for the rest (17), then for an IF that a move
+ * cannot say (18), then 8. Refused before any step: value, index and count are 0, and every lent byte is as it was. Refused by a step: value 0,
  * and the section and the next records are written, since the steps taken stand. `pasetone_stands` tells the two apart.
  */
 #ifndef PASETONE_H
@@ -69,6 +70,7 @@ extern "C" {
 #define PASETONE_RATIO 13       /* a rate that the resampler cannot hold: xtal * 2^22 / rate is below 4, 2^29 or more, or its bits 27 and 28 differ */
 #define PASETONE_EDITION 16     /* settings of another edition */
 #define PASETONE_SETTINGS 17    /* bytes that do not end in settings of that edition, or a kind, board or gain index that settings do not have */
+#define PASETONE_NOT_EXPRESSIBLE 18 /* settings of edition 2 whose IF edition 1 cannot say */
 
 /* Cases as numbers. */
 #define PASETONE_R820T 0
@@ -161,6 +163,7 @@ extern "C" {
 #define PASETONE_FIR_SIZE 20
 #define PASETONE_FIR_VALUES_SIZE 64
 #define PASETONE_SETTINGS_1_SIZE 23
+#define PASETONE_SETTINGS_2_SIZE 27
 
 /* What a call answers: 24 bytes without padding. */
 typedef struct {
@@ -234,6 +237,21 @@ typedef struct {
     uint32_t refusal;    /* 0, or 16 or 17: then the other fields are 0 */
     uint32_t zero;
 } pasetone_settings_1;
+
+/*
+ * Settings of edition 2: 48 bytes without padding. On file they are 23 bytes and a trailer of 4: those of edition 1, then the IF, 4 bytes; the edition, a
+ * zero, the distance 23.
+ */
+typedef struct {
+    uint64_t frequency;
+    uint64_t kind;
+    uint64_t board;
+    uint64_t gain;
+    uint32_t rate;
+    int32_t correction;
+    uint32_t intermediate; /* the IF in Hz, any */
+    uint32_t refusal;      /* 0, or 16 or 17: then the other fields are 0 */
+} pasetone_settings_2;
 
 /* The library's version: major * 65536 + minor * 256 + patch. Refuses nothing. */
 uint32_t pasetone_version(void);
@@ -480,6 +498,28 @@ pasetone_settings_1 pasetone_read_settings_1(const uint8_t *bytes, size_t bytes_
  */
 pasetone_reply pasetone_write_settings_1(uint64_t kind, uint64_t board, int32_t correction, uint32_t rate, uint64_t frequency, uint64_t gain,
                                          uint8_t *out, size_t out_len);
+
+/*
+ * The settings of edition 2 in which `bytes` end, or those of edition 1, with the IF that edition 1 stands for, 2,300,000. Else as
+ * `read_settings_1`, which answers 16 to every image of edition 2. Refuses 16 (neither edition), 17.
+ */
+pasetone_settings_2 pasetone_read_settings_2(const uint8_t *bytes, size_t bytes_len);
+
+/* The image of edition 2, at the start of `out` (27 bytes); bytes past it stay. Value: how many bytes were written, 27. Refuses 17, 8. */
+pasetone_reply pasetone_write_settings_2(uint64_t kind, uint64_t board, int32_t correction, uint32_t rate, uint64_t frequency, uint64_t gain,
+                                         uint32_t intermediate, uint8_t *out, size_t out_len);
+
+/*
+ * The settings of edition 1 in which `bytes` end as an image of edition 2 with the IF 2,300,000: the image alone, at the start of `out` (27 bytes).
+ * Value: 27. Refuses 16 (also edition 2), 17, 8; then `out` is as it was.
+ */
+pasetone_reply pasetone_move_settings_1_to_2(const uint8_t *bytes, size_t bytes_len, uint8_t *out, size_t out_len);
+
+/*
+ * The settings of edition 2 in which `bytes` end as an image of edition 1 (23 bytes), if their IF is 2,300,000. There and back gives the same bytes. Value:
+ * 23. Refuses 16 (also edition 1), 17, 18 (another IF), 8; then `out` is as it was.
+ */
+pasetone_reply pasetone_move_settings_2_to_1(const uint8_t *bytes, size_t bytes_len, uint8_t *out, size_t out_len);
 
 #ifdef __cplusplus
 }

@@ -15,6 +15,8 @@ SAME_AT_COMPILE_TIME(tune_reply_is_32, sizeof(pasetone_tune_reply), 32);
 SAME_AT_COMPILE_TIME(section_is_24, sizeof(pasetone_section), 24);
 SAME_AT_COMPILE_TIME(settings_1_is_48, sizeof(pasetone_settings_1), 48);
 SAME_AT_COMPILE_TIME(settings_1_refusal_at_40, offsetof(pasetone_settings_1, refusal), 40);
+SAME_AT_COMPILE_TIME(settings_2_is_48, sizeof(pasetone_settings_2), 48);
+SAME_AT_COMPILE_TIME(settings_2_refusal_at_44, offsetof(pasetone_settings_2, refusal), 44);
 SAME_AT_COMPILE_TIME(part_is_32, sizeof(pasetone_part), 32);
 SAME_AT_COMPILE_TIME(part_whose_at_24, offsetof(pasetone_part, whose), 24);
 SAME_AT_COMPILE_TIME(reply_refusal_at_16, offsetof(pasetone_reply, refusal), 16);
@@ -79,7 +81,7 @@ static void looked(const char *what, pasetone_tune_reply reply, uint32_t tries, 
 
 static void check_making(void)
 {
-    same("version", pasetone_version(), 0x00030200);
+    same("version", pasetone_version(), 0x00030300);
     done("fresh tuner", pasetone_tuner_new(PASETONE_R828D, 0x74, 28800000, TUNER), 0, 0);
     same("fresh kind", tuner[PASETONE_TUNER_KIND], PASETONE_R828D);
     same("fresh address", tuner[PASETONE_TUNER_ADDRESS], 0x74);
@@ -446,6 +448,31 @@ static void check_settings_1(void)
     same("kind 9", pasetone_read_settings_1(file, 26).refusal, PASETONE_SETTINGS);
 }
 
+/* Edition 2, there and back, and an IF that edition 1 cannot say. */
+static void check_settings_2(void)
+{
+    static const uint8_t last[] = {0x60, 0x18, 0x23, 0, 2, 0, 23, 0};
+    uint8_t one[PASETONE_SETTINGS_1_SIZE], two[PASETONE_SETTINGS_2_SIZE], back[PASETONE_SETTINGS_1_SIZE];
+    pasetone_settings_2 read;
+    done("edition 1", pasetone_write_settings_1(PASETONE_R820T, PASETONE_V4, -3, 2048000, 100000000, 28, one, sizeof one), 23, 0);
+    done("moved", pasetone_move_settings_1_to_2(one, sizeof one, two, sizeof two), 27, 0);
+    same_bytes("the fields stay", two, one, 19);
+    same_bytes("IF 2,300,000 and the trailer", two + 19, last, sizeof last);
+    done("moved back", pasetone_move_settings_2_to_1(two, sizeof two, back, sizeof back), 23, 0);
+    same_bytes("the same bytes", back, one, sizeof one);
+    same("edition 1 to edition 2", pasetone_read_settings_1(two, sizeof two).refusal, PASETONE_EDITION);
+    read = pasetone_read_settings_2(one, sizeof one);
+    same("the new reader and edition 1", read.refusal, 0);
+    same("its IF", read.intermediate, 2300000);
+    done("another IF", pasetone_write_settings_2(PASETONE_R820T, PASETONE_V4, -3, 2048000, 100000000, 28, 4570000, two, sizeof two), 27, 0);
+    same("read", pasetone_read_settings_2(two, sizeof two).intermediate, 4570000);
+    refused("it", pasetone_move_settings_2_to_1(two, sizeof two, back, 0), PASETONE_NOT_EXPRESSIBLE);
+    refused("edition 2", pasetone_move_settings_1_to_2(two, sizeof two, two, 0), PASETONE_EDITION);
+    refused("edition 1", pasetone_move_settings_2_to_1(one, sizeof one, back, 0), PASETONE_EDITION);
+    refused("26 bytes", pasetone_move_settings_1_to_2(one, sizeof one, two, 26), PASETONE_ROOM);
+    same_bytes("as it was", back, one, sizeof one);
+}
+
 int main(void)
 {
     check_making();
@@ -461,6 +488,7 @@ int main(void)
     check_fir();
     check_parting();
     check_settings_1();
+    check_settings_2();
     printf("check: %u checks, %u faults\n", checks, faults);
     return faults == 0 ? 0 : 1;
 }

@@ -70,6 +70,26 @@ static pasetone_reply run_read_settings_1(struct attempt *a)
 }
 
 RUN(run_write_settings_1, pasetone_write_settings_1(a->arg[0], a->arg[1], (int32_t)(uint32_t)a->arg[2], (uint32_t)a->arg[3], a->arg[4], a->arg[5], S(OUT)))
+static pasetone_reply run_read_settings_2(struct attempt *a)
+{
+    pasetone_settings_2 told = pasetone_read_settings_2(S(INPUT));
+    uint64_t fields[FIELDS] = {0};
+    pasetone_reply reply = {0, 0, 0, 0};
+    fields[0] = told.kind;
+    fields[1] = told.board;
+    fields[2] = (uint32_t)told.correction;
+    fields[3] = told.rate;
+    fields[4] = told.frequency;
+    fields[5] = told.gain;
+    fields[6] = told.intermediate;
+    reply.value = fields_value(fields, told.refusal);
+    reply.refusal = told.refusal;
+    return reply;
+}
+
+RUN(run_write_settings_2, pasetone_write_settings_2(a->arg[0], a->arg[1], (int32_t)(uint32_t)a->arg[2], (uint32_t)a->arg[3], a->arg[4], a->arg[5], (uint32_t)a->arg[6], S(OUT)))
+RUN(run_move_1_to_2, pasetone_move_settings_1_to_2(S(INPUT), S(OUT)))
+RUN(run_move_2_to_1, pasetone_move_settings_2_to_1(S(INPUT), S(OUT)))
 RUN(run_tuner_new, pasetone_tuner_new(a->arg[0], (uint8_t)a->arg[1], a->arg[2], S(NEXT)))
 RUN(run_driver_new, pasetone_driver_new(a->arg[0], a->arg[1], (int32_t)(uint32_t)a->arg[2], a->arg[3], (uint32_t)a->arg[4], S(NEXT_DRIVER)))
 RUN(run_initialize, pasetone_initialize(S(TUNER), S(OUTCOMES), S(ROOM), S(NEXT)))
@@ -167,6 +187,18 @@ static uint32_t settings_args(const struct attempt *a)
     return settings_model(a->before[INPUT], a->n[INPUT], edition_of(a->call), fields);
 }
 
+static uint32_t either_args(const struct attempt *a)
+{
+    uint64_t fields[FIELDS];
+    return either_model(a->before[INPUT], a->n[INPUT], fields);
+}
+
+static uint32_t move_args(const struct attempt *a)
+{
+    uint64_t fields[FIELDS];
+    return move_model(a, fields);
+}
+
 static uint32_t fields_args(const struct attempt *a)
 {
     return fields_model(a->arg);
@@ -178,7 +210,7 @@ static uint32_t fields_args(const struct attempt *a)
     static uint64_t name(const struct attempt *a) { return (void)a, (expression); }
 
 VALUE(nothing, 0)
-VALUE(version_value, 0x00030200)
+VALUE(version_value, 0x00030300)
 VALUE(asked, a->arg[0])
 VALUE(gain_set, number_at(a->at[NEXT] + PASETONE_TUNER_GAIN, 4))
 VALUE(gain_held, number_at(a->before[TUNER] + PASETONE_TUNER_GAIN, 4))
@@ -218,6 +250,13 @@ static uint64_t settings_value(const struct attempt *a)
 {
     uint64_t fields[FIELDS];
     uint32_t refusal = settings_model(a->before[INPUT], a->n[INPUT], edition_of(a->call), fields);
+    return fields_value(fields, refusal);
+}
+
+static uint64_t either_value(const struct attempt *a)
+{
+    uint64_t fields[FIELDS];
+    uint32_t refusal = either_model(a->before[INPUT], a->n[INPUT], fields);
     return fields_value(fields, refusal);
 }
 
@@ -271,5 +310,9 @@ const struct call calls[] = {
     {"parting", PARTING, HAS(INPUT) | HAS(SECOND), 0, 0, 0, "12", run_parting, parting_args, part_value},
     {"read_settings_1", SETTINGS_READ, HAS(INPUT), 0, 0, 0, "16 17", run_read_settings_1, settings_args, settings_value},
     {"write_settings_1", SETTINGS_WRITE, HAS(OUT), 0, 0, 23, "17 8", run_write_settings_1, fields_args, written_value},
+    {"read_settings_2", SETTINGS_READ, HAS(INPUT), 0, 0, 0, "16 17", run_read_settings_2, either_args, either_value},
+    {"write_settings_2", SETTINGS_WRITE, HAS(OUT), 0, 0, 27, "17 8", run_write_settings_2, fields_args, written_value},
+    {"move_settings_1_to_2", SETTINGS_MOVE, HAS(INPUT) | HAS(OUT), 0, 0, 27, "16 17 8", run_move_1_to_2, move_args, written_value},
+    {"move_settings_2_to_1", SETTINGS_MOVE, HAS(INPUT) | HAS(OUT), 0, 0, 23, "16 17 18 8", run_move_2_to_1, move_args, written_value},
 };
 const unsigned call_count = sizeof calls / sizeof *calls;

@@ -27,7 +27,7 @@
 
 #include "hostile.h"
 
-/* The refusal numbers are 0 to 13; one place more is for any other, which no function lists. */
+/* The refusal numbers are 0 to 19; one place more is for any other, which no function lists. */
 #define NUMBERS 20
 
 static struct attempt now;

@@ -11,7 +11,6 @@
 enum slot { TUNER, DRIVER, INPUT, SECOND, OUTCOMES, REPLIES, ROOM, NEXT, NEXT_DRIVER, OUT, SLOTS };
 #define HAS(slot) (1u << (slot))
 
-
 /* Fields of settings on file. */
 #define FIELDS 7
 
@@ -28,7 +27,8 @@ enum way {
     READER,
     PARTING,       /* compares the sections of INPUT and SECOND */
     SETTINGS_READ, /* reads settings at the end of INPUT */
-    SETTINGS_WRITE /* writes an image of the arguments into OUT */
+    SETTINGS_WRITE, /* writes an image of the arguments into OUT */
+    SETTINGS_MOVE   /* writes the image at the end of INPUT in the other edition into OUT */
 };
 
 struct attempt;
@@ -109,6 +109,9 @@ void make_fields(struct attempt *a);
 /* the image that a done call must have left at the start of OUT */
 const char *judge_image(const struct attempt *a);
 uint32_t edition_of(const struct call *call);
+/* both editions, as the reader of edition 2 takes them */
+uint32_t either_model(const uint8_t *bytes, size_t n, uint64_t *fields);
+uint32_t move_model(const struct attempt *a, uint64_t *fields);
 uint32_t refusal_before_steps(const struct attempt *a);
 int without_steps(const struct attempt *a);
 size_t needed(const struct call *call, enum slot slot);

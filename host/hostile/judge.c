@@ -212,7 +212,7 @@ const char *judge(const struct attempt *a)
         return "a wrong value";
     }
     wrong = judge_bytes(a, 1);
-    if (wrong == NULL && a->call->way == SETTINGS_WRITE) {
+    if (wrong == NULL && (a->call->way == SETTINGS_WRITE || a->call->way == SETTINGS_MOVE)) {
         wrong = judge_image(a);
     }
     return wrong != NULL ? wrong : judge_next(a);

@@ -165,7 +165,7 @@ void damage_section(struct attempt *a, enum slot slot)
 static void make_input(struct attempt *a)
 {
     int i;
-    if (a->call->way == SETTINGS_READ) {
+    if (a->call->way == SETTINGS_READ || a->call->way == SETTINGS_MOVE) {
         make_settings(a);
         return;
     }

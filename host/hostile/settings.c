@@ -1,4 +1,4 @@
-/* Settings on file: document 02's #108, written down a second time in C, and images whole and damaged. Nothing here calls the archive. */
+/* Settings on file: document 02's #108 and #112, written down a second time in C, and images whole and damaged. Nothing here calls the archive. */
 #include <string.h>
 
 #include "hostile.h"
@@ -87,9 +87,32 @@ uint64_t fields_value(const uint64_t *fields, uint32_t refusal)
     return value;
 }
 
+/* The edition that a call reads or writes; a move's is the one that it is given. */
 uint32_t edition_of(const struct call *call)
 {
-    return strstr(call->name, "_1") != NULL ? 1 : 2;
+    const char *number = strstr(call->name, "settings_") + strlen("settings_");
+    return *number == '1' ? 1 : 2;
+}
+
+/* "the new reader takes both": edition 1 with the IF 2,300,000. */
+uint32_t either_model(const uint8_t *bytes, size_t n, uint64_t *fields)
+{
+    uint32_t refusal = settings_model(bytes, n, 2, fields);
+    if (refusal == 16) {
+        refusal = settings_model(bytes, n, 1, fields);
+        fields[6] = refusal == 0 ? 2300000 : 0;
+    }
+    return refusal;
+}
+
+/* "Move edition 1 to 2 with IF 2,300,000. Move 2 back to 1 only if IF is 2,300,000." */
+uint32_t move_model(const struct attempt *a, uint64_t *fields)
+{
+    uint32_t edition = edition_of(a->call), refusal = settings_model(a->before[INPUT], a->n[INPUT], edition, fields);
+    if (refusal == 0 && edition == 1) {
+        fields[6] = 2300000;
+    }
+    return refusal != 0 ? refusal : fields[6] != 2300000 ? 18 : 0;
 }
 
 /* Numbers that fit, at and past the bounds, or any. */
@@ -144,7 +167,15 @@ void make_settings(struct attempt *a)
 
 const char *judge_image(const struct attempt *a)
 {
+    uint64_t fields[FIELDS];
     uint8_t image[64];
-    size_t n = image_model(a->arg, edition_of(a->call), image);
+    uint32_t edition = edition_of(a->call);
+    size_t n;
+    memcpy(fields, a->arg, sizeof fields);
+    if (a->call->way == SETTINGS_MOVE) {
+        move_model(a, fields);
+        edition = 3 - edition;
+    }
+    n = image_model(fields, edition, image);
     return memcmp(a->at[OUT], image, n) == 0 ? NULL : "the image is not that of its settings";
 }

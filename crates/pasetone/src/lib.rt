@@ -18,7 +18,8 @@ ghost use Rattle.r82xx.specs.Orders.{courseOf};
 ghost use Rattle.r82xx.specs.Orders.Order.{Initialize, Reload, Bandwidth, IfFreq, Gain, GainIndex, InputPath, Tune, Shadow, Ppm, Notch, GainTold, IfTold};
 ghost use Rattle.parting.specs.Parting.{partingOf};
 ghost use Rattle.replies.specs.Replies.{partsOf, replyOf};
-ghost use Rattle.settings.specs.Reading.{readOf1, settings, toldOf1, writtenTo1};
+ghost use Rattle.settings.specs.Image.{wider};
+ghost use Rattle.settings.specs.Reading.{movedTo1, movedTo2, readOf1, readOf2, settings, toldOf1, toldOf2, writtenTo1, writtenTo2};
 ghost use Rattle.transcript.specs.Sections.{sectionOf};
 ghost use Rattle.tuners.specs.Over.{after, overTuner, overTuning, tunedTo};
 ghost use Rattle.tuners.specs.Still as tuner;
@@ -29,14 +30,16 @@ use replies::Parts;
 use replies::Reply;
 use replies::TuneReply;
 use settings::Reply1;
+use settings::Reply2;
 use settings::Settings;
+use settings::Settings2;
 
-// 3.2.0: the major number times 65,536, the minor times 256, the patch.
+// 3.3.0: the major number times 65,536, the minor times 256, the patch.
 #[no_mangle]
 pub extern "C" fn pasetone_version() -> u32
-    ensures { λ r. ⌜ r ≡ 197120 ⌝ }
+    ensures { λ r. ⌜ r ≡ 197376 ⌝ }
 {
-    0x0003_0200
+    0x0003_0300
 }
 
 // The tuner: src/tuners/r82xx.rs.
@@ -523,5 +526,60 @@ pub extern "C" fn pasetone_write_settings_1(
         gain: gain,
     };
     let answer = settings::write_1(s, out);
+    replies::numbers(answer, 0)
+}
+
+// Edition 2: document 02, #112.
+#[no_mangle]
+pub extern "C" fn pasetone_read_settings_2(bytes: &[u8]) -> Reply2
+    ensures { λ r. ⌜ r ≡ toldOf2 (readOf2 (now (bytes .entry))) ⌝ }
+{
+    let read = settings::read_2(bytes);
+    settings::told_2(read)
+}
+
+#[no_mangle]
+pub extern "C" fn pasetone_write_settings_2(
+    kind: u64,
+    board: u64,
+    correction: i32,
+    rate: u32,
+    frequency: u64,
+    gain: u64,
+    intermediate: u32,
+    out: &mut [u8],
+) -> Reply
+    ensures { λ r. ⌜ lent r (now (out .exit))
+        ≡ lentBy (writtenTo2 (wider (settings kind board correction rate frequency gain) intermediate) (now (out .entry))) ⌝ }
+{
+    let s = Settings {
+        kind: kind,
+        board: board,
+        ppm: correction,
+        rate: rate,
+        frequency: frequency,
+        gain: gain,
+    };
+    let w = Settings2 {
+        settings: s,
+        ifreq: intermediate,
+    };
+    let answer = settings::write_2(w, out);
+    replies::numbers(answer, 0)
+}
+
+#[no_mangle]
+pub extern "C" fn pasetone_move_settings_1_to_2(bytes: &[u8], out: &mut [u8]) -> Reply
+    ensures { λ r. ⌜ lent r (now (out .exit)) ≡ lentBy (movedTo2 (now (bytes .entry)) (now (out .entry))) ⌝ }
+{
+    let answer = settings::move_1_to_2(bytes, out);
+    replies::numbers(answer, 0)
+}
+
+#[no_mangle]
+pub extern "C" fn pasetone_move_settings_2_to_1(bytes: &[u8], out: &mut [u8]) -> Reply
+    ensures { λ r. ⌜ lent r (now (out .exit)) ≡ lentBy (movedTo1 (now (bytes .entry)) (now (out .entry))) ⌝ }
+{
+    let answer = settings::move_2_to_1(bytes, out);
     replies::numbers(answer, 0)
 }

@@ -105,7 +105,7 @@ module _ {R : Type 0} (none : ℕ → R) (number : R → ℕ) (tells : (n : ℕ)
       let two = unrefused field r (sym (ap number (one .1)) ∙ h) in
       (one .0, (two .0, one .1 ∙ two .1))
 
-fits-by : (t : Bool) → _≡_ {A = ℕ} (cond t 0 17) 0 → t ≡ true
+pub fits-by : (t : Bool) → _≡_ {A = ℕ} (cond t 0 17) 0 → t ≡ true
 fits-by true h = refl
 fits-by false h = absurd (omega (arith, h))
 
@@ -114,8 +114,12 @@ pub record Taken (b : List ℕ) (s : Settings) : Type 0 where
   pub proper : Proper s
   pub whole : take (length b - 23) b ++ image1 s ≡ b
 
-word-fits : (n : ℕ) → n < 256 ^ 4 → Fits w32 n
+pub word-fits : (n : ℕ) → n < 256 ^ 4 → Fits w32 n
 word-fits n h = record { fits = h }
+
+-- numbers of their widths that fit are a settings record's
+pub proper-of : (k b p r f g : ℕ) → p < 256 ^ 4 → r < 256 ^ 4 → f < 256 ^ 8 → fitsOf (settings k b (toZ w32 p) r f g) ≡ true → Proper (settings k b (toZ w32 p) r f g)
+proper-of k b p r f g hp hr hf fits = record { fits = fits; ppm = sfits-toZ (word-fits p hp); rate = hr; frequency = hf }
 
 module _ (b : List ℕ) (bytes : Bytes b) (h : readOf1 b .refusal ≡ 0) where
   passed : (trailerRefusal 1 19 b ≡ 0) × ((fieldRefusal (found1 b) ≡ 0) × (readOf1 b ≡ read 0 (found1 b)))
@@ -137,12 +141,8 @@ module _ (b : List ℕ) (bytes : Bytes b) (h : readOf1 b .refusal ≡ 0) where
   proper-found : Proper (found1 b)
   proper-found =
       let n = valuesIn widths1 b in
-      record {
-        fits = fits-by (fitsOf (found1 b)) (passed .1 .0);
-        ppm = sfits-toZ (word-fits (getD n 2 0) (each .1 .1 .0));
-        rate = each .1 .1 .1 .0;
-        frequency = each .1 .1 .1 .1 .0;
-      }
+      proper-of (getD n 0 0) (getD n 1 0) (getD n 2 0) (getD n 3 0) (getD n 4 0) (getD n 5 0) (each .1 .1 .0) (each .1 .1 .1 .0) (each .1 .1 .1 .1 .0)
+      (fits-by (fitsOf (found1 b)) (passed .1 .0))
 
   pub read-then-written : Taken b (readOf1 b .settings)
   read-then-written =

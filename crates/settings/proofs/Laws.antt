@@ -132,15 +132,15 @@ fields-made s at k b p r f g z ek eb ep hp ez er ef eg =
     rw (same, a2, a6, a10, a18, ek, eb, ep, er, ef, eg)
 
 module _ {R : Type 0} (none : ℕ → R) (trailer field : ℕ) (r : R) where
-  by-trailers : (trailer ≡ 0 → ⊥) → none trailer ≡ judged none trailer field r
+  pub by-trailers : (trailer ≡ 0 → ⊥) → none trailer ≡ judged none trailer field r
   unfolding judged
   by-trailers h = rw (ne-eqb trailer 0 h)
 
-  by-fields : trailer ≡ 0 → (field ≡ 0 → ⊥) → none field ≡ judged none trailer field r
+  pub by-fields : trailer ≡ 0 → (field ≡ 0 → ⊥) → none field ≡ judged none trailer field r
   unfolding judged
   by-fields z h = rw (z, ne-eqb field 0 h)
 
-  neither : trailer ≡ 0 → field ≡ 0 → r ≡ judged none trailer field r
+  pub neither : trailer ≡ 0 → field ≡ 0 → r ≡ judged none trailer field r
   unfolding judged
   neither z h = rw (z, h)
 

@@ -1,3 +1,5 @@
 pub mod Laws
 pub mod Images
 pub mod Exact
+pub mod Editions
+pub mod Moves

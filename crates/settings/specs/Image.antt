@@ -16,6 +16,7 @@ use Rattle.board.specs.declared.Board.the-variants.{V4}
 use Rattle.board.specs.Numbers.{boardNumber}
 use Rattle.gain.specs.Steps.{clamped}
 use Rattle.settings.specs.declared.Settings.{Settings}
+use Rattle.settings.specs.declared.Settings2.{Settings2}
 
 -- ---- an image of any edition: numbers of their widths, and the trailer
 
@@ -60,3 +61,33 @@ pub record Proper (s : Settings) : Type 0 where
   pub ppm : SFits w32 (s .ppm)
   pub rate : s .rate < 256 ^ 4
   pub frequency : s .frequency < 256 ^ 8
+
+-- ---- edition 2. Document 02, #112: "Edition 2 has 23 bytes: those of edition 1, then IF u32."
+
+abbrev pub widths2 : List ℕ
+widths2 = 1 ∷ 1 ∷ 4 ∷ 4 ∷ 8 ∷ 1 ∷ 4 ∷ []
+
+abbrev pub numbers2 : Settings2 → List ℕ
+numbers2 w =
+    w .settings .kind
+    ∷ w .settings .board
+    ∷ ofZ w32 (w .settings .ppm)
+    ∷ w .settings .rate
+    ∷ w .settings .frequency
+    ∷ w .settings .gain
+    ∷ w .ifreq
+    ∷ []
+
+abbrev pub image2 : Settings2 → List ℕ
+image2 w = imageOf 2 widths2 (numbers2 w)
+
+abbrev pub wider : Settings → ℕ → Settings2
+wider s ifreq = record { settings = s; ifreq = ifreq }
+
+-- the IF that edition 1 stands for: "Move edition 1 to 2 with IF 2,300,000"
+abbrev pub usualIf : ℕ
+usualIf = 2300000
+
+pub record Proper2 (w : Settings2) : Type 0 where
+  pub first : Proper (w .settings)
+  pub ifreq : w .ifreq < 256 ^ 4

@@ -14,9 +14,12 @@ use Rattle.wire.specs.Bytes.{leValue}
 use Rattle.wire.specs.Parts.{partsFrom, sum}
 use Rattle.lending.specs.Lent.{Given, lentTo}
 use Rattle.settings.specs.declared.Settings.{Settings}
+use Rattle.settings.specs.declared.Settings2.{Settings2}
 use Rattle.settings.specs.declared.Read.{Read}
+use Rattle.settings.specs.declared.Read2.{Read2}
+use Rattle.settings.specs.declared.Reply2.{Reply2}
 use Rattle.settings.specs.declared.Reply1.{Reply1}
-use Rattle.settings.specs.Image.{fitsOf, image1, widths1}
+use Rattle.settings.specs.Image.{fitsOf, image1, image2, usualIf, wider, widths1, widths2}
 
 -- ---- the end of a slice: the trailer's numbers, and those of these widths before it
 
@@ -90,3 +93,53 @@ writtenTo s image out = lentTo (fieldRefusal s) (length image) image out
 
 abbrev pub writtenTo1 : Settings → List ℕ → Given
 writtenTo1 s out = writtenTo s (image1 s) out
+
+-- ---- edition 2. Document 02, #112: "Refusals: 16, 17, then new 18 not expressible, then 8."
+
+abbrev pub read2 : ℕ → Settings2 → Read2
+read2 refusal w = record { refusal = refusal; settings = w }
+
+abbrev pub refused2 : ℕ → Read2
+refused2 number = read2 number (wider (settings 0 0 (pos 0) 0 0 0) 0)
+
+abbrev pub found2 : List ℕ → Settings2
+found2 s = wider (settingsFrom (valuesIn widths2 s)) (getD (valuesIn widths2 s) 6 0)
+
+-- what ends in edition 2, and nothing else
+unfoldable pub onlyOf2 : List ℕ → Read2
+onlyOf2 s = judged refused2 (trailerRefusal 2 23 s) (fieldRefusal (found2 s .settings)) (read2 0 (found2 s))
+
+-- a reading of edition 1, with the IF that it stands for
+unfoldable pub widened : Read → Read2
+widened r = unless refused2 (r .refusal) (read2 0 (wider (r .settings) usualIf))
+
+-- "the new reader takes both": what is not edition 2 is read as edition 1, whose 16 is for neither
+unfoldable pub readOf2 : List ℕ → Read2
+readOf2 s = cond (eqb (onlyOf2 s .refusal) 16) (widened (readOf1 s)) (onlyOf2 s)
+
+abbrev pub toldOf2 : Read2 → Reply2
+toldOf2 r =
+    record {
+      frequency = r .settings .settings .frequency;
+      kind = r .settings .settings .kind;
+      board = r .settings .settings .board;
+      gain = r .settings .settings .gain;
+      rate = r .settings .settings .rate;
+      correction = r .settings .settings .ppm;
+      ifreq = r .settings .ifreq;
+      refusal = r .refusal;
+    }
+
+abbrev pub writtenTo2 : Settings2 → List ℕ → Given
+writtenTo2 w out = writtenTo (w .settings) (image2 w) out
+
+-- "Move edition 1 to 2 with IF 2,300,000"; the output is the image alone, and its length the value
+abbrev pub movedTo2 : List ℕ → List ℕ → Given
+movedTo2 s out = lentTo (readOf1 s .refusal) 27 (image2 (wider (readOf1 s .settings) usualIf)) out
+
+-- "Move 2 back to 1 only if IF is 2,300,000": else 18
+unfoldable pub narrowRefusal : Read2 → ℕ
+narrowRefusal r = cond (eqb (r .refusal) 0) (cond (eqb (r .settings .ifreq) usualIf) 0 18) (r .refusal)
+
+abbrev pub movedTo1 : List ℕ → List ℕ → Given
+movedTo1 s out = lentTo (narrowRefusal (onlyOf2 s)) 23 (image1 (onlyOf2 s .settings .settings)) out

@@ -39,6 +39,8 @@ pub enum Error {
     Edition,
     /// 17: bytes that do not end in settings, or a gain index above 28.
     Settings,
+    /// 18: settings of edition 2 whose IF edition 1 cannot say.
+    NotExpressible,
 }
 
 impl Error {
@@ -61,6 +63,7 @@ impl Error {
             13 => Error::Ratio,
             16 => Error::Edition,
             17 => Error::Settings,
+            18 => Error::NotExpressible,
             other => unreachable!("pasetone.h has no refusal {other}"),
         })
     }
@@ -83,6 +86,7 @@ impl Error {
             Error::Ratio => 13,
             Error::Edition => 16,
             Error::Settings => 17,
+            Error::NotExpressible => 18,
         }
     }
 
@@ -104,6 +108,7 @@ impl Error {
             Error::Ratio => "ratio",
             Error::Edition => "edition",
             Error::Settings => "settings",
+            Error::NotExpressible => "not expressible",
         }
     }
 }
@@ -137,6 +142,7 @@ impl Error {
             }
             Error::Edition => "the settings are of another edition: read them by its own functions",
             Error::Settings => "the bytes do not end in settings, or a gain index is above 28: give a whole image, its trailer last",
+            Error::NotExpressible => "edition 1 has no IF but 2300000: keep these settings in edition 2",
         }
     }
 }

@@ -98,7 +98,7 @@ pub use parting::{Part, Whose, parting};
 pub use pll::PllPlan;
 pub use registers::{if_freq_regs, pack_fir, resample_regs, unpack_fir};
 pub use script::Script;
-pub use settings::Settings;
+pub use settings::{Settings, Settings2};
 pub use transcript::{Entries, Entry, EntryKind, Transcript};
 pub use tuner::{InputPath, Tuner, TunerKind};
 

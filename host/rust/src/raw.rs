@@ -67,6 +67,19 @@ pub struct Settings1 {
     pub zero: u32,
 }
 
+/// `pasetone_settings_2`.
+#[repr(C)]
+pub struct Settings2 {
+    pub frequency: u64,
+    pub kind: u64,
+    pub board: u64,
+    pub gain: u64,
+    pub rate: u32,
+    pub correction: i32,
+    pub intermediate: u32,
+    pub refusal: u32,
+}
+
 /// A call that takes outcomes and room alone.
 pub type Plain = unsafe extern "C" fn(Bytes, usize, BytesMut, usize) -> Reply;
 
@@ -220,6 +233,20 @@ unsafe extern "C" {
     pub fn pasetone_plan_pll_by_worksheet(kind: u64, lo: u64, reference: u32, out: BytesMut, n: usize) -> Reply;
     pub fn pasetone_read_section(bytes: Bytes, b: usize) -> Section;
     pub fn pasetone_parting(first: Bytes, f: usize, second: Bytes, s: usize) -> Part;
+    pub fn pasetone_read_settings_2(bytes: Bytes, b: usize) -> Settings2;
+    pub fn pasetone_write_settings_2(
+        kind: u64,
+        board: u64,
+        correction: i32,
+        rate: u32,
+        frequency: u64,
+        gain: u64,
+        intermediate: u32,
+        out: BytesMut,
+        n: usize,
+    ) -> Reply;
+    pub fn pasetone_move_settings_1_to_2(bytes: Bytes, b: usize, out: BytesMut, n: usize) -> Reply;
+    pub fn pasetone_move_settings_2_to_1(bytes: Bytes, b: usize, out: BytesMut, n: usize) -> Reply;
     pub fn pasetone_read_settings_1(bytes: Bytes, b: usize) -> Settings1;
     pub fn pasetone_write_settings_1(
         kind: u64,

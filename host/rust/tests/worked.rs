@@ -285,7 +285,7 @@ fn errors_have_numbers_and_words() {
     assert_eq!((Error::Coefficient.number(), Error::Coefficient.word()), (7, "coefficient"));
     assert_eq!((Error::Ratio.number(), Error::Ratio.word()), (13, "ratio"));
     assert_eq!(Transcript::read(&[]).map(|_| ()).unwrap_err().number(), 12);
-    assert_eq!(pasetone::version(), (3, 2, 0));
+    assert_eq!(pasetone::version(), (3, 3, 0));
 }
 
 /// Where two nights part: a write's data count, outcomes and read data do not, and the longer one goes on.

@@ -85,3 +85,47 @@ pub fn read_settings_1(slice: &[u8]) -> Result<Stored, u32> {
     let fields = front.last_chunk::<19>().filter(|_| trailer[1..] == [0, 19, 0]).ok_or(17u32)?;
     Some(Stored::of_fields(fields)).filter(Stored::fits).ok_or(17)
 }
+
+/// Edition 1 as edition 2 says it: "Move edition 1 to 2 with IF 2,300,000".
+pub const USUAL_IF: u32 = 2_300_000;
+
+/// "Edition 2 has 23 bytes: those of edition 1, then IF u32." (#112) Err: the refusal.
+pub fn image_2(stored: &Stored, if_hz: u32) -> Result<[u8; 27], u32> {
+    let mut image = [0; 27];
+    image[..19].copy_from_slice(&stored.fields());
+    image[19..23].copy_from_slice(&if_hz.to_le_bytes());
+    image[23..].copy_from_slice(&[2, 0, 23, 0]);
+    if stored.fits() { Ok(image) } else { Err(17) }
+}
+
+/// Edition 2 and nothing else.
+fn read_only_2(slice: &[u8]) -> Result<(Stored, u32), u32> {
+    let Some((front, trailer)) = slice.split_last_chunk::<4>() else { return Err(17) };
+    if trailer[0] != 2 {
+        return Err(16);
+    }
+    let fields = front.last_chunk::<23>().filter(|_| trailer[1..] == [0, 23, 0]).ok_or(17u32)?;
+    let (first, last) = fields.split_first_chunk::<19>().unwrap();
+    let stored = Some(Stored::of_fields(first)).filter(Stored::fits).ok_or(17u32)?;
+    Ok((stored, u32::from_le_bytes(last.try_into().unwrap())))
+}
+
+/// "the new reader takes both"
+pub fn read_settings_2(slice: &[u8]) -> Result<(Stored, u32), u32> {
+    match read_settings_1(slice) {
+        Err(16) => read_only_2(slice),
+        other => other.map(|stored| (stored, USUAL_IF)),
+    }
+}
+
+pub fn move_1_to_2(slice: &[u8]) -> Result<[u8; 27], u32> {
+    image_2(&read_settings_1(slice)?, USUAL_IF)
+}
+
+/// "Move 2 back to 1 only if IF is 2,300,000": else 18.
+pub fn move_2_to_1(slice: &[u8]) -> Result<[u8; 23], u32> {
+    match read_only_2(slice)? {
+        (stored, USUAL_IF) => stored.image_1(),
+        _ => Err(18),
+    }
+}

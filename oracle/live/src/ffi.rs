@@ -57,6 +57,20 @@ pub struct Settings1 {
     pub zero: u32,
 }
 
+/// Settings of edition 2, or of edition 1 with the usual IF.
+#[repr(C)]
+#[derive(Debug, Clone, Copy, Default, PartialEq, Eq)]
+pub struct Settings2 {
+    pub frequency: u64,
+    pub kind: u64,
+    pub board: u64,
+    pub gain: u64,
+    pub rate: u32,
+    pub correction: i32,
+    pub intermediate: u32,
+    pub refusal: u32,
+}
+
 type In = *const u8;
 type Out = *mut u8;
 type N = usize;
@@ -106,5 +120,9 @@ unsafe extern "C" {
     pub fn pasetone_read_section(bytes: In, bn: N) -> Section;
     pub fn pasetone_parting(first: In, fnn: N, second: In, sn: N) -> Part;
     pub fn pasetone_read_settings_1(bytes: In, bn: N) -> Settings1;
+    pub fn pasetone_read_settings_2(bytes: In, bn: N) -> Settings2;
+    pub fn pasetone_write_settings_2(kind: u64, board: u64, correction: i32, rate: u32, frequency: u64, gain: u64, intermediate: u32, out: Out, mn: N) -> Reply;
+    pub fn pasetone_move_settings_1_to_2(bytes: In, bn: N, out: Out, mn: N) -> Reply;
+    pub fn pasetone_move_settings_2_to_1(bytes: In, bn: N, out: Out, mn: N) -> Reply;
     pub fn pasetone_write_settings_1(kind: u64, board: u64, correction: i32, rate: u32, frequency: u64, gain: u64, out: Out, mn: N) -> Reply;
 }

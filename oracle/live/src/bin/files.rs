@@ -17,7 +17,7 @@ use std::hint::black_box;
 /// How often each thing that must be met was met.
 type Met = BTreeMap<&'static str, u64>;
 
-const MUST: [&str; 16] = [
+const MUST: [&str; 30] = [
     "parting: refused, first",
     "parting: refused, second",
     "parting: equal",
@@ -34,6 +34,20 @@ const MUST: [&str; 16] = [
     "settings 1: written",
     "settings 1: written, refused 17",
     "settings 1: written, refused 8",
+    "settings 2: read",
+    "settings 2: read, edition 1",
+    "settings 2: read, refused 16",
+    "settings 2: read, refused 17",
+    "settings 2: written",
+    "settings 2: written, refused 17",
+    "settings 2: written, refused 8",
+    "move 1 to 2: done",
+    "move 1 to 2: refused 16",
+    "move 1 to 2: refused 17",
+    "move 1 to 2: refused 8",
+    "move 2 to 1: done",
+    "move 2 to 1: refused 18",
+    "move 2 to 1: refused 8",
 ];
 
 fn entry(dice: &mut Dice) -> [u8; 16] {
@@ -227,7 +241,8 @@ fn stored(dice: &mut Dice) -> Stored {
 fn image(dice: &mut Dice) -> Vec<u8> {
     let any = stored(dice);
     let fitting = Stored { kind: any.kind % 2, board: any.board % 2, gain: any.gain % 29, ..any };
-    let mut image = fitting.image_1().unwrap().to_vec();
+    let if_hz = if dice.yes() { document::USUAL_IF } else { dice.spread() as u32 };
+    let mut image = if dice.yes() { fitting.image_1().unwrap().to_vec() } else { document::image_2(&fitting, if_hz).unwrap().to_vec() };
     if dice.below(5) == 0 {
         (image[0], image[1], image[18]) = (any.kind as u8, any.board as u8, any.gain as u8);
     }
@@ -321,10 +336,129 @@ fn write_settings_1(dice: &mut Dice, tally: &mut Tally, met: &mut Met, spoil: u6
     tally.that(lent.differs(&bytes).is_none(), || format!("settings 1: {:02x?} for {s:?}, {room} bytes", lent.lent()));
 }
 
+/// As the port tells it.
+fn reply_2(wanted: Result<(Stored, u32), u32>) -> Settings2 {
+    let ((s, intermediate), refusal) = wanted.map_or_else(|number| ((Stored::default(), 0), number), |s| (s, 0));
+    let Stored { kind, board, correction, rate, frequency, gain } = s;
+    Settings2 { frequency, kind, board, gain, rate, correction, intermediate, refusal }
+}
+
+fn read_settings_2(dice: &mut Dice, tally: &mut Tally, met: &mut Met, spoil: u64) {
+    let file = settings_file(dice);
+    let wanted = document::read_settings_2(&file);
+    *met.entry(match wanted {
+        Ok(_) if file[file.len() - 4] == 1 => "settings 2: read, edition 1",
+        Ok(_) => "settings 2: read",
+        Err(16) => "settings 2: read, refused 16",
+        Err(_) => "settings 2: read, refused 17",
+    })
+    .or_insert(0) += 1;
+    let mut given = Lent::holding(&file, dice.byte());
+    let (bytes, n) = given.slice();
+    // Safe: the pointer comes with the length of memory that is alive for the call.
+    let mut found = unsafe { pasetone_read_settings_2(bytes, n) };
+    match spoil {
+        1 => found.frequency ^= 1,
+        2 => found.gain ^= 1,
+        3 => found.correction ^= 1,
+        4 => found.refusal ^= 1,
+        5 => found.intermediate ^= 1,
+        6 => given.margin_mut()[0] ^= 1,
+        7 => found.board ^= 1,
+        _ => {}
+    }
+    tally.that(found == reply_2(wanted), || format!("settings 2: found {found:?}, must be {wanted:?}: {file:02x?}"));
+    tally.that(given.differs(&file).is_none(), || format!("reading settings 2 changed memory: {file:02x?}"));
+}
+
+/// A call that lays an image into a lent slice: what it must answer and leave. `image` is None where it is refused before the room is looked at.
+fn laid(lent: &mut Lent, found: Reply, wanted: &Result<Vec<u8>, u32>, spoil: u64, tally: &mut Tally, what: &dyn Fn() -> String) {
+    let mut found = found;
+    let room = lent.lent().len();
+    match spoil {
+        1 => found.value ^= 1,
+        2 => found.refusal ^= 1,
+        3 => found.index ^= 1,
+        4 => found.count ^= 1,
+        5 => lent.margin_mut()[0] ^= 1,
+        6 | 7 if room > 0 => lent.lent_mut()[room - 1] ^= 1,
+        6 | 7 => found.value ^= 1,
+        _ => {}
+    }
+    let wanted = wanted.as_ref().map_err(|&number| number).and_then(|image| if room < image.len() { Err(8) } else { Ok(image) });
+    let reply = Reply { value: wanted.map_or(0, |image| image.len() as u64), refusal: wanted.err().unwrap_or(0), ..Reply::default() };
+    tally.that(found == reply, || format!("found {found:?}, must be {reply:?}: {}", what()));
+    let bytes = wanted.map_or(&[][..], |image| image);
+    tally.that(lent.differs(bytes).is_none(), || format!("holds {:02x?}: {}", lent.lent(), what()));
+}
+
+fn room_for(dice: &mut Dice, need: u64) -> usize {
+    (if dice.below(3) == 0 { dice.below(need) } else { need + dice.below(20) }) as usize
+}
+
+fn write_settings_2(dice: &mut Dice, tally: &mut Tally, met: &mut Met, spoil: u64) {
+    let (s, if_hz, room) = (stored(dice), dice.spread() as u32, room_for(dice, 27));
+    let wanted = document::image_2(&s, if_hz).map(|image| image.to_vec());
+    *met.entry(match wanted {
+        Ok(_) if room >= 27 => "settings 2: written",
+        Ok(_) => "settings 2: written, refused 8",
+        Err(_) => "settings 2: written, refused 17",
+    })
+    .or_insert(0) += 1;
+    let mut lent = Lent::new(room, dice.byte());
+    let (out, n) = lent.slice();
+    // Safe: the pointer comes with the length of memory that is alive for the call.
+    let found = unsafe { pasetone_write_settings_2(s.kind, s.board, s.correction, s.rate, s.frequency, s.gain, if_hz, out, n) };
+    laid(&mut lent, found, &wanted, spoil, tally, &|| format!("settings 2: {s:?}, IF {if_hz}, {room} bytes"));
+}
+
+fn moved(dice: &mut Dice, tally: &mut Tally, met: &mut Met, spoil: u64, to: u8) {
+    let file = settings_file(dice);
+    let (wanted, need) = match to {
+        2 => (document::move_1_to_2(&file).map(|image| image.to_vec()), 27),
+        _ => (document::move_2_to_1(&file).map(|image| image.to_vec()), 23),
+    };
+    let room = room_for(dice, need);
+    let what = match (to, &wanted) {
+        (2, Ok(_)) if room < 27 => "move 1 to 2: refused 8",
+        (2, Ok(_)) => "move 1 to 2: done",
+        (2, Err(16)) => "move 1 to 2: refused 16",
+        (2, Err(_)) => "move 1 to 2: refused 17",
+        (_, Ok(_)) if room < 23 => "move 2 to 1: refused 8",
+        (_, Ok(_)) => "move 2 to 1: done",
+        (_, Err(18)) => "move 2 to 1: refused 18",
+        (_, Err(_)) => "move 2 to 1: refused 16 or 17",
+    };
+    *met.entry(what).or_insert(0) += 1;
+    let (mut given, mut lent) = (Lent::holding(&file, dice.byte()), Lent::new(room, dice.byte()));
+    let ((bytes, b), (out, n)) = (given.slice(), lent.slice());
+    // Safe: both pointers come with the length of memory that is alive for the call, and they are not of the same memory.
+    let found =
+        unsafe { if to == 2 { pasetone_move_settings_1_to_2(bytes, b, out, n) } else { pasetone_move_settings_2_to_1(bytes, b, out, n) } };
+    laid(&mut lent, found, &wanted, spoil, tally, &|| format!("moving to edition {to}: {file:02x?}, {room} bytes"));
+    tally.that(given.differs(&file).is_none(), || format!("moving settings changed memory: {file:02x?}"));
+}
+
+fn move_1_to_2(dice: &mut Dice, tally: &mut Tally, met: &mut Met, spoil: u64) {
+    moved(dice, tally, met, spoil, 2);
+}
+
+fn move_2_to_1(dice: &mut Dice, tally: &mut Tally, met: &mut Met, spoil: u64) {
+    moved(dice, tally, met, spoil, 1);
+}
+
 type Call = fn(&mut Dice, &mut Tally, &mut Met, u64);
 
 /// What is tried in each case, all of it.
-const CALLS: [(&str, Call); 3] = [("parting", parting), ("reading settings 1", read_settings_1), ("writing settings 1", write_settings_1)];
+const CALLS: [(&str, Call); 7] = [
+    ("parting", parting),
+    ("reading settings 1", read_settings_1),
+    ("writing settings 1", write_settings_1),
+    ("reading settings 2", read_settings_2),
+    ("writing settings 2", write_settings_2),
+    ("moving settings 1 to 2", move_1_to_2),
+    ("moving settings 2 to 1", move_2_to_1),
+];
 
 const SPOILS: u64 = 7;
 
@@ -362,35 +496,60 @@ fn run(who: &str, name: &str, times: u64) {
     let (one, two) = (&first[..], &second[..]);
     let s = Stored { kind: 1, board: 1, correction: -3, rate: 2_048_000, frequency: 100_000_000, gain: 28 };
     let (file, mut room) = (s.image_1().unwrap(), [0; 64]);
+    let wide = document::image_2(&s, document::USUAL_IF).unwrap();
+    let mut work: Box<dyn FnMut()> = match (who, name) {
+        ("rust", "parting") => Box::new(|| {
+            black_box(document::parting(black_box(one), black_box(two)));
+        }),
+        ("port", "parting") => Box::new(|| {
+            // Safe: both slices are alive.
+            black_box(unsafe { pasetone_parting(black_box(one).as_ptr(), one.len(), black_box(two).as_ptr(), two.len()) });
+        }),
+        ("rust", "read-settings-1") => Box::new(|| {
+            black_box(document::read_settings_1(black_box(&file)).is_ok());
+        }),
+        ("port", "read-settings-1") => Box::new(|| {
+            // Safe: the file is alive.
+            black_box(unsafe { pasetone_read_settings_1(black_box(&file).as_ptr(), file.len()) });
+        }),
+        ("rust", "write-settings-1") => Box::new(|| {
+            let image = black_box(s).image_1().unwrap();
+            black_box(&mut room)[..23].copy_from_slice(&image);
+        }),
+        ("port", "write-settings-1") => Box::new(|| {
+            let s = black_box(s);
+            // Safe: the room is alive.
+            black_box(unsafe {
+                pasetone_write_settings_1(s.kind, s.board, s.correction, s.rate, s.frequency, s.gain, room.as_mut_ptr(), room.len())
+            });
+        }),
+        ("rust", "read-settings-2") => Box::new(|| {
+            black_box(document::read_settings_2(black_box(&wide)).is_ok());
+        }),
+        ("port", "read-settings-2") => Box::new(|| {
+            // Safe: the file is alive.
+            black_box(unsafe { pasetone_read_settings_2(black_box(&wide).as_ptr(), wide.len()) });
+        }),
+        ("rust", "move-settings-1-to-2") => Box::new(|| {
+            let image = document::move_1_to_2(black_box(&file)).unwrap();
+            black_box(&mut room)[..27].copy_from_slice(&image);
+        }),
+        ("port", "move-settings-1-to-2") => Box::new(|| {
+            // Safe: file and room are alive, and not of the same memory.
+            black_box(unsafe { pasetone_move_settings_1_to_2(black_box(&file).as_ptr(), file.len(), room.as_mut_ptr(), room.len()) });
+        }),
+        ("rust", "move-settings-2-to-1") => Box::new(|| {
+            let image = document::move_2_to_1(black_box(&wide)).unwrap();
+            black_box(&mut room)[..23].copy_from_slice(&image);
+        }),
+        ("port", "move-settings-2-to-1") => Box::new(|| {
+            // Safe: file and room are alive, and not of the same memory.
+            black_box(unsafe { pasetone_move_settings_2_to_1(black_box(&wide).as_ptr(), wide.len(), room.as_mut_ptr(), room.len()) });
+        }),
+        _ => panic!("rust or port, and the name of a call"),
+    };
     for _ in 0..times {
-        match (who, name) {
-            ("rust", "parting") => {
-                black_box(document::parting(black_box(one), black_box(two)));
-            }
-            ("port", "parting") => {
-                // Safe: both slices are alive.
-                black_box(unsafe { pasetone_parting(black_box(one).as_ptr(), one.len(), black_box(two).as_ptr(), two.len()) });
-            }
-            ("rust", "read-settings-1") => {
-                black_box(document::read_settings_1(black_box(&file)).is_ok());
-            }
-            ("port", "read-settings-1") => {
-                // Safe: the file is alive.
-                black_box(unsafe { pasetone_read_settings_1(black_box(&file).as_ptr(), file.len()) });
-            }
-            ("rust", "write-settings-1") => {
-                let image = black_box(s).image_1().unwrap();
-                black_box(&mut room)[..23].copy_from_slice(&image);
-            }
-            ("port", "write-settings-1") => {
-                let s = black_box(s);
-                // Safe: the room is alive.
-                black_box(unsafe {
-                    pasetone_write_settings_1(s.kind, s.board, s.correction, s.rate, s.frequency, s.gain, room.as_mut_ptr(), room.len())
-                });
-            }
-            _ => panic!("rust or port, and the name of a call"),
-        }
+        work();
     }
 }
 
