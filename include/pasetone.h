@@ -37,8 +37,8 @@
  * low byte first, but for the data of a transfer. The slices of one call must be disjoint: nothing checks that. Slices by `const` pointer are
  * only read. Nothing is kept between calls and nothing is allocated, so calls for different receivers may run side by side.
  *
- * Refusals. The reply's `refusal` is 0 or one of the numbers below, in this order: a given record that is none (1); an argument (1 to 7, and 13
- * after 3 and 4); lent slices too short: room, and the slices for records and bytes that come back (8), outcomes (9), replies (10); then the
+ * Refusals. The reply's `refusal` is 0 or one of the numbers below, in this order: a given record that is none (1); an argument (1 to 7, 13
+ * after 3 and 4, 15 after 12); lent slices too short: room, and the slices for records and bytes that come back (8), outcomes (9), replies (10); then the
  * steps (11, or 2 in the PLL of a tuning). Settings on file are refused by their edition (16), then for the rest (17), then for an IF that a move
  * cannot say (18), then 8. Refused before any step: value, index and count are 0, and every lent byte is as it was. Refused by a step: value 0,
  * and the section and the next records are written, since the steps taken stand. `pasetone_stands` tells the two apart.
@@ -68,6 +68,7 @@ extern "C" {
 #define PASETONE_STEP 11        /* a step failed: `index` says which entry */
 #define PASETONE_SECTION 12     /* bytes that do not end in a section */
 #define PASETONE_RATIO 13       /* a rate that the resampler cannot hold: xtal * 2^22 / rate is below 4, 2^29 or more, or its bits 27 and 28 differ */
+#define PASETONE_EXPANSION 15   /* an entry that has no setup packets of its own, or bytes that no section expands to */
 #define PASETONE_EDITION 16     /* settings of another edition */
 #define PASETONE_SETTINGS 17    /* bytes that do not end in settings of that edition, or a kind, board or gain index that settings do not have */
 #define PASETONE_NOT_EXPRESSIBLE 18 /* settings of edition 2 whose IF edition 1 cannot say */
@@ -520,6 +521,31 @@ pasetone_reply pasetone_move_settings_1_to_2(const uint8_t *bytes, size_t bytes_
  * 23. Refuses 16 (also edition 1), 17, 18 (another IF), 8; then `out` is as it was.
  */
 pasetone_reply pasetone_move_settings_2_to_1(const uint8_t *bytes, size_t bytes_len, uint8_t *out, size_t out_len);
+
+/* ---- Setup packets of USB 2.0 ---- */
+
+/* A room of PASETONE_PACKETS_FOR(n) bytes holds the packets of every section of n entries, and PASETONE_PACKETS_BACK(n) the section of n bytes of packets. */
+#define PASETONE_PACKETS_MOST 18 /* bytes that an entry becomes: a demod write of two bytes, done */
+#define PASETONE_PACKET_LEAST 8  /* bytes that come back as one entry: a read */
+#define PASETONE_PACKETS_FOR(n) ((size_t)18 * (n))
+#define PASETONE_PACKETS_BACK(n) ((size_t)16 * ((n) / 8) + 8)
+
+/*
+ * The section in which `section` ends, as control transfers: for each entry 8 bytes (type 0x40 for a write and 0xc0 for a read, request 0, value, index and
+ * length, as the driver in Rust sends them) and a write's data; a read's data do not come. A demod write reported done has the read of page 0x0a, register 0x01
+ * after it. A repeater entry is the demod write of 0x18 (opens) or 0x10 (closes) at page 1, register 0x01; a wait is nothing. Value: how many bytes were written
+ * at the start of `out`, which are asked for exactly; the others stay. Refuses 12, 15 (a demod register above 0xff, a page above 15, block 0 or 6, whatever the
+ * outcome), 8.
+ */
+pasetone_reply pasetone_expand(const uint8_t *section, size_t section_len, uint8_t *out, size_t out_len);
+
+/*
+ * The other way: the section of the entries whose packets these are, all of them. It has no waits, outcomes and read data, and a repeater entry is the demod
+ * write that it became. So packets of a failed demod write come back as one that was done. No packets are the section of no entries. Value: how many bytes were
+ * written at the start of `out`, 16 for each entry and 8. Refuses 15 (bytes that no section expands to: a stray read of page 0x0a, a cut packet, more than
+ * 4,096 entries), 8.
+ */
+pasetone_reply pasetone_read_packets(const uint8_t *packets, size_t packets_len, uint8_t *out, size_t out_len);
 
 #ifdef __cplusplus
 }

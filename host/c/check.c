@@ -81,7 +81,7 @@ static void looked(const char *what, pasetone_tune_reply reply, uint32_t tries, 
 
 static void check_making(void)
 {
-    same("version", pasetone_version(), 0x00030300);
+    same("version", pasetone_version(), 0x00030400);
     done("fresh tuner", pasetone_tuner_new(PASETONE_R828D, 0x74, 28800000, TUNER), 0, 0);
     same("fresh kind", tuner[PASETONE_TUNER_KIND], PASETONE_R828D);
     same("fresh address", tuner[PASETONE_TUNER_ADDRESS], 0x74);
@@ -343,6 +343,27 @@ static void check_demod(void)
     refused("GPIO 8", pasetone_set_gpio_bit(8, 1, OUTCOMES, REPLIES, ROOM), PASETONE_PIN);
 }
 
+/* Document 02's worked packet both ways, and each refusal. */
+static void check_packets(void)
+{
+    static const uint8_t packets[17] = {0x40, 0, 0x20, 0x15, 0x11, 0, 1, 0, 0x05, 0xc0, 0, 0x20, 0x01, 0x0a, 0, 1, 0};
+    uint8_t outcome = 0, section[PASETONE_ROOM_FOR(1)], back[PASETONE_PACKETS_BACK(17)], out[PASETONE_PACKETS_FOR(1)];
+    pasetone_reply r = pasetone_write_reg_direct(1, 0x15, 0x05, &outcome, 1, section, sizeof section);
+    same("a write for packets", r.refusal, 0);
+    r = pasetone_expand(section, sizeof section, out, sizeof out);
+    same("packets, refusal", r.refusal, 0);
+    same("packets, length", r.value, 17);
+    same("packets", memcmp(out, packets, 17), 0);
+    r = pasetone_read_packets(packets, 17, back, sizeof back);
+    same("packets back, length", r.value, sizeof section);
+    same("packets back", memcmp(back, section, sizeof section), 0);
+    same("packets, room", pasetone_expand(section, sizeof section, out, 16).refusal, PASETONE_ROOM);
+    same("packets of no section", pasetone_expand(section, 23, out, sizeof out).refusal, PASETONE_SECTION);
+    same("a stray read", pasetone_read_packets(packets + 9, 8, back, sizeof back).refusal, PASETONE_EXPANSION);
+    section[2] = 16;
+    same("page 16", pasetone_expand(section, sizeof section, out, sizeof out).refusal, PASETONE_EXPANSION);
+}
+
 /* Both engines, at document 01's worked numbers and at the least N. */
 static void check_pll(void)
 {
@@ -366,6 +387,7 @@ static void check_numbers(void)
     static const uint8_t if_regs[] = {0x07, 0xee, 0xee}, resample[] = {0x03, 0x84, 0, 0};
     uint8_t out[4];
     check_pll();
+    check_packets();
     done("V4, 28,799,999", pasetone_plan_tuning(PASETONE_V4, 28799999, out, 3), 57599999, 0);
     same("inverted, HF, no notch", out[0] << 16 | out[1] << 8 | out[2], 0x010000);
     done("V4, 28,800,000", pasetone_plan_tuning(PASETONE_V4, 28800000, out, 3), 28800000, 0);

@@ -128,6 +128,8 @@ RUN(run_if_regs, pasetone_if_freq_regs((uint32_t)a->arg[0], (uint32_t)a->arg[1],
 RUN(run_resample, pasetone_resample_regs((uint32_t)a->arg[0], (uint32_t)a->arg[1], S(OUT)))
 RUN(run_pack, pasetone_pack_fir(S(INPUT), S(OUT)))
 RUN(run_unpack, pasetone_unpack_fir(S(INPUT), S(OUT)))
+RUN(run_expand, pasetone_expand(S(INPUT), S(OUT)))
+RUN(run_hear, pasetone_read_packets(S(INPUT), S(OUT)))
 
 /* Arguments. A record has been judged before these are asked. */
 
@@ -204,13 +206,20 @@ static uint32_t fields_args(const struct attempt *a)
     return fields_model(a->arg);
 }
 
+static uint32_t packets_args(const struct attempt *a)
+{
+    const uint8_t *bytes;
+    size_t length;
+    return packets_model(a, &bytes, &length);
+}
+
 /* Values of done calls. */
 
 #define VALUE(name, expression) \
     static uint64_t name(const struct attempt *a) { return (void)a, (expression); }
 
 VALUE(nothing, 0)
-VALUE(version_value, 0x00030300)
+VALUE(version_value, 0x00030400)
 VALUE(asked, a->arg[0])
 VALUE(gain_set, number_at(a->at[NEXT] + PASETONE_TUNER_GAIN, 4))
 VALUE(gain_held, number_at(a->before[TUNER] + PASETONE_TUNER_GAIN, 4))
@@ -261,6 +270,14 @@ static uint64_t either_value(const struct attempt *a)
 }
 
 VALUE(written_value, a->call->out)
+
+static uint64_t packets_value(const struct attempt *a)
+{
+    const uint8_t *bytes;
+    size_t length;
+    packets_model(a, &bytes, &length);
+    return length;
+}
 
 #define FREE (HAS(OUTCOMES) | HAS(ROOM))
 #define STEPS (HAS(TUNER) | FREE | HAS(NEXT))
@@ -314,5 +331,7 @@ const struct call calls[] = {
     {"write_settings_2", SETTINGS_WRITE, HAS(OUT), 0, 0, 27, "17 8", run_write_settings_2, fields_args, written_value},
     {"move_settings_1_to_2", SETTINGS_MOVE, HAS(INPUT) | HAS(OUT), 0, 0, 27, "16 17 8", run_move_1_to_2, move_args, written_value},
     {"move_settings_2_to_1", SETTINGS_MOVE, HAS(INPUT) | HAS(OUT), 0, 0, 23, "16 17 18 8", run_move_2_to_1, move_args, written_value},
+    {"expand", EXPANDING, HAS(INPUT) | HAS(OUT), 0, 0, 0, "12 15 8", run_expand, packets_args, packets_value},
+    {"read_packets", HEARING, HAS(INPUT) | HAS(OUT), 0, 0, 0, "15 8", run_hear, packets_args, packets_value},
 };
 const unsigned call_count = sizeof calls / sizeof *calls;

@@ -14,8 +14,8 @@ enum slot { TUNER, DRIVER, INPUT, SECOND, OUTCOMES, REPLIES, ROOM, NEXT, NEXT_DR
 /* Fields of settings on file. */
 #define FIELDS 7
 
-/* The longest slice: 4,097 entries with their trailer, one more than a section may have, and some bytes before. */
-#define LONGEST (16 * 4097 + 8 + 64)
+/* The longest slice: the packets of 4,097 entries, one more than a section may have, and some bytes more. The entries with their trailer are shorter. */
+#define LONGEST (18 * 4097 + 8 + 64)
 
 /* What sets a call apart. */
 enum way {
@@ -28,7 +28,9 @@ enum way {
     PARTING,       /* compares the sections of INPUT and SECOND */
     SETTINGS_READ, /* reads settings at the end of INPUT */
     SETTINGS_WRITE, /* writes an image of the arguments into OUT */
-    SETTINGS_MOVE   /* writes the image at the end of INPUT in the other edition into OUT */
+    SETTINGS_MOVE,  /* writes the image at the end of INPUT in the other edition into OUT */
+    EXPANDING, /* answers as many bytes as its input asks for, as does HEARING */
+    HEARING
 };
 
 struct attempt;
@@ -114,7 +116,15 @@ uint32_t either_model(const uint8_t *bytes, size_t n, uint64_t *fields);
 uint32_t move_model(const struct attempt *a, uint64_t *fields);
 uint32_t refusal_before_steps(const struct attempt *a);
 int without_steps(const struct attempt *a);
-size_t needed(const struct call *call, enum slot slot);
+size_t needed(const struct attempt *a, enum slot slot);
+int entry_fits(const uint8_t *e);
+
+/* packets.c: the same from document 02 */
+uint32_t expand_model(const uint8_t *bytes, size_t n, uint8_t *to, size_t *length);
+uint32_t hear_model(const uint8_t *bytes, size_t n, uint8_t *to, size_t *length);
+uint32_t packets_model(const struct attempt *a, const uint8_t **bytes, size_t *length);
+void tame(uint8_t *e);
+void make_packets(struct attempt *a);
 
 /* judge.c: what is wrong, or a null pointer */
 const char *judge(const struct attempt *a);

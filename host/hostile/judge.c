@@ -17,7 +17,7 @@ static size_t written(const struct attempt *a, int slot)
     case NEXT:
     case NEXT_DRIVER:
     case OUT:
-        return needed(a->call, (enum slot)slot);
+        return needed(a, (enum slot)slot);
     default:
         return 0;
     }
@@ -179,6 +179,14 @@ static const char *judge_lock(const struct attempt *a)
 static const char *judge_stepless(const struct attempt *a)
 {
     uint64_t start, count = 0;
+    const uint8_t *bytes;
+    size_t length;
+    if (a->call->way == EXPANDING || a->call->way == HEARING) {
+        packets_model(a, &bytes, &length);
+        if (memcmp(a->at[OUT], bytes, length) != 0) {
+            return "the packets or entries are others";
+        }
+    }
     if (a->call->way == READER) {
         read_model(a->before[INPUT], a->n[INPUT], &start, &count);
     } else if (a->call->way == PARTING) {

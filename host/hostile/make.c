@@ -128,6 +128,9 @@ static void make_section(struct attempt *a)
     random_bytes(bytes, start);
     for (i = 0; i < count; i++) {
         make_entry(bytes + start + 16 * i);
+        if (a->call->way != READER && below(16) > 0) {
+            tame(bytes + start + 16 * i);
+        }
     }
     a->n[INPUT] = start + 16 * count + 8;
     put_u32(bytes + a->n[INPUT] - 8, count);
@@ -169,8 +172,11 @@ static void make_input(struct attempt *a)
         make_settings(a);
         return;
     }
-    if (a->call->way == READER || a->call->way == PARTING) {
+    if (a->call->way == READER || a->call->way == PARTING || a->call->way == EXPANDING || a->call->way == HEARING) {
         make_section(a);
+        if (a->call->way == HEARING) {
+            make_packets(a);
+        }
         return;
     }
     a->n[INPUT] = a->call->out == PASETONE_FIR_SIZE ? PASETONE_FIR_VALUES_SIZE : PASETONE_FIR_SIZE;
@@ -252,7 +258,7 @@ void make_attempt(struct attempt *a, const struct call *call)
         } else if (slot == SECOND) {
             make_second(a);
         } else {
-            a->n[slot] = make_length(needed(call, (enum slot)slot), enough || below(3) > 0);
+            a->n[slot] = make_length(needed(a, (enum slot)slot), enough || below(3) > 0);
             random_bytes(a->before[slot], a->n[slot]);
         }
     }

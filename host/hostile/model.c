@@ -113,7 +113,7 @@ static int row_fits(const uint8_t *e)
     return (rows[e[0]].target || e[2] == 0) && (rows[e[0]].address || (e[4] == 0 && e[5] == 0));
 }
 
-static int entry_fits(const uint8_t *e)
+int entry_fits(const uint8_t *e)
 {
     int failed_read, i;
     if (!row_fits(e) || (e[0] == 1 && e[8] > 1) || (e[0] == 9 && e[1] != 0)) {
@@ -150,8 +150,11 @@ uint32_t read_model(const uint8_t *bytes, size_t n, uint64_t *start, uint64_t *c
     return 0;
 }
 
-size_t needed(const struct call *call, enum slot slot)
+size_t needed(const struct attempt *a, enum slot slot)
 {
+    const struct call *call = a->call;
+    const uint8_t *bytes;
+    size_t length;
     switch (slot) {
     case OUTCOMES:
         return call->entries;
@@ -164,7 +167,11 @@ size_t needed(const struct call *call, enum slot slot)
     case NEXT_DRIVER:
         return PASETONE_DRIVER_SIZE;
     case OUT:
-        return call->out;
+        if (call->way != EXPANDING && call->way != HEARING) {
+            return call->out;
+        }
+        packets_model(a, &bytes, &length);
+        return length;
     default:
         return 0;
     }
@@ -178,7 +185,7 @@ int without_steps(const struct attempt *a)
 
 static int too_short(const struct attempt *a, enum slot slot)
 {
-    return (a->call->slots & HAS(slot)) && a->n[slot] < needed(a->call, slot);
+    return (a->call->slots & HAS(slot)) && a->n[slot] < needed(a, slot);
 }
 
 /* 0, or the number that every byte has to stay as it was for. */

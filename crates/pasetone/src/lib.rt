@@ -14,6 +14,7 @@ ghost use Rattle.board.specs.Numbers.{pathOf};
 ghost use Rattle.driver.specs.Calls.{boardRow};
 ghost use Rattle.drivers.specs.Drivers as driver;
 ghost use Rattle.drivers.specs.Drivers.{ppmInto, rateOver, rates, xtalOver};
+ghost use Rattle.expansion.specs.Expansion.{expandInto, readInto};
 ghost use Rattle.r82xx.specs.Orders.{courseOf};
 ghost use Rattle.r82xx.specs.Orders.Order.{Initialize, Reload, Bandwidth, IfFreq, Gain, GainIndex, InputPath, Tune, Shadow, Ppm, Notch, GainTold, IfTold};
 ghost use Rattle.parting.specs.Parting.{partingOf};
@@ -34,12 +35,12 @@ use settings::Reply2;
 use settings::Settings;
 use settings::Settings2;
 
-// 3.3.0: the major number times 65,536, the minor times 256, the patch.
+// 3.4.0: the major number times 65,536, the minor times 256, the patch.
 #[no_mangle]
 pub extern "C" fn pasetone_version() -> u32
-    ensures { λ r. ⌜ r ≡ 197376 ⌝ }
+    ensures { λ r. ⌜ r ≡ 197632 ⌝ }
 {
-    0x0003_0300
+    0x0003_0400
 }
 
 // The tuner: src/tuners/r82xx.rs.
@@ -581,5 +582,22 @@ pub extern "C" fn pasetone_move_settings_2_to_1(bytes: &[u8], out: &mut [u8]) ->
     ensures { λ r. ⌜ lent r (now (out .exit)) ≡ lentBy (movedTo1 (now (bytes .entry)) (now (out .entry))) ⌝ }
 {
     let answer = settings::move_2_to_1(bytes, out);
+    replies::numbers(answer, 0)
+}
+
+// Setup packets for the replay box: document 02, #107.
+#[no_mangle]
+pub extern "C" fn pasetone_expand(section: &[u8], out: &mut [u8]) -> Reply
+    ensures { λ r. ⌜ lent r (now (out .exit)) ≡ lentBy (expandInto (now (section .entry)) (now (out .entry))) ⌝ }
+{
+    let answer = expansion::expand(section, out);
+    replies::numbers(answer, 0)
+}
+
+#[no_mangle]
+pub extern "C" fn pasetone_read_packets(packets: &[u8], out: &mut [u8]) -> Reply
+    ensures { λ r. ⌜ lent r (now (out .exit)) ≡ lentBy (readInto (now (packets .entry)) (now (out .entry))) ⌝ }
+{
+    let answer = expansion::read_packets(packets, out);
     replies::numbers(answer, 0)
 }

@@ -35,6 +35,8 @@ pub enum Error {
     Section,
     /// 13: a rate that the resampler cannot hold with the reference.
     Ratio,
+    /// 15: an entry that has no setup packets of its own, or bytes that no section expands to.
+    Expansion,
     /// 16: settings of another edition.
     Edition,
     /// 17: bytes that do not end in settings, or a gain index above 28.
@@ -61,6 +63,7 @@ impl Error {
             11 => Error::Step { index: index as usize },
             12 => Error::Section,
             13 => Error::Ratio,
+            15 => Error::Expansion,
             16 => Error::Edition,
             17 => Error::Settings,
             18 => Error::NotExpressible,
@@ -84,6 +87,7 @@ impl Error {
             Error::Step { .. } => 11,
             Error::Section => 12,
             Error::Ratio => 13,
+            Error::Expansion => 15,
             Error::Edition => 16,
             Error::Settings => 17,
             Error::NotExpressible => 18,
@@ -106,6 +110,7 @@ impl Error {
             Error::Step { .. } => "step",
             Error::Section => "section",
             Error::Ratio => "ratio",
+            Error::Expansion => "expansion",
             Error::Edition => "edition",
             Error::Settings => "settings",
             Error::NotExpressible => "not expressible",
@@ -139,6 +144,9 @@ impl Error {
             Error::Section => "the bytes do not end in a section: give a whole one, its trailer last",
             Error::Ratio => {
                 "the resampler cannot hold the ratio of reference and rate: with a reference of 28800000 Hz give a rate from 225001 to 300000, or from 900001"
+            }
+            Error::Expansion => {
+                "a demod register above 0xff, a page above 15, or block 0 or 6 has no setup packets of its own; or the bytes are no section's packets: give all of them, from the first"
             }
             Error::Edition => "the settings are of another edition: read them by its own functions",
             Error::Settings => "the bytes do not end in settings, or a gain index is above 28: give a whole image, its trailer last",

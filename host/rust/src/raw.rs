@@ -258,6 +258,8 @@ unsafe extern "C" {
         out: BytesMut,
         n: usize,
     ) -> Reply;
+    pub fn pasetone_expand(section: Bytes, s: usize, out: BytesMut, n: usize) -> Reply;
+    pub fn pasetone_read_packets(packets: Bytes, p: usize, out: BytesMut, n: usize) -> Reply;
 }
 
 impl Reply {

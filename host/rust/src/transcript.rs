@@ -11,6 +11,18 @@ pub(crate) const fn room_for(entries: usize) -> usize {
     ENTRY * entries + TRAILER
 }
 
+/// Most bytes of packets that an entry becomes, and fewest that come back as one.
+const MOST_PACKET_BYTES: usize = 18;
+const LEAST_PACKET: usize = 8;
+
+/// The bytes that a call wrote at the start of a slice of this length: its value says how many.
+fn lent(most: usize, call: impl FnOnce(raw::BytesMut, usize) -> raw::Reply) -> Result<Vec<u8>, Error> {
+    let mut out = alloc::vec![0; most];
+    let written = call(out.as_mut_ptr(), out.len()).result()?;
+    out.truncate(written as usize);
+    Ok(out)
+}
+
 /// What a step is.
 #[derive(Clone, Copy, Debug, PartialEq, Eq, Hash)]
 pub enum EntryKind {
@@ -207,6 +219,42 @@ impl Transcript {
     /// The section's bytes, its trailer included: what [`Transcript::read`] takes. Where no step was taken there are none.
     pub fn bytes(&self) -> &[u8] {
         &self.section
+    }
+
+    /// The steps as USB control transfers, as the driver in Rust sends them: 8-byte setup packets, each with the data of a write. A demod write that was done has
+    /// the read of page 0x0a after it; a wait is nothing. Where no step was taken there are none.
+    ///
+    /// ```
+    /// let written = pasetone::demod::write_reg_direct(1, 0x15, 0x05, &pasetone::Script::all_done()).transcript;
+    /// let packets = written.packets()?;
+    /// assert_eq!(packets, [0x40, 0, 0x20, 0x15, 0x11, 0, 1, 0, 0x05, 0xc0, 0, 0x20, 0x01, 0x0a, 0, 1, 0]);
+    /// assert_eq!(pasetone::Transcript::of_packets(&packets)?, written);
+    /// # Ok::<(), pasetone::Error>(())
+    /// ```
+    ///
+    /// # Errors
+    ///
+    /// - [`Error::Expansion`] (15): an entry has a demod register above 0xff, a page above 15, or block 0 or 6.
+    pub fn packets(&self) -> Result<Vec<u8>, Error> {
+        if self.section.is_empty() {
+            return Ok(Vec::new());
+        }
+        // SAFETY: see raw.rs; the section is only read, and `out` is another slice.
+        lent(MOST_PACKET_BYTES * self.len(), |out, n| unsafe { raw::pasetone_expand(self.section.as_ptr(), self.section.len(), out, n) })
+    }
+
+    /// The steps whose packets these are, without waits, outcomes and read data: each write and read as if it was done, a read's data zeros. A repeater entry comes
+    /// back as the demod write that it became.
+    ///
+    /// # Errors
+    ///
+    /// - [`Error::Expansion`] (15): no section has these packets.
+    pub fn of_packets(packets: &[u8]) -> Result<Transcript, Error> {
+        // SAFETY: see raw.rs; the packets are only read, and `out` is another slice.
+        let section = lent(room_for(packets.len() / LEAST_PACKET), |out, n| unsafe {
+            raw::pasetone_read_packets(packets.as_ptr(), packets.len(), out, n)
+        })?;
+        Ok(Transcript { section })
     }
 
     /// How many entries there are.

@@ -235,6 +235,29 @@ fn pll_plans() {
     }
 }
 
+/// Document 02's worked packet, and what packets do not tell: waits, outcomes, read data and that a demod write was the repeater.
+#[test]
+fn setup_packets() {
+    let written = demod::write_reg_direct(1, 0x15, 0x05, &done()).transcript;
+    let packets = written.packets().unwrap();
+    assert_eq!(packets, [0x40, 0, 0x20, 0x15, 0x11, 0, 1, 0, 0x05, 0xc0, 0, 0x20, 0x01, 0x0a, 0, 1, 0]);
+    assert_eq!(Transcript::of_packets(&packets), Ok(written));
+    let failed = demod::write_reg_direct(1, 0x15, 0x05, &done().failing(0).unwrap()).transcript;
+    assert_eq!(failed.packets().unwrap(), packets[..9]);
+    assert!(!Transcript::of_packets(&packets[..9]).unwrap().get(0).unwrap().failed);
+    for (page, address) in [(16, 0x15), (1, 0x100)] {
+        assert_eq!(demod::write_reg_direct(page, address, 0, &done()).transcript.packets(), Err(Error::Expansion));
+    }
+    assert_eq!(Transcript::of_packets(&packets[9..]), Err(Error::Expansion));
+    assert_eq!(Transcript::of_packets(&packets[..8]), Err(Error::Expansion));
+    assert_eq!(Transcript::of_packets(&[]).map(|none| none.len()), Ok(0));
+    assert_eq!(Transcript::default().packets(), Ok(vec![]));
+    let tuned = r828d().set_bandwidth(2_048_000, &done()).transcript;
+    let back = Transcript::of_packets(&tuned.packets().unwrap()).unwrap();
+    let words: Vec<String> = back.iter().map(|entry| entry.words()).collect();
+    assert_eq!(words, ["demod write, page 1: 0x0001 <- 18", "I2C write 0x74: 0x0a <- d8", "demod write, page 1: 0x0001 <- 10"]);
+}
+
 #[test]
 fn demodulator_and_gpio() {
     let counts = [
@@ -285,7 +308,8 @@ fn errors_have_numbers_and_words() {
     assert_eq!((Error::Coefficient.number(), Error::Coefficient.word()), (7, "coefficient"));
     assert_eq!((Error::Ratio.number(), Error::Ratio.word()), (13, "ratio"));
     assert_eq!(Transcript::read(&[]).map(|_| ()).unwrap_err().number(), 12);
-    assert_eq!(pasetone::version(), (3, 3, 0));
+    assert_eq!(pasetone::version(), (3, 4, 0));
+    assert_eq!((Error::Expansion.number(), Error::Expansion.word()), (15, "expansion"));
 }
 
 /// Where two nights part: a write's data count, outcomes and read data do not, and the longer one goes on.

@@ -2,6 +2,7 @@
 //! Every row has a twin without the original: the same count of entries put into the recorder by hand.
 use crate::cases::replies_for;
 use crate::page;
+use crate::plain;
 use crate::records::{Driver, Tuner};
 use crate::run::{self, block_on};
 use original::demod;
@@ -67,6 +68,8 @@ pub fn rows() -> Vec<(&'static str, usize, Work)> {
         ),
         ("plan-pll", 0, planned()),
         ("plan-pll-by-worksheet", 0, planned()),
+        ("packets-expand", 0, expanded()),
+        ("packets-read", 0, read_back()),
     ]
 }
 
@@ -74,6 +77,23 @@ pub fn rows() -> Vec<(&'static str, usize, Work)> {
 fn planned() -> Work {
     Box::new(|| {
         black_box(page::pll(black_box(1), black_box(28_800_000), black_box(102_300_000)));
+    })
+}
+
+/// Nor has it these: a plain writing of the same job, on a section of 4,096 entries (plain.rs).
+fn expanded() -> Work {
+    let (section, mut out) = (plain::section(4096), vec![0; 18 * 4096]);
+    Box::new(move || {
+        black_box(plain::expand(black_box(&section), black_box(&mut out))).expect("it expands");
+    })
+}
+
+fn read_back() -> Work {
+    let (mut packets, mut out) = (vec![0; 18 * 4096], vec![0; 16 * 4096 + 8]);
+    let size = plain::expand(&plain::section(4096), &mut packets).expect("it expands");
+    packets.truncate(size);
+    Box::new(move || {
+        black_box(plain::read(black_box(&packets), black_box(&mut out))).expect("they are packets");
     })
 }
 

@@ -125,4 +125,6 @@ unsafe extern "C" {
     pub fn pasetone_move_settings_1_to_2(bytes: In, bn: N, out: Out, mn: N) -> Reply;
     pub fn pasetone_move_settings_2_to_1(bytes: In, bn: N, out: Out, mn: N) -> Reply;
     pub fn pasetone_write_settings_1(kind: u64, board: u64, correction: i32, rate: u32, frequency: u64, gain: u64, out: Out, mn: N) -> Reply;
+    pub fn pasetone_expand(section: In, sn: N, out: Out, mn: N) -> Reply;
+    pub fn pasetone_read_packets(packets: In, pn: N, out: Out, mn: N) -> Reply;
 }

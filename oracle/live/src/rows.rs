@@ -4,6 +4,7 @@
 use crate::ffi::*;
 use harness::cases::replies_for;
 use harness::page;
+use harness::plain;
 use harness::records::{Driver, Tuner};
 use harness::speed::Work;
 use std::hint::black_box;
@@ -117,6 +118,23 @@ fn part(bytes: &[u8]) -> (*const u8, usize) {
     (bytes.as_ptr(), bytes.len())
 }
 
+/// A section as packets, or packets as a section; what comes back is what the plain writing gives.
+fn packets(call: unsafe extern "C" fn(*const u8, usize, *mut u8, usize) -> Reply, input: Vec<u8>, most: usize) -> Work {
+    let mut out = vec![0; most];
+    Box::new(move || {
+        let (i, n) = part(black_box(&input));
+        let reply = black_box(unsafe { call(i, n, out.as_mut_ptr(), out.len()) });
+        assert_eq!(reply.refusal, 0);
+    })
+}
+
+fn expanded() -> Vec<u8> {
+    let mut bytes = vec![0; 18 * 4096];
+    let size = plain::expand(&plain::section(4096), &mut bytes).expect("it expands");
+    bytes.truncate(size);
+    bytes
+}
+
 /// Name, entries, work. The names are those of harness::speed::rows; the last two have no twin there.
 pub fn rows() -> Vec<(&'static str, usize, Work)> {
     let (no_lock, at_once) = (replies_for(0, None, 0), replies_for(0, Some(0), 0));
@@ -130,6 +148,8 @@ pub fn rows() -> Vec<(&'static str, usize, Work)> {
         ("baseband", 45, work(21, vec![], 45, baseband)),
         ("plan-pll", 0, work(39, vec![], 0, plan)),
         ("plan-pll-by-worksheet", 0, work(40, vec![], 0, plan_by_worksheet)),
+        ("packets-expand", 0, packets(pasetone_expand, plain::section(4096), 18 * 4096)),
+        ("packets-read", 0, packets(pasetone_read_packets, expanded(), 16 * 4096 + 8)),
         ("read-record", 0, work(14, vec![], 0, read)),
         ("read-and-write-record", 0, work(12, vec![], 0, read_and_write)),
     ]

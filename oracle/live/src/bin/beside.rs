@@ -25,6 +25,10 @@ fn time() {
     for (name, entries, mut port) in rows::rows() {
         let mut rust = others.next();
         assert!(rust.as_ref().is_none_or(|row| row.0 == name), "the rows are the same ones");
+        // A whole section of 4,096 entries: its instructions are counted, its time is not taken.
+        if name.starts_with("packets-") {
+            continue;
+        }
         let (mut least_rust, mut least_port) = (f64::MAX, f64::MAX);
         for _ in 0..ROUNDS {
             if let Some((_, _, rust)) = &mut rust {

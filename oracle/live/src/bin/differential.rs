@@ -16,8 +16,8 @@ use live::sabotage::{SPOILS, spoiled};
 use live::{document, ffi, numbers, port, raw, rules};
 use std::collections::BTreeMap;
 
-/// The version that the boundary is written against: 3.3.0.
-const VERSION: u32 = 0x0003_0300;
+/// The version that the boundary is written against: 3.4.0.
+const VERSION: u32 = 0x0003_0400;
 
 fn class(given: &Given, wanted: &Answer, tally: &mut Tally) -> Class {
     let row = rules::row(given);

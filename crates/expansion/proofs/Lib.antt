@@ -1,0 +1,4 @@
+pub mod Turns
+pub mod Hearing
+pub mod Cases
+pub mod Exact

@@ -1,0 +1,22 @@
+-- `packets::sync_at` meets its contract: eight bytes are there, and their number is that of the read.
+-- Assumes nothing.
+use denote.Ref.{now}
+use Rattle.packets.proofs.Reading.{no-sync, sync-told}
+use borrow.Author.Needs.{needs}
+use Rattle.packets.proofs.sync_at.Statement.{statement}
+use Rattle.packets.proofs.sync_at.Tie as tie
+
+sub-if1 : tie.Need-sub-if1
+sub-if1 c = search needs
+
+returns : tie.Need-returns
+returns c = no-sync (now (c .before .before .args .s)) (c .before .before .args .at) (c .if1 .taken)
+
+get-requires : tie.Need-get-requires
+get-requires c κs = search needs
+
+returns-2 : tie.Need-returns-2
+returns-2 c = sync-told (now (c .before .before .before .args .s)) (c .before .before .before .args .at) (c .get .result) (c .before .if1 .left) (c .get .ensures .0)
+
+pub sync-at-spec : {M : Type 1} → statement M
+sync-at-spec = tie.close (tie.spec sub-if1 returns get-requires returns-2)
