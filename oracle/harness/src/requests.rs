@@ -86,7 +86,9 @@ fn with_true_rate(case: &Case, mut answer: Answer) -> Answer {
             made.iter().find(|entry| entry[0] == 5 && entry[4] == register).map_or(0, |entry| (entry[8] as u64) << 8 | entry[9] as u64)
         };
         let actual = ((xtal as u64) << 22) / (written(0x9f) << 16 | written(0xa1));
-        answer.driver = Some(Driver { rate: case.a as u32, actual, ..given }.bytes());
+        // The rate asked is the one that the Rust has recorded.
+        let next = answer.driver.as_deref().and_then(Driver::read).expect("a record");
+        answer.driver = Some(Driver { actual, ..next }.bytes());
     }
     answer
 }
