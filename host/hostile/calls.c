@@ -51,18 +51,18 @@ static pasetone_reply run_parting(struct attempt *a)
     return reply;
 }
 
+/* The fields that both editions have. */
+#define TAKE(fields, told)                                                                                                                            \
+    ((fields)[0] = (told).kind, (fields)[1] = (told).board, (fields)[2] = (uint32_t)(told).correction, (fields)[3] = (told).rate,                    \
+     (fields)[4] = (told).frequency, (fields)[5] = (told).gain)
+
 /* Settings that were read: all fields as one value, and `zero`, which must be one, as index. */
 static pasetone_reply run_read_settings_1(struct attempt *a)
 {
     pasetone_settings_1 told = pasetone_read_settings_1(S(INPUT));
     uint64_t fields[FIELDS] = {0};
     pasetone_reply reply = {0, 0, 0, 0};
-    fields[0] = told.kind;
-    fields[1] = told.board;
-    fields[2] = (uint32_t)told.correction;
-    fields[3] = told.rate;
-    fields[4] = told.frequency;
-    fields[5] = told.gain;
+    TAKE(fields, told);
     reply.value = fields_value(fields, told.refusal);
     reply.index = told.zero;
     reply.refusal = told.refusal;
@@ -75,12 +75,7 @@ static pasetone_reply run_read_settings_2(struct attempt *a)
     pasetone_settings_2 told = pasetone_read_settings_2(S(INPUT));
     uint64_t fields[FIELDS] = {0};
     pasetone_reply reply = {0, 0, 0, 0};
-    fields[0] = told.kind;
-    fields[1] = told.board;
-    fields[2] = (uint32_t)told.correction;
-    fields[3] = told.rate;
-    fields[4] = told.frequency;
-    fields[5] = told.gain;
+    TAKE(fields, told);
     fields[6] = told.intermediate;
     reply.value = fields_value(fields, told.refusal);
     reply.refusal = told.refusal;

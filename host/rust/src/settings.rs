@@ -34,6 +34,18 @@ impl Settings {
     /// The bytes of an image of edition 1, its trailer included.
     pub const SIZE_1: usize = 23;
 
+    /// By the numbers that the library tells: a kind and a board of 0 or 1, a gain index of at most 28.
+    fn told(kind: u64, board: u64, correction: i32, rate: u32, frequency: u64, gain: u64) -> Settings {
+        Settings {
+            kind: if kind == 0 { TunerKind::R820t } else { TunerKind::R828d },
+            board: if board == 0 { Board::Generic } else { Board::V4 },
+            correction,
+            rate,
+            frequency,
+            gain_index: gain as u8,
+        }
+    }
+
     /// The settings of edition 1 in which `bytes` end; what stands before them is not looked at.
     ///
     /// # Errors
@@ -45,14 +57,7 @@ impl Settings {
         let read = unsafe { raw::pasetone_read_settings_1(bytes.as_ptr(), bytes.len()) };
         match Error::of(read.refusal, 0) {
             Some(error) => Err(error),
-            None => Ok(Settings {
-                kind: if read.kind == 0 { TunerKind::R820t } else { TunerKind::R828d },
-                board: if read.board == 0 { Board::Generic } else { Board::V4 },
-                correction: read.correction,
-                rate: read.rate,
-                frequency: read.frequency,
-                gain_index: read.gain as u8,
-            }),
+            None => Ok(Settings::told(read.kind, read.board, read.correction, read.rate, read.frequency, read.gain)),
         }
     }
 
@@ -114,14 +119,7 @@ impl Settings2 {
         match Error::of(read.refusal, 0) {
             Some(error) => Err(error),
             None => Ok(Settings2 {
-                settings: Settings {
-                    kind: if read.kind == 0 { TunerKind::R820t } else { TunerKind::R828d },
-                    board: if read.board == 0 { Board::Generic } else { Board::V4 },
-                    correction: read.correction,
-                    rate: read.rate,
-                    frequency: read.frequency,
-                    gain_index: read.gain as u8,
-                },
+                settings: Settings::told(read.kind, read.board, read.correction, read.rate, read.frequency, read.gain),
                 if_hz: read.intermediate,
             }),
         }

@@ -3,7 +3,7 @@ use crate::page;
 
 const SYNC: [u8; 8] = [0xc0, 0, 0x20, 1, 0x0a, 0, 1, 0];
 
-/// A section of this many entries of all kinds, each with packets of its own.
+/// A section of this many entries of every kind but a block write of one byte.
 pub fn section(count: usize) -> Vec<u8> {
     let kinds: [[u8; 16]; 9] = [
         [1, 0, 0, 1, 0, 0, 0, 0, 1, 0, 0, 0, 0, 0, 0, 0],

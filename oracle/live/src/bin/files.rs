@@ -303,37 +303,19 @@ fn read_settings_1(dice: &mut Dice, tally: &mut Tally, met: &mut Met, spoil: u64
 }
 
 fn write_settings_1(dice: &mut Dice, tally: &mut Tally, met: &mut Met, spoil: u64) {
-    let s = stored(dice);
-    let room = if dice.below(3) == 0 { dice.below(23) } else { 23 + dice.below(20) } as usize;
-    let wanted = s.image_1().and_then(|image| if room < image.len() { Err(8) } else { Ok(image.to_vec()) });
+    let (s, room) = (stored(dice), room_for(dice, 23));
+    let wanted = s.image_1().map(|image| image.to_vec());
     *met.entry(match wanted {
-        Ok(_) => "settings 1: written",
-        Err(17) => "settings 1: written, refused 17",
-        Err(_) => "settings 1: written, refused 8",
+        Ok(_) if room >= 23 => "settings 1: written",
+        Ok(_) => "settings 1: written, refused 8",
+        Err(_) => "settings 1: written, refused 17",
     })
     .or_insert(0) += 1;
     let mut lent = Lent::new(room, dice.byte());
     let (out, n) = lent.slice();
     // Safe: the pointer comes with the length of memory that is alive for the call.
-    let mut found = unsafe { pasetone_write_settings_1(s.kind, s.board, s.correction, s.rate, s.frequency, s.gain, out, n) };
-    match spoil {
-        1 => found.value ^= 1,
-        2 => found.refusal ^= 1,
-        3 => found.index ^= 1,
-        4 => found.count ^= 1,
-        5 => lent.margin_mut()[0] ^= 1,
-        6 | 7 if room > 0 => lent.lent_mut()[room - 1] ^= 1,
-        6 | 7 => found.value ^= 1,
-        _ => {}
-    }
-    let reply = Reply {
-        value: wanted.as_ref().map_or(0, |image| image.len() as u64),
-        refusal: wanted.as_ref().map_or_else(|number| *number, |_| 0),
-        ..Reply::default()
-    };
-    tally.that(found == reply, || format!("settings 1: found {found:?}, must be {reply:?}: {s:?}, {room} bytes"));
-    let bytes = wanted.unwrap_or_default();
-    tally.that(lent.differs(&bytes).is_none(), || format!("settings 1: {:02x?} for {s:?}, {room} bytes", lent.lent()));
+    let found = unsafe { pasetone_write_settings_1(s.kind, s.board, s.correction, s.rate, s.frequency, s.gain, out, n) };
+    laid(&mut lent, found, &wanted, spoil, tally, &|| format!("settings 1: {s:?}, {room} bytes"));
 }
 
 /// As the port tells it.
