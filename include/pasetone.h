@@ -2,7 +2,7 @@
  * Pasetone: control of an RTL2832U receiver with an R820T or R828D tuner, after rtlsdr-next. This header is the manual of libpasetone.a.
  *
  * The library talks to no hardware, reads no clock and waits for nothing. A call is given
- *   - a record: what is known of a tuner (105 bytes) or of a driver (29 bytes), kept by the host as plain bytes;
+ *   - a record: what is known of a tuner (78 bytes) or of a driver (29 bytes), kept by the host as plain bytes;
  *   - a script: how each step is to end (outcomes) and what each read is to give (replies);
  *   - room, into which it writes a transcript of the steps that it took;
  *   - a slice for the next record, which takes the place of the given one.
@@ -37,7 +37,7 @@
  * low byte first, but for the data of a transfer. The slices of one call must be disjoint: nothing checks that. Slices by `const` pointer are
  * only read. Nothing is kept between calls and nothing is allocated, so calls for different receivers may run side by side.
  *
- * Refusals. The reply's `refusal` is 0 or one of the numbers below, in this order: a given record that is none (1); an argument (1 to 7, 13
+ * Refusals. The reply's `refusal` is 0 or one of the numbers below, in this order: a given record that is none (1); an argument (1 to 4, 6 and 7; 13
  * after 3 and 4, 15 after 12); lent slices too short: room, and the slices for records and bytes that come back (8), outcomes (9), replies (10); then the
  * steps (11, or 2 in the PLL of a tuning). Settings on file are refused by their edition (16), then for the rest (17), then for an IF that a move
  * cannot say (18), then 8. Refused before any step: value, index and count are 0, and every lent byte is as it was. Refused by a step: value 0,
@@ -59,7 +59,7 @@ extern "C" {
 #define PASETONE_FREQUENCY 2    /* 0 Hz; Hz plus IF over 64 bits; or no divider in the PLL, or N below 13 or above its cap, when the mux is set already */
 #define PASETONE_RATE 3         /* rate 0 */
 #define PASETONE_CORRECTION 4   /* a corrected reference out of 1..4,294,967,295, or a given reference of 0 */
-#define PASETONE_REGISTER 5     /* a register out of 0x05..0x1f */
+/* 5 is not used: it was a register out of 0x05..0x1f, for a call that is gone since 4.0.0. */
 #define PASETONE_PIN 6          /* a GPIO above 7 */
 #define PASETONE_COEFFICIENT 7  /* an FIR value past its width, or not sixteen of them */
 #define PASETONE_ROOM 8         /* room, or a slice for what comes back, is too short */
@@ -85,20 +85,21 @@ extern "C" {
 
 /*
  * The tuner's record: its size, and the place of each field. Bytes that are a record: exactly this long, kind 0 or 1, both references 1 or
- * more, flags (lock, notch, each doubtful mark) 0 or 1, and no NaN as gain but 0x7fc00000.
+ * more, flags (lock, notch, each doubtful mark) 0 or 1, and no NaN as gain but 0x7fc00000. The shadow has for each register the byte last sent to it,
+ * whether that write was done or failed; a write that was not tried leaves it. Before 4.0.0 a record had 105 bytes, and such bytes are none (1): the 27
+ * at 51 were the bytes last sent, and the shadow was another list.
  */
-#define PASETONE_TUNER_SIZE 105
+#define PASETONE_TUNER_SIZE 78
 #define PASETONE_TUNER_KIND 0
 #define PASETONE_TUNER_ADDRESS 1
-#define PASETONE_TUNER_SHADOW 2     /* 27 bytes for registers 0x05..0x1f */
+#define PASETONE_TUNER_SHADOW 2     /* 27 bytes for registers 0x05..0x1f: the byte last sent, or the chip's initial one */
 #define PASETONE_TUNER_NOMINAL 29   /* u32, Hz */
 #define PASETONE_TUNER_CORRECTED 33 /* u32, Hz */
 #define PASETONE_TUNER_LOCK 37
 #define PASETONE_TUNER_GAIN 38      /* binary32, dB */
 #define PASETONE_TUNER_IF 42        /* u64, Hz */
 #define PASETONE_TUNER_NOTCH 50
-#define PASETONE_TUNER_ATTEMPTED 51 /* 27 bytes: the byte last attempted */
-#define PASETONE_TUNER_DOUBTFUL 78  /* 27 flags: 1 where the chip may hold another */
+#define PASETONE_TUNER_DOUBTFUL 51  /* 27 flags: 1 where the chip may hold another */
 #define PASETONE_FIRST_REGISTER 0x05
 #define PASETONE_REGISTER_COUNT 27
 
@@ -260,9 +261,9 @@ uint32_t pasetone_version(void);
 /* ---- Fresh records ---- */
 
 /*
- * A tuner as it is before `initialize`: shadow and attempted bytes are the chip's initial ones, every register is doubtful, no lock, gain
+ * A tuner as it is before `initialize`: the shadow has the chip's initial bytes, every register is doubtful, no lock, gain
  * 0.0, IF 2,300,000, no notch, corrected reference = nominal. `address` is the chip's on I2C, any byte (an R820T has 0x34, an R828D 0x74: eight
- * bits, the lowest 0). `next`: 105 bytes. Value 0. Refuses 1 (kind, nominal), 8.
+ * bits, the lowest 0). `next`: 78 bytes. Value 0. Refuses 1 (kind, nominal), 8.
  */
 pasetone_reply pasetone_tuner_new(uint64_t kind, uint8_t address, uint64_t nominal, uint8_t *next, size_t next_len);
 
@@ -275,22 +276,22 @@ pasetone_reply pasetone_driver_new(uint64_t board, uint64_t nominal, int32_t ppm
 
 /*
  * ---- The tuner's calls with steps ----
- * `tuner` is a record of 105 bytes and stays as it is; `next` takes the next one, 105 bytes, where the call is done or refused by a step.
- * In it, the bytes of a register follow the writes to it: the shadow before each is tried, the attempted byte with it, and the register is doubtful
- * until a write is done and whenever the last one failed. Other fields stay unless they are named below.
+ * `tuner` is a record of 78 bytes and stays as it is; `next` takes the next one, 78 bytes, where the call is done or refused by a step.
+ * In it, the shadow of a register follows every write to it that is tried, done or not, and the register is doubtful until a write is done and
+ * whenever the last one failed. So a register that is not doubtful holds its shadow byte. Other fields stay unless they are named below.
  */
 
 /*
- * Sends the chip's initial bytes past the shadow, then sets it up by way of it. IF, gain, lock and notch stay. Outcomes 19, room 312. Value 0.
- * Refuses 1, 8, 9, 11.
+ * Sends the chip's initial bytes, each chunk's into the shadow as it is tried, then sets it up by way of that shadow; what the shadow had before plays no
+ * part. IF, gain, lock and notch stay. Outcomes 19, room 312. Value 0. Refuses 1, 8, 9, 11.
  */
 pasetone_reply pasetone_initialize(const uint8_t *tuner, size_t tuner_len, const uint8_t *outcomes, size_t outcomes_len, uint8_t *room,
                                    size_t room_len, uint8_t *next, size_t next_len);
 
 /*
  * Tunes to `hz`: the mux, then the PLL at hz + IF. That the PLL did not lock is no refusal: the reply's `locked` and `tries` tell it. The record's
- * lock changes only when the tries for a lock have ended. 0x14, 0x15 and 0x16 are written past the shadow. Outcomes 53, replies 35, room 856.
- * Value: the hz asked. Refuses 1, 2, 8, 9, 10, 11; 2 also in the PLL, when the mux's steps are taken and stand (13 entries).
+ * lock changes only when the tries for a lock have ended. Outcomes 53, replies 35, room 856. Value: the hz asked. Refuses 1, 2, 8, 9, 10, 11; 2 also in
+ * the PLL, when the mux's steps are taken and stand (13 entries).
  */
 pasetone_tune_reply pasetone_set_frequency(const uint8_t *tuner, size_t tuner_len, uint64_t hz, const uint8_t *outcomes,
                                            size_t outcomes_len, const uint8_t *replies, size_t replies_len, uint8_t *room,
@@ -325,20 +326,13 @@ pasetone_reply pasetone_set_input_path(const uint8_t *tuner, size_t tuner_len, u
                                        uint8_t *room, size_t room_len, uint8_t *next, size_t next_len);
 
 /*
- * Sends every register's attempted byte again. All done, no register is doubtful and the shadow is what the chip holds: the way back after
- * refusal 11. Outcomes 9, room 152. Value 0. Refuses 1, 8, 9, 11 (then the shadow stays).
+ * Sends the shadow again, every register of it. All done, no register is doubtful and the chip holds the shadow: the way back after refusal 11. The
+ * shadow stays, also with 11. Outcomes 9, room 152. Value 0. Refuses 1, 8, 9, 11.
  */
 pasetone_reply pasetone_reload(const uint8_t *tuner, size_t tuner_len, const uint8_t *outcomes, size_t outcomes_len, uint8_t *room,
                                size_t room_len, uint8_t *next, size_t next_len);
 
 /* ---- The tuner's calls without steps ---- */
-
-/*
- * The shadow byte of `reg` with the bits of `mask` taken from `value`; nothing is sent, and no other byte of the record changes. `next`: 105
- * bytes. Value: the new byte. Refuses 1, 5, 8.
- */
-pasetone_reply pasetone_update_shadow(const uint8_t *tuner, size_t tuner_len, uint8_t reg, uint8_t value, uint8_t mask, uint8_t *next,
-                                      size_t next_len);
 
 /* Value: the gain last set, as the 32 bits of a binary32. Refuses 1. */
 pasetone_reply pasetone_get_gain(const uint8_t *tuner, size_t tuner_len);
@@ -371,7 +365,7 @@ pasetone_reply pasetone_corrected_xtal_hz(const uint8_t *driver, size_t driver_l
 
 /*
  * The sample rate: IF and filter of the tuner, reset, rate and IF of the demodulator, spectrum by the board's plan for the driver's frequency.
- * An IF of 0 stays 0. Outcomes 17, room 280; `next_driver` 29 bytes, `next_tuner` 105. Both are written once steps were taken; the driver's
+ * An IF of 0 stays 0. Outcomes 17, room 280; `next_driver` 29 bytes, `next_tuner` 78. Both are written once steps were taken; the driver's
  * rate and true rate change only when all are done, the tuner's IF before them. The true rate is the corrected reference times 2^22 divided by the
  * ratio as it was sent, cut to a whole number, and at least the rate asked. Value 0. Refuses 1 (either record), 3, 13 (by the corrected reference: at
  * 28,800,000 Hz the rates from 225,001 to 300,000 and from 900,001 up are taken), 8, 9, 11.
@@ -382,7 +376,7 @@ pasetone_reply pasetone_set_sample_rate(const uint8_t *driver, size_t driver_len
 
 /*
  * The board's input: GPIO 5, then the tuner's own path. Outcomes 10, replies 3, room 168, on an R820T too, which makes six entries.
- * `next`: 105 bytes. Value 0. Refuses 1 (also a path above 2), 8, 9, 10, 11.
+ * `next`: 78 bytes. Value 0. Refuses 1 (also a path above 2), 8, 9, 10, 11.
  */
 pasetone_reply pasetone_apply_input_path(const uint8_t *tuner, size_t tuner_len, uint64_t path, const uint8_t *outcomes,
                                          size_t outcomes_len, const uint8_t *replies, size_t replies_len, uint8_t *room, size_t room_len,

@@ -81,13 +81,15 @@ static void looked(const char *what, pasetone_tune_reply reply, uint32_t tries, 
 
 static void check_making(void)
 {
-    same("version", pasetone_version(), 0x00030400);
+    uint8_t old[105] = {0};
+    same("version", pasetone_version(), 0x00040000);
     done("fresh tuner", pasetone_tuner_new(PASETONE_R828D, 0x74, 28800000, TUNER), 0, 0);
     same("fresh kind", tuner[PASETONE_TUNER_KIND], PASETONE_R828D);
     same("fresh address", tuner[PASETONE_TUNER_ADDRESS], 0x74);
     same("fresh shadow", tuner[PASETONE_TUNER_SHADOW], 0x83);
     same("fresh doubt", tuner[PASETONE_TUNER_DOUBTFUL + 26], 1);
-    same_bytes("fresh attempts", tuner + PASETONE_TUNER_ATTEMPTED, tuner + PASETONE_TUNER_SHADOW, PASETONE_REGISTER_COUNT);
+    same("fresh shadow, last", tuner[PASETONE_TUNER_SHADOW + 26], 0xc0);
+    same("fresh doubt, first", tuner[PASETONE_TUNER_DOUBTFUL], 1);
     done("fresh driver", pasetone_driver_new(PASETONE_V4, 28800000, 0, 102300000, 2048000, DRIVER), 0, 0);
     done("IF", pasetone_get_if_freq(TUNER), 2300000, 0);
     done("gain", pasetone_get_gain(TUNER), 0, 0);
@@ -97,8 +99,10 @@ static void check_making(void)
     refused("driver, nominal 2^32", pasetone_driver_new(PASETONE_V4, 4294967296u, 0, 0, 0, next_driver, sizeof next_driver), PASETONE_SETUP);
     refused("driver, nominal 0 and a bad correction", pasetone_driver_new(PASETONE_V4, 0, -1000000, 0, 0, next_driver, sizeof next_driver),
             PASETONE_SETUP);
-    refused("short next", pasetone_tuner_new(PASETONE_R828D, 0x74, 28800000, next, 104), PASETONE_ROOM);
-    refused("no record", pasetone_get_gain(tuner, 104), PASETONE_SETUP);
+    refused("short next", pasetone_tuner_new(PASETONE_R828D, 0x74, 28800000, next, 77), PASETONE_ROOM);
+    refused("no record", pasetone_get_gain(tuner, 77), PASETONE_SETUP);
+    memcpy(old, tuner, sizeof tuner);
+    refused("a record as long as before 4.0.0", pasetone_get_gain(old, sizeof old), PASETONE_SETUP);
 }
 
 /* Document 01: bandwidth 2,048,000, a fresh R828D at 0x74, all done. */
@@ -264,8 +268,35 @@ static void check_stands(void)
     stands("stands: PLL", pasetone_tune_stands(pasetone_set_frequency(TUNER, 1, OUTCOMES, REPLIES, ROOM, NEXT)), 1);
     done("R820T", pasetone_tuner_new(PASETONE_R820T, 0x34, 28800000, small, sizeof small), 0, 0);
     stands("stands: R820T's path", pasetone_stands(pasetone_set_input_path(small, sizeof small, PASETONE_HF, outcomes, 0, room, 0, NEXT)), 1);
-    stands("stands: shadow", pasetone_stands(pasetone_update_shadow(TUNER, 0x05, 0, 0, NEXT)), 1);
-    stands("stands: register 0x04", pasetone_stands(pasetone_update_shadow(TUNER, 0x04, 0, 0, NEXT)), 0);
+}
+
+#define SHADOW(record, reg) (record)[PASETONE_TUNER_SHADOW + (reg) - PASETONE_FIRST_REGISTER]
+
+/* Document 02, change request 106: what was sent is in the shadow, whether it was done or not, and nothing else is. */
+static void check_shadow(void)
+{
+    static uint8_t used[PASETONE_TUNER_SIZE];
+    pasetone_tune_reply reply = pasetone_set_frequency(TUNER, 100000000, OUTCOMES, REPLIES, ROOM, used, sizeof used);
+    same("tuned, for the shadow", reply.refusal, PASETONE_DONE);
+    same("shadow of 0x14, 0x16, 0x15", SHADOW(used, 0x14) << 16 | SHADOW(used, 0x16) << 8 | SHADOW(used, 0x15), 0xcad556);
+    done("gain, for the shadow", pasetone_set_gain_by_index(used, sizeof used, 28, OUTCOMES, ROOM, NEXT), 0x42466666, 7);
+    memcpy(used, next, sizeof used);
+    same("shadow of 0x05, 0x0c, 0x1a", SHADOW(used, 0x05) << 16 | SHADOW(used, 0x0c) << 8 | SHADOW(used, 0x1a), 0x9fff22);
+    done("reload of it", pasetone_reload(used, sizeof used, OUTCOMES, ROOM, NEXT), 0, 9);
+    same_bytes("reload sends the shadow", room + 16 * 1 + 9, used + PASETONE_TUNER_SHADOW, 7);
+    same_bytes("reload leaves the shadow", next + PASETONE_TUNER_SHADOW, used + PASETONE_TUNER_SHADOW, PASETONE_REGISTER_COUNT);
+    outcomes[0] = 1;
+    same("opening failed", pasetone_initialize(used, sizeof used, OUTCOMES, ROOM, NEXT).refusal, PASETONE_STEP);
+    same_bytes("opening failed: nothing was tried", next, used, sizeof used);
+    outcomes[0] = 0;
+    outcomes[1] = 1;
+    same("first chunk failed", pasetone_initialize(used, sizeof used, OUTCOMES, ROOM, NEXT).refusal, PASETONE_STEP);
+    outcomes[1] = 0;
+    same("first chunk: tried", SHADOW(next, 0x05) << 8 | SHADOW(next, 0x0b), 0x836c);
+    same_bytes("the others: not tried", &SHADOW(next, 0x0c), &SHADOW(used, 0x0c), 0x1f - 0x0c + 1);
+    done("a second initialise", pasetone_initialize(used, sizeof used, OUTCOMES, ROOM, NEXT), 0, 19);
+    same("it stands on its own bytes", room[16 * 10 + 8] << 8 | room[16 * 10 + 9], 0x1a60);
+    same("shadow of 0x05, 0x0c, 0x14", SHADOW(next, 0x05) << 16 | SHADOW(next, 0x0c) << 8 | SHADOW(next, 0x14), 0x83f00f);
 }
 
 static void check_tuner(void)
@@ -284,8 +315,6 @@ static void check_tuner(void)
     refused("path 256", pasetone_set_input_path(TUNER, 256, OUTCOMES, ROOM, NEXT), PASETONE_SETUP);
     done("reload", pasetone_reload(TUNER, OUTCOMES, ROOM, NEXT), 0, 9);
     same("reload's doubt", next[PASETONE_TUNER_DOUBTFUL], 0);
-    done("shadow", pasetone_update_shadow(TUNER, 0x05, 0xff, 0x0f, NEXT), 0x8f, 0);
-    refused("register 0x20", pasetone_update_shadow(TUNER, 0x20, 0, 0, NEXT), PASETONE_REGISTER);
     done("gain table", pasetone_get_gain_table(TUNER, table, sizeof table), 0, 0);
     same("gain 28", table[112] | table[113] << 8, 496);
     memcpy(next, tuner, sizeof next);
@@ -500,6 +529,7 @@ int main(void)
     check_making();
     check_bandwidth();
     check_tuning();
+    check_shadow();
     check_lock();
     check_receivers();
     check_stands();

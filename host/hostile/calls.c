@@ -94,7 +94,6 @@ RUN(run_bandwidth, pasetone_set_bandwidth(S(TUNER), (uint32_t)a->arg[0], S(OUTCO
 RUN(run_if, pasetone_set_if_freq(S(TUNER), a->arg[0], S(OUTCOMES), S(ROOM), S(NEXT)))
 RUN(run_path, pasetone_set_input_path(S(TUNER), a->arg[0], S(OUTCOMES), S(ROOM), S(NEXT)))
 RUN(run_reload, pasetone_reload(S(TUNER), S(OUTCOMES), S(ROOM), S(NEXT)))
-RUN(run_shadow, pasetone_update_shadow(S(TUNER), (uint8_t)a->arg[0], (uint8_t)a->arg[1], (uint8_t)a->arg[2], S(NEXT)))
 RUN(run_get_gain, pasetone_get_gain(S(TUNER)))
 RUN(run_get_if, pasetone_get_if_freq(S(TUNER)))
 RUN(run_table, pasetone_get_gain_table(S(TUNER), S(OUT)))
@@ -138,7 +137,6 @@ ARGUMENT(tuner_args, REFUSE(a->arg[0] > 1 || NO_REFERENCE(a->arg[2]), 1))
 ARGUMENT(driver_args, a->arg[0] > 1 || NO_REFERENCE(a->arg[1]) ? 1 : REFUSE(corrected(a->arg[1], (int32_t)(uint32_t)a->arg[2]) == 0, 4))
 ARGUMENT(hz_args, REFUSE(a->arg[0] == 0 || a->arg[0] > UINT64_MAX - number_at(a->before[TUNER] + PASETONE_TUNER_IF, 8), 2))
 ARGUMENT(path_args, REFUSE(a->arg[0] > 2, 1))
-ARGUMENT(register_args, REFUSE((uint8_t)a->arg[0] < 0x05 || (uint8_t)a->arg[0] > 0x1f, 5))
 ARGUMENT(ppm_args, REFUSE(corrected(number_at(a->before[TUNER] + PASETONE_TUNER_NOMINAL, 4), (int32_t)(uint32_t)a->arg[0]) == 0, 4))
 ARGUMENT(driver_ppm_args, REFUSE(corrected(number_at(a->before[DRIVER] + PASETONE_DRIVER_NOMINAL, 4), (int32_t)(uint32_t)a->arg[0]) == 0, 4))
 ARGUMENT(rate_args, rate_model((uint32_t)a->arg[0], driver_xtal(a->before[DRIVER])))
@@ -214,20 +212,13 @@ static uint32_t packets_args(const struct attempt *a)
     static uint64_t name(const struct attempt *a) { return (void)a, (expression); }
 
 VALUE(nothing, 0)
-VALUE(version_value, 0x00030400)
+VALUE(version_value, 0x00040000)
 VALUE(asked, a->arg[0])
 VALUE(gain_set, number_at(a->at[NEXT] + PASETONE_TUNER_GAIN, 4))
 VALUE(gain_held, number_at(a->before[TUNER] + PASETONE_TUNER_GAIN, 4))
 VALUE(if_held, number_at(a->before[TUNER] + PASETONE_TUNER_IF, 8))
 VALUE(xtal_value, driver_xtal(a->before[DRIVER]))
 VALUE(plan_value, a->arg[1] + (a->arg[0] == 1 && a->arg[1] < 28800000 ? 28800000 : 0))
-
-static uint64_t shadow_value(const struct attempt *a)
-{
-    uint8_t old = a->before[TUNER][PASETONE_TUNER_SHADOW + (uint8_t)a->arg[0] - 0x05];
-    uint8_t value = (uint8_t)a->arg[1], mask = (uint8_t)a->arg[2];
-    return (old & ~mask & 255) | (value & mask);
-}
 
 static uint64_t rest_value(const struct attempt *a)
 {
@@ -289,7 +280,6 @@ const struct call calls[] = {
     {"set_if_freq", COMMON, STEPS, 4, 0, 0, "1 8 9 11", run_if, any, nothing},
     {"set_input_path", CHIP_PATH, STEPS, 4, 0, 0, "1 8 9 11", run_path, path_args, nothing},
     {"reload", COMMON, STEPS, 9, 0, 0, "1 8 9 11", run_reload, any, nothing},
-    {"update_shadow", COMMON, HAS(TUNER) | HAS(NEXT), 0, 0, 0, "1 5 8", run_shadow, register_args, shadow_value},
     {"get_gain", COMMON, HAS(TUNER), 0, 0, 0, "1", run_get_gain, any, gain_held},
     {"get_if_freq", COMMON, HAS(TUNER), 0, 0, 0, "1", run_get_if, any, if_held},
     {"get_gain_table", COMMON, HAS(TUNER) | HAS(OUT), 0, 0, 116, "1 8", run_table, any, nothing},

@@ -76,6 +76,10 @@ static void spoil(void)
         now.at[ROOM][6] = 1;
     } else if (testing("record") && now.reply.count > 0 && (now.call->slots & HAS(NEXT))) {
         now.at[NEXT][PASETONE_TUNER_LOCK] = 2;
+    } else if (testing("shadow") && now.reply.count > 0 && (now.call->slots & HAS(NEXT))) {
+        now.at[NEXT][PASETONE_TUNER_SHADOW + 0x14 - PASETONE_FIRST_REGISTER] ^= 1;
+    } else if (testing("mark") && now.reply.count > 0 && (now.call->slots & HAS(NEXT))) {
+        now.at[NEXT][PASETONE_TUNER_DOUBTFUL] ^= 1;
     } else if (testing("index") && now.reply.refusal == 11) {
         now.reply.index++;
     } else if (testing("number") && now.reply.refusal == 9) {

@@ -76,7 +76,32 @@ static const char *judge_rates(const struct attempt *a)
     return NULL;
 }
 
-/* A next record is one, of the same chip or board. */
+/*
+ * Change request 106: shadow and marks follow every write of the section, done or not, and nothing else. A write's first byte is its first register; the
+ * ones behind it go upward. So a call that was done or stopped leaves, for each register, the last byte tried.
+ */
+static int follows_writes(const struct attempt *a)
+{
+    uint8_t shadow[PASETONE_REGISTER_COUNT], marks[PASETONE_REGISTER_COUNT];
+    uint64_t i;
+    unsigned k;
+    memcpy(shadow, a->before[TUNER] + PASETONE_TUNER_SHADOW, sizeof shadow);
+    memcpy(marks, a->before[TUNER] + PASETONE_TUNER_DOUBTFUL, sizeof marks);
+    for (i = 0; i < a->reply.count; i++) {
+        const uint8_t *e = a->at[ROOM] + 16 * i;
+        for (k = 1; e[0] == 2 && k < e[3]; k++) {
+            unsigned at = e[8] + k - 1 - PASETONE_FIRST_REGISTER;
+            if (at < PASETONE_REGISTER_COUNT) {
+                shadow[at] = e[8 + k];
+                marks[at] = e[1];
+            }
+        }
+    }
+    return memcmp(a->at[NEXT] + PASETONE_TUNER_SHADOW, shadow, sizeof shadow) == 0 &&
+           memcmp(a->at[NEXT] + PASETONE_TUNER_DOUBTFUL, marks, sizeof marks) == 0;
+}
+
+/* A next record is one, of the same chip or board, and a tuner's shadow is what was sent. */
 static const char *judge_next(const struct attempt *a)
 {
     unsigned slots = a->call->slots;
@@ -90,6 +115,9 @@ static const char *judge_next(const struct attempt *a)
         (memcmp(a->at[NEXT], a->before[TUNER], 2) != 0 ||
          memcmp(a->at[NEXT] + PASETONE_TUNER_NOMINAL, a->before[TUNER] + PASETONE_TUNER_NOMINAL, 8) != 0)) {
         return "the next tuner record is of another chip";
+    }
+    if ((slots & HAS(NEXT)) && (slots & HAS(TUNER)) && !follows_writes(a)) {
+        return "the shadow or a mark is not what the section sent";
     }
     if ((slots & HAS(NEXT_DRIVER)) && (slots & HAS(DRIVER)) &&
         (memcmp(a->at[NEXT_DRIVER], a->before[DRIVER], 5) != 0 ||

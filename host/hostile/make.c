@@ -40,7 +40,7 @@ void keep_records(const struct attempt *a)
 /* Bytes that are often no record any more: another length, wrong bytes, a NaN, zeros where none may be. */
 static void damage(uint8_t *bytes, size_t *n)
 {
-    static const uint8_t flags[] = {0, 37, 50, 78, 90, 104};
+    static const uint8_t flags[] = {0, 37, 50, 51, 63, 77};
     size_t at = below(*n), i;
     uint64_t any = random_u64();
     switch (below(7)) {
@@ -48,8 +48,8 @@ static void damage(uint8_t *bytes, size_t *n)
         *n = below(*n + 8);
         random_bytes(bytes, *n);
         break;
-    case 1:
-        *n = *n + below(3) - 1; /* one less, the same, one more */
+    case 1: /* one less, the same, one more; or as much more as a tuner's record had before change request 106 */
+        *n = below(4) == 0 ? *n + PASETONE_REGISTER_COUNT : *n + below(3) - 1;
         break;
     case 2:
         bytes[at] = (uint8_t)any;

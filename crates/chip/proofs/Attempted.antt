@@ -13,7 +13,7 @@ use Rattle.chip.specs.Chips.{attemptedBy, chipOf, withLists}
 
 unfoldable pub left : Chip → ℕ → ℕ → List ℕ → Bool → ℕ → Chip
 left c first n bytes ok i =
-    withLists c (c .shadow) (sets (c .attempted) (first + i) (take (n - 1 - i) (drop (i + 1) bytes)))
+    withLists c (sets (c .shadow) (first + i) (take (n - 1 - i) (drop (i + 1) bytes)))
     (sets (c .doubtful) (first + i) (replicate (n - 1 - i) (not ok)))
 
 pub begin : (c : Chip) (first n : ℕ) (bytes : List ℕ) (ok : Bool) → first ≡ getD bytes 0 0 - 5 → left c first n bytes ok 0 ≡ attemptedBy c n bytes ok
@@ -24,7 +24,7 @@ begin c first n bytes ok e =
     rw (at, all)
 
 pub turn : (c : Chip) (first n : ℕ) (bytes : List ℕ) (ok : Bool) (i : ℕ) → i + 1 < n → n ≤ length bytes
-    → left (withLists c (c .shadow) (set (c .attempted) (first + i) (getD bytes (i + 1) 0)) (set (c .doubtful) (first + i) (not ok))) first n bytes ok (i + 1)
+    → left (withLists c (set (c .shadow) (first + i) (getD bytes (i + 1) 0)) (set (c .doubtful) (first + i) (not ok))) first n bytes ok (i + 1)
     ≡ left c first n bytes ok i
 unfolding left
 turn c first n bytes ok i h k =
@@ -40,15 +40,15 @@ end c first n bytes ok i h =
     rw none
 
 -- both lists stored are the chip's record after the write
-pub stored : (address : ℕ) (shadow a b : List ℕ) (d e : List Bool) (n : ℕ) (bytes : List ℕ) (ok : Bool)
+pub stored : (address : ℕ) (a b : List ℕ) (d e : List Bool) (n : ℕ) (bytes : List ℕ) (ok : Bool)
     → b ≡ sets a (getD bytes 0 0 - 5) (take (n - 1) (drop 1 bytes)) → e ≡ sets d (getD bytes 0 0 - 5) (replicate (n - 1) (not ok))
-    → chipOf address shadow b e ≡ attemptedBy (chipOf address shadow a d) n bytes ok
+    → chipOf address b e ≡ attemptedBy (chipOf address a d) n bytes ok
 unfolding attemptedBy
-stored address shadow a b d e n bytes ok p q = λ i. chipOf address shadow (p i) (q i)
+stored address a b d e n bytes ok p q = λ i. chipOf address (p i) (q i)
 
 -- and one of the lists is that of the chip's record
 pub of-attempted : (c x : Chip) (n : ℕ) (bytes : List ℕ) (ok : Bool) → x ≡ attemptedBy c n bytes ok
-    → (x .attempted ≡ sets (c .attempted) (getD bytes 0 0 - 5) (take (n - 1) (drop 1 bytes)))
+    → (x .shadow ≡ sets (c .shadow) (getD bytes 0 0 - 5) (take (n - 1) (drop 1 bytes)))
     × (x .doubtful ≡ sets (c .doubtful) (getD bytes 0 0 - 5) (replicate (n - 1) (not ok)))
 unfolding attemptedBy
-of-attempted c x n bytes ok e = (ap (λ (y : Chip). y .attempted) e, ap (λ (y : Chip). y .doubtful) e)
+of-attempted c x n bytes ok e = (ap (λ (y : Chip). y .shadow) e, ap (λ (y : Chip). y .doubtful) e)

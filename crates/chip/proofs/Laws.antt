@@ -65,14 +65,14 @@ module _ {L : Type 0} (put : L → ℕ → Entry → L) (os : List ℕ) where
   -- the same for a masked write, whose byte was worked out apart too
   pub made-mask : (w : Line L) (r v m byte : ℕ) (c : Chip) (u : Went)
       → byte ≡ maskedByte (w .chip) r v m
-      → c ≡ withLists (w .chip) (set (w .chip .shadow) (r - 5) byte) (set (w .chip .attempted) (r - 5) byte) (set (w .chip .doubtful) (r - 5) (not (eqb (getD os (w .count) 0) 0)))
+      → c ≡ withLists (w .chip) (set (w .chip .shadow) (r - 5) byte) (set (w .chip .doubtful) (r - 5) (not (eqb (getD os (w .count) 0) 0)))
       → u ≡ toldOf (eqb (getD os (w .count) 0) 0) (w .count)
       → goes (w .went) ≡ true
       → line c (put (w .log) (w .count) (written (w .chip .address) 2 (pair r byte) (eqb (getD os (w .count) 0) 0))) (w .count + 1) u (w .held) ≡ step put os (Mask r v m) w
   unfolding attemptedBy
   made-mask w r v m byte c u b p q h =
       (λ i. line (p i) (put (w .log) (w .count) (written (w .chip .address) 2 (pair r byte) (eqb (getD os (w .count) 0) 0))) (w .count + 1) (q i) (w .held))
-      ∙ (λ i. line (withLists (w .chip) (set (w .chip .shadow) (r - 5) (b i)) (set (w .chip .attempted) (r - 5) (b i)) (set (w .chip .doubtful) (r - 5) (not (eqb (getD os (w .count) 0) 0))))
+      ∙ (λ i. line (withLists (w .chip) (set (w .chip .shadow) (r - 5) (b i)) (set (w .chip .doubtful) (r - 5) (not (eqb (getD os (w .count) 0) 0))))
       (put (w .log) (w .count) (written (w .chip .address) 2 (pair r (b i)) (eqb (getD os (w .count) 0) 0))) (w .count + 1)
       (toldOf (eqb (getD os (w .count) 0) 0) (w .count)) (w .held))
       ∙ active (Mask r v m) w h

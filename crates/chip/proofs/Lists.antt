@@ -14,9 +14,8 @@ use lib.Seq.{drop-cons, getD-take, length-take-le, take-at}
 use Rattle.transcript.specs.declared.Entry.{Entry}
 use Rattle.chip.specs.declared.Update.{Update}
 use Rattle.chip.specs.declared.Updates.{Updates}
-use Rattle.chip.specs.Chips.{pair}
 use Rattle.chip.specs.Steps.{Step, Line, allIn, every, filler, inRange, inner, listed, meantOf, padded, run, step, updateStep}
-use Rattle.chip.specs.Steps.Step.{Send, Mask, Plain}
+use Rattle.chip.specs.Steps.Step.{Mask}
 use Rattle.chip.proofs.Laws.{and-left, and-right}
 
 none : (i : ℕ) → i < 0 → ⊥
@@ -63,11 +62,7 @@ every-inner f h [] = refl
 every-inner f h (a ∷ rest) = rw (h a) (every-inner f h rest)
 
 pub inner-update : (u : Update) → inner (updateStep u) ≡ true
-inner-update u = go (u .past) refl
-  where
-    go : (p : Bool) → u .past ≡ p → inner (updateStep u) ≡ true
-    go true e = rw e
-    go false e = rw e
+inner-update u = refl
 
 -- a register in range
 pub low : (u : Update) → inRange u ≡ true → 5 ≤ u .register
@@ -75,12 +70,6 @@ low u h = leb-true 5 (u .register) (and-left (leb 5 (u .register)) (leb (u .regi
 
 pub high : (u : Update) → inRange u ≡ true → u .register ≤ 31
 high u h = leb-true (u .register) 31 (and-right (leb 5 (u .register)) (leb (u .register) 31) h)
-
-past-step : (u : Update) → u .past ≡ true → Send 2 (pair (u .register) (u .value)) ≡ updateStep u
-past-step u e = rw e
-
-mask-step : (u : Update) → u .past ≡ false → Mask (u .register) (u .value) (u .mask) ≡ updateStep u
-mask-step u e = rw e
 
 module _ {L : Type 0} (put : L → ℕ → Entry → L) (os : List ℕ) where
   -- one step is taken off the list
@@ -97,13 +86,6 @@ module _ {L : Type 0} (put : L → ℕ → Entry → L) (os : List ℕ) where
   end f l n i w h =
       let over : length (take n l) ≤ i = rw length-take (omega arith) in
       rw (drop-of-length-le (take n l) over)
-
-  -- an update is one of the two writes
-  pub by-past : (u : Update) (w v : Line L) → u .past ≡ true → v ≡ step put os (Send 2 (pair (u .register) (u .value))) w → v ≡ step put os (updateStep u) w
-  by-past u w v e h = h ∙ ap (λ (s : Step). step put os s w) (past-step u e)
-
-  pub by-mask : (u : Update) (w v : Line L) → u .past ≡ false → v ≡ step put os (Mask (u .register) (u .value) (u .mask)) w → v ≡ step put os (updateStep u) w
-  by-mask u w v e h = h ∙ ap (λ (s : Step). step put os s w) (mask-step u e)
 
   -- a masked write by an update that was worked out apart
   pub by-masked : (u d : Update) (w v : Line L) → u ≡ d → v ≡ step put os (Mask (u .register) (u .value) (u .mask)) w

@@ -19,7 +19,7 @@ use Rattle.chip.specs.declared.Update.{Update}
 use Rattle.chip.specs.declared.Updates.{Updates}
 use Rattle.chip.specs.declared.Went.{Went}
 use Rattle.chip.specs.declared.Went.the-variants.{Going, Refused11}
-use Rattle.chip.specs.Chips.{attemptedBy, chipOf, maskedByte, pair, shadowed}
+use Rattle.chip.specs.Chips.{attemptedBy, maskedByte, pair}
 use Rattle.chip.specs.Entries.{look, repeater, settled, written}
 
 -- a masked write of a register; a write of n bytes, its first the register; any step that leaves the chip's record alone, with
@@ -44,8 +44,7 @@ abbrev pub after : Step → Chip → Bool → Chip
 after Open c ok = c
 after Close c ok = c
 after (Send n bytes) c ok = attemptedBy c n bytes ok
-after (Mask register value mask) c ok =
-    attemptedBy (shadowed c register (maskedByte c register value mask)) 2 (pair register (maskedByte c register value mask)) ok
+after (Mask register value mask) c ok = attemptedBy c 2 (pair register (maskedByte c register value mask)) ok
 after (Plain e) c ok = c
 
 abbrev pub goes : Went → Bool
@@ -144,10 +143,6 @@ onLog chip l room = line chip (logged room (l .seen)) (l .count) (l .went) (l .h
 abbrev pub onRoom : Flow → List ℕ → Line Logged
 onRoom f room = onLog (f .chip) (f .log) room
 
--- the same, with the chip's lists where they lie
-abbrev pub onLists : ℕ → List ℕ → List ℕ → List Bool → Log → List ℕ → Line Logged
-onLists address shadow attempted doubtful l room = onLog (chipOf address shadow attempted doubtful) l room
-
 abbrev pub Trace : Type 0
 Trace = Line (List Entry)
 
@@ -159,16 +154,12 @@ trace os ss c = run inList os ss (line c [] 0 Going false)
 abbrev pub behind : List Step → List Step
 behind ss = Open ∷ (ss ++ (Close ∷ []))
 
--- a masked write; a write past the shadow: "0x14, 0x15, 0x16 are written past it"
+-- a masked write; under the mask 0xff it is the whole register's. #106: "writes to 0x14, 0x15 and 0x16 go through the shadow"
 abbrev pub masked : ℕ → ℕ → ℕ → Update
-masked register value mask = record { register = register; value = value; mask = mask; past = false }
+masked register value mask = record { register = register; value = value; mask = mask }
 
-abbrev pub past : ℕ → ℕ → Update
-past register value = record { register = register; value = value; mask = 0xff; past = true }
-
--- a register's update: through the shadow, or past it as a write of two bytes
 abbrev pub updateStep : Update → Step
-updateStep u = cond (u .past) (Send 2 (pair (u .register) (u .value))) (Mask (u .register) (u .value) (u .mask))
+updateStep u = Mask (u .register) (u .value) (u .mask)
 
 abbrev pub updates : List Update → List Step
 updates us = map updateStep us
@@ -179,7 +170,7 @@ padded n a xs = xs ++ replicate (n - length xs) a
 
 -- what fills an array behind the updates that are meant: of no register, with no bit
 abbrev pub filler : Update
-filler = record { register = 0; value = 0; mask = 0; past = false }
+filler = record { register = 0; value = 0; mask = 0 }
 
 abbrev pub sixteen : List Update → List Update
 sixteen us = padded 16 filler us

@@ -9,16 +9,16 @@ ghost use Prim.Native.Nat.{ℕ, _+_, _-_, _*_, _≤_, _<_};
 ghost use lib.ListN.{length, getD, take, drop, replicate};
 ghost use lib.Seq.{sets};
 ghost use Rattle.chip.specs.declared.Chip.{Chip};
-ghost use Rattle.chip.specs.Chips.{maskOf};
+ghost use Rattle.chip.specs.Chips.{chipOf, maskOf};
 ghost use Rattle.chip.specs.Entries.{flagOf, look, settled};
-ghost use Rattle.chip.specs.Steps.{due, toldOf, step, run, closing, inRoom, onLists, onLog, onRoom, line, logged, masked, past, listed, meantOf, updates, updateStep, allIn, inRange, behind, chunkBytes, chunkStep, chunkTable, within, tunerWrite};
+ghost use Rattle.chip.specs.Steps.{due, toldOf, step, run, closing, inRoom, onLog, onRoom, line, logged, masked, listed, meantOf, updates, allIn, inRange, behind, chunkBytes, chunkStep, chunkTable, within, tunerWrite};
 ghost use Rattle.chip.specs.Calls.{lentOf, answerOf, numberOf, refusalWith, sealed, valueOf};
 ghost use Rattle.chip.specs.Steps.Step.{Open, Close, Send, Mask, Plain};
 use transcript::Entry;
 
 pub const REG_SHADOW_START: u8 = 0x05;
 
-// Refusal numbers of document 01's table.
+// Refusal numbers of document 01's table. 5 went with `update_shadow` (#106) and is not used again.
 pub const SETUP: u8 = 1;
 
 pub const FREQUENCY: u8 = 2;
@@ -26,8 +26,6 @@ pub const FREQUENCY: u8 = 2;
 pub const RATE: u8 = 3;
 
 pub const CORRECTION: u8 = 4;
-
-pub const REGISTER: u8 = 5;
 
 pub const PIN: u8 = 6;
 
@@ -41,20 +39,18 @@ pub const REPLIES: u8 = 10;
 
 pub const STEP: u8 = 11;
 
-// What the record says of the chip's registers 0x05 to 0x1f: the shadow, and our attempt record.
+// What the record says of the chip's registers 0x05 to 0x1f: the shadow, which is the byte last attempted (#106), and whether that is in doubt.
 pub struct Chip {
     pub address: u8,
     pub shadow: [u8; 27],
-    pub attempted: [u8; 27],
     pub doubtful: [bool; 27],
 }
 
-// A register's partial update; `past` writes the value as it is, past the shadow.
+// A register's partial update; under the mask 0xff it is the whole register's.
 pub struct Update {
     pub register: u8,
     pub value: u8,
     pub mask: u8,
-    pub past: bool,
 }
 
 // What fills an array behind the updates that are meant; it is never taken.
@@ -62,7 +58,6 @@ pub const FILLER: Update = Update {
     register: 0,
     value: 0,
     mask: 0,
-    past: false,
 };
 
 // Updates of registers, the first n of them meant; fillers stand behind them.
@@ -144,7 +139,7 @@ fn told(ok: bool, k: usize) -> Went
     if ok { Went::Going } else { Went::Refused11(k) }
 }
 
-// An update of the bits under a mask; one of a whole register, past the shadow.
+// An update of the bits under a mask.
 pub fn masked(register: u8, value: u8, mask: u8) -> Update
     ensures { λ r. ⌜ r ≡ masked register value mask ⌝ }
 {
@@ -152,18 +147,6 @@ pub fn masked(register: u8, value: u8, mask: u8) -> Update
         register: register,
         value: value,
         mask: mask,
-        past: false,
-    }
-}
-
-pub fn past(register: u8, value: u8) -> Update
-    ensures { λ r. ⌜ r ≡ past register value ⌝ }
-{
-    Update {
-        register: register,
-        value: value,
-        mask: 0xff,
-        past: true,
     }
 }
 
@@ -251,16 +234,16 @@ fn log_entry(l: Log, e: Entry, ok: bool, went: Went, held: bool, room: &mut [u8]
 }
 
 // A write of n bytes attempts n - 1 registers upward from its first byte.
-fn attempt(n: usize, bytes: [u8; 8], ok: bool, attempted: &mut [u8; 27], doubtful: &mut [bool; 27])
+fn attempt(n: usize, bytes: [u8; 8], ok: bool, shadow: &mut [u8; 27], doubtful: &mut [bool; 27])
     requires { ⌜ (1 ≤ n) × (n ≤ 8) × (5 ≤ getD bytes 0 0) × (getD bytes 0 0 + n ≤ 33) ⌝ }
-    ensures { λ _. ⌜ (now (attempted .exit) ≡ sets (now (attempted .entry)) (getD bytes 0 0 - 5) (take (n - 1) (drop 1 bytes)))
+    ensures { λ _. ⌜ (now (shadow .exit) ≡ sets (now (shadow .entry)) (getD bytes 0 0 - 5) (take (n - 1) (drop 1 bytes)))
         × (now (doubtful .exit) ≡ sets (now (doubtful .entry)) (getD bytes 0 0 - 5) (replicate (n - 1) (not ok))) ⌝ }
 {
     let first = bytes[0] as usize - 5;
     let doubt = !ok;
     let mut i = 0;
     while i + 1 < n {
-        attempted[first + i] = bytes[i + 1];
+        shadow[first + i] = bytes[i + 1];
         doubtful[first + i] = doubt;
         i += 1;
     }
@@ -358,16 +341,16 @@ fn send(
     address: u8,
     n: u8,
     bytes: [u8; 8],
-    attempted: &mut [u8; 27],
+    shadow: &mut [u8; 27],
     doubtful: &mut [bool; 27],
     outcomes: &[u8],
     room: &mut [u8],
 ) -> Log
     requires { ⌜ (1 ≤ n) × (n ≤ 8) × (5 ≤ getD bytes 0 0) × (getD bytes 0 0 + n ≤ 33)
         × (l .count < length (now outcomes)) × (16 * l .count + 16 ≤ length (now room)) ⌝ }
-    ensures { λ r. ⌜ ((shadow : List ℕ) → onLists address shadow (now (attempted .exit)) (now (doubtful .exit)) r (now (room .exit))
+    ensures { λ r. ⌜ onLog (chipOf address (now (shadow .exit)) (now (doubtful .exit))) r (now (room .exit))
         ≡ step inRoom (now (outcomes .entry)) (Send n bytes)
-        (onLists address shadow (now (attempted .entry)) (now (doubtful .entry)) l (now (room .entry)))) ⌝ }
+        (onLog (chipOf address (now (shadow .entry)) (now (doubtful .entry))) l (now (room .entry))) ⌝ }
     ensures bounds { λ r. ⌜ r .count + due (r .held) ≤ l .count + 1 + due (l .held) ⌝ }
 {
     let went = l.went;
@@ -385,7 +368,7 @@ fn send(
         address: 0,
         bytes: bytes,
     };
-    attempt(n as usize, bytes, ok, attempted, doubtful);
+    attempt(n as usize, bytes, ok, shadow, doubtful);
     log_entry(l, e, ok, told(ok, k), held, room)
 }
 
@@ -395,15 +378,14 @@ pub fn write_reg_mask_raw(
     address: u8,
     u: Update,
     shadow: &mut [u8; 27],
-    attempted: &mut [u8; 27],
     doubtful: &mut [bool; 27],
     outcomes: &[u8],
     room: &mut [u8],
 ) -> Log
     requires { ⌜ (inRange u ≡ true) × (l .count < length (now outcomes)) × (16 * l .count + 16 ≤ length (now room)) ⌝ }
-    ensures { λ r. ⌜ onLists address (now (shadow .exit)) (now (attempted .exit)) (now (doubtful .exit)) r (now (room .exit))
+    ensures { λ r. ⌜ onLog (chipOf address (now (shadow .exit)) (now (doubtful .exit))) r (now (room .exit))
         ≡ step inRoom (now (outcomes .entry)) (Mask (u .register) (u .value) (u .mask))
-        (onLists address (now (shadow .entry)) (now (attempted .entry)) (now (doubtful .entry)) l (now (room .entry))) ⌝ }
+        (onLog (chipOf address (now (shadow .entry)) (now (doubtful .entry))) l (now (room .entry))) ⌝ }
     ensures bounds { λ r. ⌜ r .count + due (r .held) ≤ l .count + 1 + due (l .held) ⌝ }
 {
     let went = l.went;
@@ -416,7 +398,6 @@ pub fn write_reg_mask_raw(
     let index = (u.register - REG_SHADOW_START) as usize;
     let byte = mask_into(shadow[index], u.value, u.mask);
     shadow[index] = byte;
-    attempted[index] = byte;
     doubtful[index] = !ok;
     let e = Entry {
         kind: transcript::I2C_WRITE,
@@ -445,54 +426,21 @@ pub fn log_plain(l: Log, e: Entry, outcomes: &[u8], room: &mut [u8]) -> Log
     log_entry(l, e, ok, told(ok, k), held, room)
 }
 
-// A register's update, through the shadow or past it.
-fn write_update(
-    l: Log,
-    address: u8,
-    u: Update,
-    shadow: &mut [u8; 27],
-    attempted: &mut [u8; 27],
-    doubtful: &mut [bool; 27],
-    outcomes: &[u8],
-    room: &mut [u8],
-) -> Log
-    requires { ⌜ (inRange u ≡ true) × (l .count < length (now outcomes)) × (16 * l .count + 16 ≤ length (now room)) ⌝ }
-    ensures { λ r. ⌜ onLists address (now (shadow .exit)) (now (attempted .exit)) (now (doubtful .exit)) r (now (room .exit))
-        ≡ step inRoom (now (outcomes .entry)) (updateStep u)
-        (onLists address (now (shadow .entry)) (now (attempted .entry)) (now (doubtful .entry)) l (now (room .entry))) ⌝ }
-    ensures bounds { λ r. ⌜ r .count + due (r .held) ≤ l .count + 1 + due (l .held) ⌝ }
-{
-    if u.past {
-        return send(
-            l,
-            address,
-            2,
-            [u.register, u.value, 0, 0, 0, 0, 0, 0],
-            attempted,
-            doubtful,
-            outcomes,
-            room,
-        );
-    }
-    write_reg_mask_raw(l, address, u, shadow, attempted, doubtful, outcomes, room)
-}
-
 // The first n of a list of updates, behind an open repeater.
 fn write_list(
     l: Log,
     address: u8,
     us: Updates,
     shadow: &mut [u8; 27],
-    attempted: &mut [u8; 27],
     doubtful: &mut [bool; 27],
     outcomes: &[u8],
     room: &mut [u8],
 ) -> Log
     requires { ⌜ (us .n ≤ 16) × (allIn (meantOf us) ≡ true)
         × (l .count + us .n + due (l .held) ≤ length (now outcomes)) × (16 * (l .count + us .n + due (l .held)) ≤ length (now room)) ⌝ }
-    ensures { λ r. ⌜ onLists address (now (shadow .exit)) (now (attempted .exit)) (now (doubtful .exit)) r (now (room .exit))
+    ensures { λ r. ⌜ onLog (chipOf address (now (shadow .exit)) (now (doubtful .exit))) r (now (room .exit))
         ≡ closing inRoom (now (outcomes .entry)) (run inRoom (now (outcomes .entry)) (updates (meantOf us))
-        (onLists address (now (shadow .entry)) (now (attempted .entry)) (now (doubtful .entry)) l (now (room .entry)))) ⌝ }
+        (onLog (chipOf address (now (shadow .entry)) (now (doubtful .entry))) l (now (room .entry)))) ⌝ }
     ensures bounds { λ r. ⌜ r .count + due (r .held) ≤ l .count + us .n + due (l .held) ⌝ }
 {
     let list = us.list;
@@ -505,7 +453,7 @@ fn write_list(
     let mut i = 0;
     while i < n {
         let u = list[i];
-        l = write_update(l, address, u, shadow, attempted, doubtful, outcomes, room);
+        l = write_reg_mask_raw(l, address, u, shadow, doubtful, outcomes, room);
         let went = l.went;
         let Went::Going = went else {
             return log_close(l, outcomes, room);
@@ -524,14 +472,12 @@ pub fn write_all(f: Flow, us: Updates, outcomes: &[u8], room: &mut [u8]) -> Flow
 {
     let chip = f.chip;
     let mut shadow = chip.shadow;
-    let mut attempted = chip.attempted;
     let mut doubtful = chip.doubtful;
     let log = write_list(
         f.log,
         chip.address,
         us,
         &mut shadow,
-        &mut attempted,
         &mut doubtful,
         outcomes,
         room,
@@ -539,7 +485,6 @@ pub fn write_all(f: Flow, us: Updates, outcomes: &[u8], room: &mut [u8]) -> Flow
     let next = Chip {
         address: chip.address,
         shadow: shadow,
-        attempted: attempted,
         doubtful: doubtful,
     };
     Flow {
@@ -582,15 +527,15 @@ fn send_chunk(
     address: u8,
     bs: [u8; 27],
     k: Chunk,
-    attempted: &mut [u8; 27],
+    shadow: &mut [u8; 27],
     doubtful: &mut [bool; 27],
     outcomes: &[u8],
     room: &mut [u8],
 ) -> Log
     requires { ⌜ (within k ≡ true) × (l .count < length (now outcomes)) × (16 * l .count + 16 ≤ length (now room)) ⌝ }
-    ensures { λ r. ⌜ ((shadow : List ℕ) → onLists address shadow (now (attempted .exit)) (now (doubtful .exit)) r (now (room .exit))
+    ensures { λ r. ⌜ onLog (chipOf address (now (shadow .exit)) (now (doubtful .exit))) r (now (room .exit))
         ≡ step inRoom (now (outcomes .entry)) (chunkStep bs k)
-        (onLists address shadow (now (attempted .entry)) (now (doubtful .entry)) l (now (room .entry)))) ⌝ }
+        (onLog (chipOf address (now (shadow .entry)) (now (doubtful .entry))) l (now (room .entry))) ⌝ }
     ensures bounds { λ r. ⌜ r .count + due (r .held) ≤ l .count + 1 + due (l .held) ⌝ }
 {
     let at = k.at;
@@ -601,7 +546,7 @@ fn send_chunk(
         address,
         size as u8 + 1,
         bytes,
-        attempted,
+        shadow,
         doubtful,
         outcomes,
         room,
@@ -613,40 +558,31 @@ fn first_chunks(
     l: Log,
     address: u8,
     bs: [u8; 27],
-    attempted: &mut [u8; 27],
+    shadow: &mut [u8; 27],
     doubtful: &mut [bool; 27],
     outcomes: &[u8],
     room: &mut [u8],
 ) -> Log
     requires { ⌜ (l .count + 3 + due (l .held) ≤ length (now outcomes)) × (16 * (l .count + 3 + due (l .held)) ≤ length (now room)) ⌝ }
-    ensures { λ r. ⌜ ((shadow : List ℕ) → onLists address shadow (now (attempted .exit)) (now (doubtful .exit)) r (now (room .exit))
+    ensures { λ r. ⌜ onLog (chipOf address (now (shadow .exit)) (now (doubtful .exit))) r (now (room .exit))
         ≡ closing inRoom (now (outcomes .entry)) (run inRoom (now (outcomes .entry)) (map (chunkStep bs) (drop 0 (take 3 chunkTable)))
-        (onLists address shadow (now (attempted .entry)) (now (doubtful .entry)) l (now (room .entry))))) ⌝ }
+        (onLog (chipOf address (now (shadow .entry)) (now (doubtful .entry))) l (now (room .entry)))) ⌝ }
     ensures bounds { λ r. ⌜ r .count + due (r .held) ≤ l .count + 3 + due (l .held) ⌝ }
 {
     let one = Chunk { at: 0, size: 7 };
     let two = Chunk { at: 7, size: 7 };
     let three = Chunk { at: 14, size: 2 };
-    let first = send_chunk(l, address, bs, one, attempted, doubtful, outcomes, room);
+    let first = send_chunk(l, address, bs, one, shadow, doubtful, outcomes, room);
     let went = first.went;
     let Went::Going = went else {
         return log_close(first, outcomes, room);
     };
-    let second = send_chunk(first, address, bs, two, attempted, doubtful, outcomes, room);
+    let second = send_chunk(first, address, bs, two, shadow, doubtful, outcomes, room);
     let went = second.went;
     let Went::Going = went else {
         return log_close(second, outcomes, room);
     };
-    let third = send_chunk(
-        second,
-        address,
-        bs,
-        three,
-        attempted,
-        doubtful,
-        outcomes,
-        room,
-    );
+    let third = send_chunk(second, address, bs, three, shadow, doubtful, outcomes, room);
     log_end(third, outcomes, room)
 }
 
@@ -655,34 +591,25 @@ fn last_chunks(
     l: Log,
     address: u8,
     bs: [u8; 27],
-    attempted: &mut [u8; 27],
+    shadow: &mut [u8; 27],
     doubtful: &mut [bool; 27],
     outcomes: &[u8],
     room: &mut [u8],
 ) -> Log
     requires { ⌜ (l .count + 2 + due (l .held) ≤ length (now outcomes)) × (16 * (l .count + 2 + due (l .held)) ≤ length (now room)) ⌝ }
-    ensures { λ r. ⌜ ((shadow : List ℕ) → onLists address shadow (now (attempted .exit)) (now (doubtful .exit)) r (now (room .exit))
+    ensures { λ r. ⌜ onLog (chipOf address (now (shadow .exit)) (now (doubtful .exit))) r (now (room .exit))
         ≡ closing inRoom (now (outcomes .entry)) (run inRoom (now (outcomes .entry)) (map (chunkStep bs) (drop 3 (take 5 chunkTable)))
-        (onLists address shadow (now (attempted .entry)) (now (doubtful .entry)) l (now (room .entry))))) ⌝ }
+        (onLog (chipOf address (now (shadow .entry)) (now (doubtful .entry))) l (now (room .entry)))) ⌝ }
     ensures bounds { λ r. ⌜ r .count + due (r .held) ≤ l .count + 2 + due (l .held) ⌝ }
 {
     let four = Chunk { at: 16, size: 7 };
     let five = Chunk { at: 23, size: 4 };
-    let first = send_chunk(l, address, bs, four, attempted, doubtful, outcomes, room);
+    let first = send_chunk(l, address, bs, four, shadow, doubtful, outcomes, room);
     let went = first.went;
     let Went::Going = went else {
         return log_close(first, outcomes, room);
     };
-    let second = send_chunk(
-        first,
-        address,
-        bs,
-        five,
-        attempted,
-        doubtful,
-        outcomes,
-        room,
-    );
+    let second = send_chunk(first, address, bs, five, shadow, doubtful, outcomes, room);
     log_end(second, outcomes, room)
 }
 
@@ -702,14 +629,13 @@ pub fn i2c_write_first(f: Flow, bs: [u8; 27], outcomes: &[u8], room: &mut [u8]) 
             log: shut,
         };
     };
-    let shadow = chip.shadow;
-    let mut attempted = chip.attempted;
+    let mut shadow = chip.shadow;
     let mut doubtful = chip.doubtful;
     let sent = first_chunks(
         opened,
         chip.address,
         bs,
-        &mut attempted,
+        &mut shadow,
         &mut doubtful,
         outcomes,
         room,
@@ -718,7 +644,6 @@ pub fn i2c_write_first(f: Flow, bs: [u8; 27], outcomes: &[u8], room: &mut [u8]) 
     let next = Chip {
         address: chip.address,
         shadow: shadow,
-        attempted: attempted,
         doubtful: doubtful,
     };
     Flow {
@@ -743,14 +668,13 @@ pub fn i2c_write_last(f: Flow, bs: [u8; 27], outcomes: &[u8], room: &mut [u8]) -
             log: shut,
         };
     };
-    let shadow = chip.shadow;
-    let mut attempted = chip.attempted;
+    let mut shadow = chip.shadow;
     let mut doubtful = chip.doubtful;
     let sent = last_chunks(
         opened,
         chip.address,
         bs,
-        &mut attempted,
+        &mut shadow,
         &mut doubtful,
         outcomes,
         room,
@@ -759,7 +683,6 @@ pub fn i2c_write_last(f: Flow, bs: [u8; 27], outcomes: &[u8], room: &mut [u8]) -
     let next = Chip {
         address: chip.address,
         shadow: shadow,
-        attempted: attempted,
         doubtful: doubtful,
     };
     Flow {

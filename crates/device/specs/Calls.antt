@@ -14,7 +14,7 @@ use Rattle.chip.specs.Steps.{Step}
 use Rattle.device.specs.declared.Handed.{Handed}
 
 abbrev pub noChip : Chip
-noChip = record { address = 0; shadow = replicate 27 0; attempted = replicate 27 0; doubtful = replicate 27 false }
+noChip = record { address = 0; shadow = replicate 27 0; doubtful = replicate 27 false }
 
 -- refused by a number before any step, or performed; value 0
 abbrev pub freeCall : ℕ → List ℕ → List Step → List ℕ → Called (Unit {0})

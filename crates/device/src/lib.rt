@@ -38,7 +38,6 @@ pub const NONE: Access = Access(0, 0, 0, 0);
 pub const NO_CHIP: Chip = Chip {
     address: 0,
     shadow: [0; 27],
-    attempted: [0; 27],
     doubtful: [false; 27],
 };
 

@@ -43,25 +43,25 @@ module _ (ok : Bool) (argument driver tuner : ℕ) where
   unfolding bothReady
   no-driver o z h = rw (o, eq-eqb argument 0 z, lt-ltb driver 29 h)
 
-  pub no-tuner : ok ≡ true → argument ≡ 0 → 29 ≤ driver → tuner < 105 → 8 ≡ bothReady ok argument driver tuner
+  pub no-tuner : ok ≡ true → argument ≡ 0 → 29 ≤ driver → tuner < 78 → 8 ≡ bothReady ok argument driver tuner
   unfolding bothReady
-  no-tuner o z h i = rw (o, eq-eqb argument 0 z, le-ltb driver 29 h, lt-ltb tuner 105 i)
+  no-tuner o z h i = rw (o, eq-eqb argument 0 z, le-ltb driver 29 h, lt-ltb tuner 78 i)
 
-  pub all-there : ok ≡ true → argument ≡ 0 → 29 ≤ driver → 105 ≤ tuner → 0 ≡ bothReady ok argument driver tuner
+  pub all-there : ok ≡ true → argument ≡ 0 → 29 ≤ driver → 78 ≤ tuner → 0 ≡ bothReady ok argument driver tuner
   unfolding bothReady
-  all-there o z h i = rw (o, eq-eqb argument 0 z, le-ltb driver 29 h, le-ltb tuner 105 i)
+  all-there o z h i = rw (o, eq-eqb argument 0 z, le-ltb driver 29 h, le-ltb tuner 78 i)
 
 -- where nothing is refused, both slices have the bytes that are written
-rooms-fit : (x y : Bool) (driver tuner : ℕ) → ltb driver 29 ≡ x → ltb tuner 105 ≡ y → _≡_ {A = ℕ} (cond (x || y) 8 0) 0 → (29 ≤ driver) × (105 ≤ tuner)
+rooms-fit : (x y : Bool) (driver tuner : ℕ) → ltb driver 29 ≡ x → ltb tuner 78 ≡ y → _≡_ {A = ℕ} (cond (x || y) 8 0) 0 → (29 ≤ driver) × (78 ≤ tuner)
 rooms-fit true y driver tuner d t e = absurd (omega (arith, e))
 rooms-fit false true driver tuner d t e = absurd (omega (arith, e))
-rooms-fit false false driver tuner d t e = (ltb-false driver 29 d, ltb-false tuner 105 t)
+rooms-fit false false driver tuner d t e = (ltb-false driver 29 d, ltb-false tuner 78 t)
 
-argued-fits : (b : Bool) (argument driver tuner : ℕ) → eqb argument 0 ≡ b → cond b (cond (ltb driver 29 || ltb tuner 105) 8 0) argument ≡ 0 → (29 ≤ driver) × (105 ≤ tuner)
-argued-fits true argument driver tuner t e = rooms-fit (ltb driver 29) (ltb tuner 105) driver tuner refl refl e
+argued-fits : (b : Bool) (argument driver tuner : ℕ) → eqb argument 0 ≡ b → cond b (cond (ltb driver 29 || ltb tuner 78) 8 0) argument ≡ 0 → (29 ≤ driver) × (78 ≤ tuner)
+argued-fits true argument driver tuner t e = rooms-fit (ltb driver 29) (ltb tuner 78) driver tuner refl refl e
 argued-fits false argument driver tuner t e = absurd (eqb-false argument 0 t e)
 
-pub fits : (ok : Bool) (argument driver tuner : ℕ) → bothReady ok argument driver tuner ≡ 0 → (29 ≤ driver) × (105 ≤ tuner)
+pub fits : (ok : Bool) (argument driver tuner : ℕ) → bothReady ok argument driver tuner ≡ 0 → (29 ≤ driver) × (78 ≤ tuner)
 unfolding bothReady
 fits false argument driver tuner e = absurd (omega (arith, e))
 fits true argument driver tuner e = argued-fits (eqb argument 0) argument driver tuner refl e

@@ -45,7 +45,7 @@ rates answer room driver tuner = record { answer = answer; room = room; driver =
 
 -- 1 for either record, then the argument's number, then 8 for either slice; 0 where none is given
 unfoldable pub bothReady : Bool → ℕ → ℕ → ℕ → ℕ
-bothReady ok argument driver tuner = cond ok (cond (eqb argument 0) (cond (ltb driver 29 || ltb tuner 105) 8 0) argument) 1
+bothReady ok argument driver tuner = cond ok (cond (eqb argument 0) (cond (ltb driver 29 || ltb tuner 78) 8 0) argument) 1
 
 abbrev pub ratesMade : Called Both → List ℕ → List ℕ → Rates
 ratesMade c driver tuner =

@@ -94,7 +94,7 @@ fn store(answer: Answer, count: usize, driver: Driver, next: &mut [u8])
 }
 
 fn hand(rated: Rated, driver: &mut [u8], tuner: &mut [u8]) -> Reply
-    requires { ⌜ (29 ≤ length (now driver)) × (105 ≤ length (now tuner)) ⌝ }
+    requires { ⌜ (29 ≤ length (now driver)) × (78 ≤ length (now tuner)) ⌝ }
     ensures { λ r. ⌜ (r ≡ replyOf (rated .answer) (rated .count))
         × (now (driver .exit) ≡ nextOf driverBytes (rated .answer) (rated .count) (rated .driver) (now (driver .entry)))
         × (now (tuner .exit) ≡ nextOf tunerBytes (rated .answer) (rated .count) (rated .tuner) (now (tuner .entry))) ⌝ }

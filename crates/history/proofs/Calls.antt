@@ -1,5 +1,5 @@
 -- A call as crate `chip` has it, `callOf`, in a history: the entries used there are the very ones that the reader finds in the room that the call
--- hands back, and a call is one more of the sequence where its program is fine and its record differs from the trace's in the shadow at most.
+-- hands back, and a call is one more of the sequence where its program is fine and its record's chip is the trace's.
 -- A call of the tuner is an instance: R is its record, `chipOf` the chip in it. Assumes nothing.
 use Prim.Native.Nat.{ℕ, _+_, _*_, _≤_}
 use mathlib.Core.Path.{_≡_, refl, sym, ap, subst, _∙_}
@@ -22,7 +22,7 @@ use Rattle.chip.specs.declared.Went.the-variants.{Going, Refused11}
 use Rattle.chip.specs.Calls.{Called, answerOf, callEntries, callOf, called, lentOf, performed}
 use Rattle.chip.specs.Steps.{Step, Trace, every, trace}
 use Rattle.history.specs.Programs.{fine}
-use Rattle.history.specs.Histories.{Alike, Cut, History, stops, wentIn}
+use Rattle.history.specs.Histories.{Cut, History, stops, wentIn}
 use Rattle.history.specs.Histories.History.{called as more}
 use Rattle.history.proofs.Cuts.{cut-trace}
 use Rattle.history.proofs.Told.{told-trace}
@@ -112,7 +112,7 @@ module _ {R : Type 0} (number : ℕ) (whole : Answer) (os : List ℕ) (ss : List
 
 -- a call of a record with the chip in it is one more call of the sequence
 pub call-history : {R : Type 0} (chipOf : R → Chip) (init : List ℕ) (es : List Entry) (number : ℕ) (whole : Answer) (os : List ℕ) (ss : List Step) (keep : Trace → R) (old : R) (room : List ℕ)
-    → every fine ss ≡ true → Alike (trace os ss (chipOf old) .chip) (chipOf (keep (trace os ss (chipOf old))))
+    → every fine ss ≡ true → chipOf (keep (trace os ss (chipOf old))) ≡ trace os ss (chipOf old) .chip
     → History init (chipOf old) es
     → History init (chipOf (callOf number whole os ss (chipOf old) keep old room .next)) (es ++ callEntries number os ss (chipOf old))
 call-history {R} chipOf init es number whole os ss keep old room f l h = go (eqb number 0) refl
@@ -120,8 +120,8 @@ call-history {R} chipOf init es number whole os ss keep old room f l h = go (eqb
     go : (b : Bool) → eqb number 0 ≡ b
         → History init (chipOf (callOf number whole os ss (chipOf old) keep old room .next)) (es ++ callEntries number os ss (chipOf old))
     go true e =
-        rw (ap (λ (d : Called R). d .next) (call-performed number whole os ss (chipOf old) keep old room e), e)
-        (more (chipOf old) es h os ss f (chipOf (keep (trace os ss (chipOf old)))) l)
+        rw (ap (λ (d : Called R). d .next) (call-performed number whole os ss (chipOf old) keep old room e), e, l)
+        (more (chipOf old) es h os ss f)
     go false e =
         rw (ap (λ (d : Called R). d .next) (call-refused number whole os ss (chipOf old) keep old room e), e, append-nil es)
         h

@@ -5,7 +5,7 @@
 -- after` says that a chip that held `before` may hold `after` once es were played on it, by those premises and nothing more. Registers are
 -- 5 + i for the record's 27 places. What is said is of entries: that they reach a chip over USB, and that no other host writes it, is premise.
 -- Assumes nothing.
-use Prim.Native.Nat.{ℕ, _+_, _≤_, _<_}
+use Prim.Native.Nat.{ℕ, _+_, _-_, _≤_, _<_}
 use mathlib.Core.Path.{_≡_, refl, sym, ap, subst, _∙_}
 use mathlib.Core.Bool.{Bool, true, false}
 use mathlib.Core.List.{List, [], _∷_, _++_, append-nil, append-assoc}
@@ -20,14 +20,14 @@ use Rattle.attempts.proofs.Doubt.{InVain, doubt-any, doubt-exactly, sure-byte}
 use Rattle.attempts.proofs.Named.{known, last-append, last-known, other-kind}
 use Rattle.attempts.proofs.Played.{last-done, last-never, some-played}
 use Rattle.chip.specs.declared.Chip.{Chip}
-use Rattle.chip.specs.declared.Went.{Went}
 use Rattle.chip.specs.declared.Went.the-variants.{Going, Refused11}
+use Rattle.chip.specs.Chips.{maskOf, maskedByte}
 use Rattle.chip.specs.Steps.{Step, Trace, emit, every, inList, line, okFor, trace}
 use Rattle.chip.proofs.Laws.{run-address}
 use Rattle.chip.specs.Steps.Step.{Open, Close, Send, Mask, Plain}
-use Rattle.history.specs.Programs.{beside, fine, reloadSteps, reloaded, shadowBy}
-use Rattle.history.specs.Histories.{Alike, Cut, Fresh, History, Restored, Tracks, wentIn}
-use Rattle.history.specs.Histories.History.{made, called, still, aside}
+use Rattle.history.specs.Programs.{beside, fine, reloadSteps}
+use Rattle.history.specs.Histories.{Cut, Fresh, History, Restored, Tracks, wentIn}
+use Rattle.history.specs.Histories.History.{made, called, aside}
 use Rattle.history.proofs.Runs.{run-keeps}
 use Rattle.history.proofs.Tracked.{plain-none, tracks-quiet, tracks-trace}
 use Rattle.history.proofs.Cuts.{cut-trace}
@@ -44,19 +44,9 @@ tracks-fresh init c h =
     record {
       chip = h .chip;
       marks = ap length (h .doubtful) ∙ length-replicate 27 true;
-      bytes = ap length (h .attempted) ∙ h .long;
+      bytes = ap length (h .shadow) ∙ h .long;
       doubtful = λ i l. ap (λ (m : List Bool). getD m i true) (h .doubtful) ∙ getD-replicate 27 i true true l;
-      attempted = λ i l. ap (λ (b : List ℕ). getD b i 0) (h .attempted);
-    }
-
-tracks-alike : (init : List ℕ) (c d : Chip) (es : List Entry) → Alike c d → Tracks init c es → Tracks init d es
-tracks-alike init c d es h t =
-    record {
-      chip = omega (arith, h .chip, t .chip);
-      marks = ap length (h .doubtful) ∙ t .marks;
-      bytes = ap length (h .attempted) ∙ t .bytes;
-      doubtful = λ i l. ap (λ (m : List Bool). getD m i true) (h .doubtful) ∙ t .doubtful i l ∙ ap (λ (a : ℕ). doubtIn (lastIn a es (5 + i))) (sym (h .chip));
-      attempted = λ i l. ap (λ (b : List ℕ). getD b i 0) (h .attempted) ∙ t .attempted i l ∙ ap (λ (a : ℕ). byteIn (getD init i 0) (lastIn a es (5 + i))) (sym (h .chip));
+      shadow = λ i l. ap (λ (b : List ℕ). getD b i 0) (h .shadow);
     }
 
 beside-none : (address : ℕ) (s : Step) (k : Chip) (ok : Bool) → beside s ≡ true → (r : ℕ) → names address (emit s k ok) r ≡ false
@@ -78,9 +68,7 @@ tracks-aside init c es k os ss b t =
 
 pub follows : (init : List ℕ) (c : Chip) (es : List Entry) → History init c es → Tracks init c es
 follows init c es (made new f) = tracks-fresh init new f
-follows init c es (called old xs h os ss f new l) =
-    tracks-alike init (trace os ss old .chip) new (xs ++ trace os ss old .log) l (tracks-trace init old xs os ss f (follows init old xs h))
-follows init c es (still old xs h new l) = tracks-alike init old new xs l (follows init old xs h)
+follows init c es (called old xs h os ss f) = tracks-trace init old xs os ss f (follows init old xs h)
 follows init c es (aside old xs h k os ss b) = tracks-aside init old xs k os ss b (follows init old xs h)
 
 module _ (init : List ℕ) (c : Chip) (es : List Entry) (history : History init c es) where
@@ -92,9 +80,10 @@ module _ (init : List ℕ) (c : Chip) (es : List Entry) (history : History init 
   pub doubtful-words : (i : ℕ) → i < 27 → (getD (c .doubtful) i true ≡ true) ↔ InVain (lastIn (c .address) es (5 + i))
   doubtful-words i h = rw (doubtful-exactly i h) (doubt-exactly (lastIn (c .address) es (5 + i)))
 
-  -- (b) the record's attempted byte is the last attempted in the entries, or `INIT_ARRAY`'s where none was
-  pub attempted-last : (i : ℕ) → i < 27 → getD (c .attempted) i 0 ≡ byteIn (getD init i 0) (lastIn (c .address) es (5 + i))
-  attempted-last i h = follows init c es history .attempted i h
+  -- (b) #106: the shadow's byte is the last attempted in the entries, or `INIT_ARRAY`'s where none was: "The shadow and the last attempted bytes are
+  -- then one and the same list". So "A write not tried, as after a failed opening, leaves the shadow as it was": it makes no entry
+  pub shadow-last : (i : ℕ) → i < 27 → getD (c .shadow) i 0 ≡ byteIn (getD init i 0) (lastIn (c .address) es (5 + i))
+  shadow-last i h = follows init c es history .shadow i h
 
   module _ (before after : Regs) (played : Played (c .address) es before after) where
     -- (b) "at each call's end a register whose last attempt was done holds the byte sent": any register, also past 0x1f
@@ -105,10 +94,16 @@ module _ (init : List ℕ) (c : Chip) (es : List Entry) (history : History init 
     pub never-kept : (r : ℕ) → lastIn (c .address) es r ≡ Never → after r ≡ before r
     never-kept r h = last-never (c .address) es before after played r h
 
-    -- so a register without a doubtful mark holds the record's attempted byte
-    pub sure-holds : (i : ℕ) → i < 27 → getD (c .doubtful) i true ≡ false → after (5 + i) ≡ getD (c .attempted) i 0
+    -- so a register without a doubtful mark holds the shadow's byte
+    pub sure-holds : (i : ℕ) → i < 27 → getD (c .doubtful) i true ≡ false → after (5 + i) ≡ getD (c .shadow) i 0
     sure-holds i h d =
-        sure-byte (c .address) es before after (5 + i) (getD init i 0) played (sym (doubtful-exactly i h) ∙ d) ∙ sym (attempted-last i h)
+        sure-byte (c .address) es before after (5 + i) (getD init i 0) played (sym (doubtful-exactly i h) ∙ d) ∙ sym (shadow-last i h)
+
+    -- and a masked write is built on what the chip holds: the complaint of #106, "a masked update was built on a shadow the chip no longer had"
+    pub built-on : (i value mask : ℕ) → i < 27 → getD (c .doubtful) i true ≡ false → maskedByte c (5 + i) value mask ≡ maskOf (after (5 + i)) value mask
+    built-on i value mask h d =
+        let place : 5 + i - 5 ≡ i = omega arith in
+        ap (λ (b : ℕ). maskOf b value mask) (ap (λ (k : ℕ). getD (c .shadow) k 0) place ∙ sym (sure-holds i h d))
 
   -- (f) there is such a chip, whatever the chip to start from; a failed write admits both the old and the new byte in each register that it
   -- named (`failed-part` of crate attempts)
@@ -123,9 +118,8 @@ module _ (init : List ℕ) (c : Chip) (es : List Entry) (history : History init 
 -- every entry of a history fits the table
 pub history-fits : (init : List ℕ) (c : Chip) (es : List Entry) → History init c es → AllFit es
 history-fits init c es (made new f) = tt
-history-fits init c es (called old xs h os ss f new l) =
+history-fits init c es (called old xs h os ss f) =
     fit-append xs (trace os ss old .log) (history-fits init old xs h) (fit-trace os ss old f (follows init old xs h .chip))
-history-fits init c es (still old xs h new l) = history-fits init old xs h
 history-fits init c es (aside old xs h k os ss b) = fit-append xs (trace os ss k .log) (history-fits init old xs h) (fit-beside os ss k b)
 
 -- ---- (c) a cut call
@@ -138,54 +132,45 @@ cut-call os ss c i f w = cut-trace os ss c i f w
 
 -- ---- (d) reload
 
--- its shadow aside, reload's record is its trace's
-reloaded-alike : (t : Trace) → Alike (t .chip) (reloaded t)
-reloaded-alike t = go (t .went)
-  where
-    go : (w : Went) → Alike (t .chip) (shadowBy w (t .chip))
-    go Going = record { chip = refl; attempted = refl; doubtful = refl }
-    go (Refused11 k) = record { chip = refl; attempted = refl; doubtful = refl }
-
 module _ (init : List ℕ) (c : Chip) (es : List Entry) (history : History init c es) (os : List ℕ) where
   abbrev t : Trace
-  t = trace os (reloadSteps (c .attempted)) c
+  t = trace os (reloadSteps (c .shadow)) c
 
   -- a reload is one more call of the sequence
-  pub reload-called : History init (reloaded t) (es ++ t .log)
-  reload-called = called c es history os (reloadSteps (c .attempted)) (fine-reload (c .attempted)) (reloaded t) (reloaded-alike t)
+  pub reload-called : History init (t .chip) (es ++ t .log)
+  reload-called = called c es history os (reloadSteps (c .shadow)) (fine-reload (c .shadow))
 
   module _ (done : t .went ≡ Going) (before after : Regs) (played : Played (c .address) (es ++ t .log) before after) (i : ℕ) (h : i < 27) where
-    last : lastIn (c .address) (es ++ t .log) (5 + i) ≡ Tried (getD (c .attempted) i 0) true
+    last : lastIn (c .address) (es ++ t .log) (5 + i) ≡ Tried (getD (c .shadow) i 0) true
     last =
         last-append (c .address) Never es (t .log) (5 + i)
         ∙ last-known (c .address) (lastIn (c .address) es (5 + i)) (t .log) (5 + i)
-        ∙ ap (λ (l : Last). known l (lastIn (c .address) es (5 + i))) (reload-last os c (c .attempted) (follows init c es history .bytes) done i h)
+        ∙ ap (λ (l : Last). known l (lastIn (c .address) es (5 + i))) (reload-last os c (c .shadow) (follows init c es history .bytes) done i h)
 
     same : t .chip .address ≡ c .address
     unfolding trace
-    same = run-address inList os (reloadSteps (c .attempted)) (line c [] 0 Going false)
+    same = run-address inList os (reloadSteps (c .shadow)) (line c [] 0 Going false)
 
     tracked : Tracks init (t .chip) (es ++ t .log)
-    tracked = tracks-trace init c es os (reloadSteps (c .attempted)) (fine-reload (c .attempted)) (follows init c es history)
+    tracked = tracks-trace init c es os (reloadSteps (c .shadow)) (fine-reload (c .shadow)) (follows init c es history)
 
-    byte : getD (c .attempted) i 0 ≡ byteIn (getD init i 0) (lastIn (c .address) es (5 + i))
-    byte = attempted-last init c es history i h
+    byte : getD (c .shadow) i 0 ≡ byteIn (getD init i 0) (lastIn (c .address) es (5 + i))
+    byte = shadow-last init c es history i h
 
-    kept : getD (t .chip .attempted) i 0 ≡ byteIn (getD init i 0) (lastIn (c .address) es (5 + i))
-    kept = tracked .attempted i h ∙ ap (λ (a : ℕ). byteIn (getD init i 0) (lastIn a (es ++ t .log) (5 + i))) same ∙ ap (byteIn (getD init i 0)) last ∙ byte
+    kept : getD (t .chip .shadow) i 0 ≡ byteIn (getD init i 0) (lastIn (c .address) es (5 + i))
+    kept = tracked .shadow i h ∙ ap (λ (a : ℕ). byteIn (getD init i 0) (lastIn a (es ++ t .log) (5 + i))) same ∙ ap (byteIn (getD init i 0)) last ∙ byte
 
     sure : getD (t .chip .doubtful) i true ≡ false
     sure = tracked .doubtful i h ∙ ap (λ (a : ℕ). doubtIn (lastIn a (es ++ t .log) (5 + i))) same ∙ ap doubtIn last
 
     -- "A reload answered done leaves all 27 registers and the shadow at the last attempted bytes, or the initial ones where none was
     -- attempted": the bytes are read off the entries before it. And no doubt is left
-    pub reload-done : Restored (byteIn (getD init i 0) (lastIn (c .address) es (5 + i))) i (reloaded t) after
+    pub reload-done : Restored (byteIn (getD init i 0) (lastIn (c .address) es (5 + i))) i (t .chip) after
     reload-done =
         record {
-          holds = last-done (c .address) (es ++ t .log) before after played (5 + i) (getD (c .attempted) i 0) last ∙ byte;
-          shadow = ap (λ (w : Went). getD (shadowBy w (t .chip) .shadow) i 0) done ∙ kept;
-          attempted = ap (λ (w : Went). getD (shadowBy w (t .chip) .attempted) i 0) done ∙ kept;
-          doubtful = ap (λ (w : Went). getD (shadowBy w (t .chip) .doubtful) i true) done ∙ sure;
+          holds = last-done (c .address) (es ++ t .log) before after played (5 + i) (getD (c .shadow) i 0) last ∙ byte;
+          shadow = kept;
+          doubtful = sure;
         }
 
 -- ---- (e) counts and indexes are read off the entries

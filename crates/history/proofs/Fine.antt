@@ -57,16 +57,8 @@ pub fine-behind : (ss : List Step) → every fine ss ≡ true → every fine (be
 unfolding every
 fine-behind ss h = every-append fine ss (Close ∷ []) h refl
 
-fine-pair : (r v : ℕ) → 5 ≤ r → r ≤ 31 → fineSend 2 (pair r v) ≡ true
-unfolding fineSend zeros
-fine-pair r v l h = rw (le-leb 5 r l, le-leb (r + 2) 33 (omega arith))
-
 pub fine-update : (u : Update) → inRange u ≡ true → fine (updateStep u) ≡ true
-fine-update u h = go (u .past) refl
-  where
-    go : (b : Bool) → u .past ≡ b → fine (updateStep u) ≡ true
-    go true e = rw e (fine-pair (u .register) (u .value) (low u h) (high u h))
-    go false e = rw e h
+fine-update u h = h
 
 pub fine-updates : (us : List Update) → allIn us ≡ true → every fine (updates us) ≡ true
 fine-updates us h = every-map inRange fine updateStep fine-update us h

@@ -8,3 +8,4 @@ pub mod Reload
 pub mod Demand
 pub mod Calls
 pub mod Worked
+pub mod Whole

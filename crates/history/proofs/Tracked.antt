@@ -18,7 +18,7 @@ use Rattle.attempts.specs.Attempts.Last.{Tried}
 use Rattle.attempts.proofs.Named.{named, other-kind, below-first, past-last, one-byte, last-snoc, last-same}
 use Rattle.chip.specs.declared.Chip.{Chip}
 use Rattle.chip.specs.declared.Went.the-variants.{Going}
-use Rattle.chip.specs.Chips.{attemptedBy, maskedByte, pair, shadowed}
+use Rattle.chip.specs.Chips.{attemptedBy, maskedByte, pair}
 use Rattle.chip.specs.Entries.{flagOf, settled, written}
 use Rattle.chip.specs.Steps.{Step, Trace, after, emit, every, line, okFor, trace}
 use Rattle.chip.specs.Steps.Step.{Open, Close, Send, Mask, Plain}
@@ -132,7 +132,7 @@ module _ (init : List ℕ) (c : Chip) (es : List Entry) (n : ℕ) (bytes : List 
   abbrev At : ℕ → Type 0
   At i =
       (getD (sets (c .doubtful) (first - 5) marks) i true ≡ doubtIn (lastIn (c .address) (es ++ (e ∷ [])) (5 + i)))
-      × (getD (sets (c .attempted) (first - 5) sent) i 0 ≡ byteIn (getD init i 0) (lastIn (c .address) (es ++ (e ∷ [])) (5 + i)))
+      × (getD (sets (c .shadow) (first - 5) sent) i 0 ≡ byteIn (getD init i 0) (lastIn (c .address) (es ++ (e ∷ [])) (5 + i)))
 
   module _ (i : ℕ) (l : first ≤ 5 + i) (k : 5 + i < first + (n - 1)) where
     last : lastIn (c .address) (es ++ (e ∷ [])) (5 + i) ≡ Tried (sentTo e (5 + i)) (done e)
@@ -147,9 +147,9 @@ module _ (init : List ℕ) (c : Chip) (es : List Entry) (n : ℕ) (bytes : List 
     place : 1 + (i - (first - 5)) ≡ 5 + i - first + 1
     place = omega arith
 
-    byte : getD (sets (c .attempted) (first - 5) sent) i 0 ≡ sentTo e (5 + i)
+    byte : getD (sets (c .shadow) (first - 5) sent) i 0 ≡ sentTo e (5 + i)
     byte =
-        sets-at 0 (c .attempted) (first - 5) sent i (omega arith) (omega (arith, sent-long)) (omega (arith, sent-long, follows .bytes))
+        sets-at 0 (c .shadow) (first - 5) sent i (omega arith) (omega (arith, sent-long)) (omega (arith, sent-long, follows .bytes))
         ∙ getD-take (n - 1) (drop 1 bytes) (i - (first - 5)) 0 (omega arith)
         ∙ getD-drop 1 bytes (i - (first - 5)) 0
         ∙ ap (λ (j : ℕ). getD bytes j 0) place
@@ -159,11 +159,11 @@ module _ (init : List ℕ) (c : Chip) (es : List Entry) (n : ℕ) (bytes : List 
 
   outside : (i : ℕ) → i < 27 → names (c .address) e (5 + i) ≡ false
       → getD (sets (c .doubtful) (first - 5) marks) i true ≡ getD (c .doubtful) i true
-      → getD (sets (c .attempted) (first - 5) sent) i 0 ≡ getD (c .attempted) i 0
+      → getD (sets (c .shadow) (first - 5) sent) i 0 ≡ getD (c .shadow) i 0
       → At i
   outside i h none p q =
       let last = last-same (c .address) es e (5 + i) none in
-      (p ∙ follows .doubtful i h ∙ sym (ap doubtIn last), q ∙ follows .attempted i h ∙ sym (ap (byteIn (getD init i 0)) last))
+      (p ∙ follows .doubtful i h ∙ sym (ap doubtIn last), q ∙ follows .shadow i h ∙ sym (ap (byteIn (getD init i 0)) last))
 
   at : (i : ℕ) → i < 27 → At i
   at i h = go (leb first (5 + i)) (ltb (5 + i) (first + (n - 1))) refl refl
@@ -174,12 +174,12 @@ module _ (init : List ℕ) (c : Chip) (es : List Entry) (n : ℕ) (bytes : List 
           let past : first + (n - 1) ≤ 5 + i = ltb-false (5 + i) (first + (n - 1)) k in
           outside i h (past-last (c .address) e (5 + i) past)
           (sets-past true (c .doubtful) (first - 5) marks i (omega (arith, marks-long)))
-          (sets-past 0 (c .attempted) (first - 5) sent i (omega (arith, sent-long)))
+          (sets-past 0 (c .shadow) (first - 5) sent i (omega (arith, sent-long)))
       go false b l k =
           let under : 5 + i < first = leb-false first (5 + i) l in
           outside i h (below-first (c .address) e (5 + i) under)
           (sets-below true (c .doubtful) (first - 5) marks i (omega arith))
-          (sets-below 0 (c .attempted) (first - 5) sent i (omega arith))
+          (sets-below 0 (c .shadow) (first - 5) sent i (omega arith))
 
   -- a write's record follows its entry
   pub tracks-write : Tracks init (attemptedBy c n bytes ok) (es ++ (e ∷ []))
@@ -188,9 +188,9 @@ module _ (init : List ℕ) (c : Chip) (es : List Entry) (n : ℕ) (bytes : List 
       record {
         chip = follows .chip;
         marks = length-sets (c .doubtful) (first - 5) marks ∙ follows .marks;
-        bytes = length-sets (c .attempted) (first - 5) sent ∙ follows .bytes;
+        bytes = length-sets (c .shadow) (first - 5) sent ∙ follows .bytes;
         doubtful = λ i h. at i h .0;
-        attempted = λ i h. at i h .1;
+        shadow = λ i h. at i h .1;
       }
 
 -- ---- any other entry
@@ -203,7 +203,7 @@ tracks-quiet init c es e none follows =
       marks = follows .marks;
       bytes = follows .bytes;
       doubtful = λ i h. follows .doubtful i h ∙ sym (ap doubtIn (last-same (c .address) es e (5 + i) (none (5 + i))));
-      attempted = λ i h. follows .attempted i h ∙ sym (ap (byteIn (getD init i 0)) (last-same (c .address) es e (5 + i) (none (5 + i))));
+      shadow = λ i h. follows .shadow i h ∙ sym (ap (byteIn (getD init i 0)) (last-same (c .address) es e (5 + i) (none (5 + i))));
     }
 
 pub plain-none : (address : ℕ) (e : Entry) (ok : Bool) → finePlain e ≡ true → (r : ℕ) → names address (settled e ok) r ≡ false
@@ -229,9 +229,7 @@ tracks-step init (Mask r v m) c es ok h t =
     let p = both (leb 5 r) (leb r 31) h in
     let low : 5 ≤ r = leb-true 5 r (p .0) in
     let high : r + 2 ≤ 33 = omega (arith, leb-true r 31 (p .1)) in
-    let same : Tracks init (shadowed c r b) es =
-    record { chip = t .chip; marks = t .marks; bytes = t .bytes; doubtful = t .doubtful; attempted = t .attempted } in
-    tracks-write init (shadowed c r b) es 2 (pair r b) ok (omega arith) (omega arith) low high same
+    tracks-write init c es 2 (pair r b) ok (omega arith) (omega arith) low high t
 tracks-step init (Plain e) c es ok h t = tracks-quiet init c es (settled e ok) (plain-none (c .address) e ok h) t
 
 -- the record follows the entries before a program and its own, wherever the program stopped

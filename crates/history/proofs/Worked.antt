@@ -11,7 +11,7 @@ use Rattle.chip.specs.declared.Went.the-variants.{Refused11}
 use Rattle.chip.specs.Chips.{attemptedBy}
 use Rattle.chip.specs.Entries.{repeater}
 use Rattle.chip.specs.Steps.{chunkBytes, run, step, trace}
-use Rattle.history.specs.Programs.{reloadSteps, reloaded}
+use Rattle.history.specs.Programs.{reloadSteps}
 use Rattle.history.specs.Histories.{Fresh, History}
 use Rattle.history.specs.Histories.History.{made}
 use Rattle.history.proofs.Demand.{reload-called}
@@ -20,7 +20,7 @@ abbrev bytes : List ℕ
 bytes = 1 ∷ 2 ∷ 3 ∷ 4 ∷ 5 ∷ 6 ∷ 7 ∷ 8 ∷ 9 ∷ 10 ∷ 11 ∷ 12 ∷ 13 ∷ 14 ∷ 15 ∷ 16 ∷ 17 ∷ 18 ∷ 19 ∷ 20 ∷ 21 ∷ 22 ∷ 23 ∷ 24 ∷ 25 ∷ 26 ∷ 27 ∷ []
 
 abbrev fresh : Chip
-fresh = record { address = 0x74; shadow = replicate 27 0; attempted = bytes; doubtful = replicate 27 true }
+fresh = record { address = 0x74; shadow = bytes; doubtful = replicate 27 true }
 
 -- opened, a write done, a write failed, closed
 abbrev outcomes : List ℕ
@@ -48,20 +48,20 @@ pub all-done : length (trace [] (reloadSteps bytes) fresh .log) ≡ 9
 unfolding trace run step attemptedBy chunkBytes
 all-done = refl
 
-pub no-doubt : reloaded (trace [] (reloadSteps bytes) fresh) .doubtful ≡ replicate 27 false
+pub no-doubt : trace [] (reloadSteps bytes) fresh .chip .doubtful ≡ replicate 27 false
 unfolding trace run step attemptedBy chunkBytes
 no-doubt = refl
 
-pub shadow-set : reloaded (trace [] (reloadSteps bytes) fresh) .shadow ≡ bytes
+pub shadow-set : trace [] (reloadSteps bytes) fresh .chip .shadow ≡ bytes
 unfolding trace run step attemptedBy chunkBytes
 shadow-set = refl
 
 -- and it is a history
 is-fresh : Fresh bytes fresh
-is-fresh = record { chip = omega arith; long = refl; attempted = refl; doubtful = refl }
+is-fresh = record { chip = omega arith; long = refl; shadow = refl; doubtful = refl }
 
 abbrev cut : Chip
-cut = reloaded (trace outcomes (reloadSteps bytes) fresh)
+cut = trace outcomes (reloadSteps bytes) fresh .chip
 
-pub again : History bytes (reloaded (trace [] (reloadSteps (cut .attempted)) cut)) ([] ++ trace outcomes (reloadSteps bytes) fresh .log ++ trace [] (reloadSteps (cut .attempted)) cut .log)
+pub again : History bytes (trace [] (reloadSteps (cut .shadow)) cut .chip) ([] ++ trace outcomes (reloadSteps bytes) fresh .log ++ trace [] (reloadSteps (cut .shadow)) cut .log)
 again = reload-called bytes cut ([] ++ trace outcomes (reloadSteps bytes) fresh .log) (reload-called bytes fresh [] (made fresh is-fresh) outcomes) []

@@ -22,37 +22,29 @@ use Rattle.chip.specs.Entries.{repeater}
 use Rattle.chip.specs.Steps.{Step, every, trace}
 use Rattle.history.specs.Programs.{beside, fine}
 
--- a record follows entries: "doubtful are exactly those never attempted or last attempted in vain", and the attempted byte is the last
--- attempted in the entries, or the initial one where none was. Register 5 + i is the record's i.
+-- a record follows entries: "doubtful are exactly those never attempted or last attempted in vain", and the shadow's byte is the last
+-- attempted in the entries, or the initial one where none was (#106). Register 5 + i is the record's i.
 pub record Tracks (init : List ℕ) (c : Chip) (es : List Entry) : Type 0 where
   pub chip : c .address ≤ 255
   pub marks : length (c .doubtful) ≡ 27
-  pub bytes : length (c .attempted) ≡ 27
+  pub bytes : length (c .shadow) ≡ 27
   pub doubtful : (i : ℕ) → i < 27 → getD (c .doubtful) i true ≡ doubtIn (lastIn (c .address) es (5 + i))
-  pub attempted : (i : ℕ) → i < 27 → getD (c .attempted) i 0 ≡ byteIn (getD init i 0) (lastIn (c .address) es (5 + i))
+  pub shadow : (i : ℕ) → i < 27 → getD (c .shadow) i 0 ≡ byteIn (getD init i 0) (lastIn (c .address) es (5 + i))
 
--- "per register the byte last attempted (fresh: `INIT_ARRAY`) and a doubtful mark (fresh: all)"
+-- "per register the byte last attempted (fresh: `INIT_ARRAY`) and a doubtful mark (fresh: all)", the former the shadow's since #106
 pub record Fresh (init : List ℕ) (c : Chip) : Type 0 where
   pub chip : c .address ≤ 255
   pub long : length init ≡ 27
-  pub attempted : c .attempted ≡ init
+  pub shadow : c .shadow ≡ init
   pub doubtful : c .doubtful ≡ replicate 27 true
 
--- two records of one chip whose attempt records are the same: they may differ in their shadow
-pub record Alike (c d : Chip) : Type 0 where
-  pub chip : d .address ≡ c .address
-  pub attempted : d .attempted ≡ c .attempted
-  pub doubtful : d .doubtful ≡ c .doubtful
-
 -- "any sequence of calls from a fresh record, each on the record the last handed back, with any outcomes": the record at its end, and the
--- entries of all its calls end to end. A call runs a program of fine steps, and what it hands back differs from its trace's chip in the shadow at
--- most (reload's); one without steps (refused, `set_ppm`, notch, `update_shadow`) likewise; one that touches no tuner record runs
--- its program over any other chip's record.
+-- entries of all its calls end to end. A call runs a program of fine steps and hands its trace's chip back; one without steps (refused, `set_ppm`,
+-- notch) leaves record and entries as they were, and so the history; one that touches no tuner record runs its program over any other chip's record.
 pub data History (init : List ℕ) : Chip → List Entry → Type 0 where
   made : (c : Chip) → Fresh init c → History init c []
   called : (c : Chip) (es : List Entry) → History init c es → (os : List ℕ) (ss : List Step) → every fine ss ≡ true
-      → (d : Chip) → Alike (trace os ss c .chip) d → History init d (es ++ trace os ss c .log)
-  still : (c : Chip) (es : List Entry) → History init c es → (d : Chip) → Alike c d → History init d es
+      → History init (trace os ss c .chip) (es ++ trace os ss c .log)
   aside : (c : Chip) (es : List Entry) → History init c es → (k : Chip) (os : List ℕ) (ss : List Step) → every beside ss ≡ true
       → History init c (es ++ trace os ss k .log)
 
@@ -82,7 +74,6 @@ pub record Cut (i : ℕ) (cut whole : List Entry) : Type 0 where
 pub record Restored (byte i : ℕ) (c : Chip) (chip : Regs) : Type 0 where
   pub holds : chip (5 + i) ≡ byte
   pub shadow : getD (c .shadow) i 0 ≡ byte
-  pub attempted : getD (c .attempted) i 0 ≡ byte
   pub doubtful : getD (c .doubtful) i true ≡ false
 
 abbrev pub isClosing : Entry → Bool

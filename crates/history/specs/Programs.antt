@@ -7,12 +7,8 @@ use lib.Dec.{eqb, leb}
 use lib.ListN.{length, getD, drop}
 use Rattle.transcript.specs.declared.Entry.{Entry}
 use Rattle.transcript.specs.Entries.{entryFits, zeros}
-use Rattle.chip.specs.declared.Chip.{Chip}
-use Rattle.chip.specs.declared.Went.{Went}
-use Rattle.chip.specs.declared.Went.the-variants.{Going, Refused11}
-use Rattle.chip.specs.Chips.{withLists}
 use Rattle.chip.specs.Entries.{settled}
-use Rattle.chip.specs.Steps.{Step, Trace, tunerWrite}
+use Rattle.chip.specs.Steps.{Step, tunerWrite}
 use Rattle.chip.specs.Steps.Step.{Open, Close, Send, Mask, Plain}
 
 -- an I2C write that attempts registers of 0x05..0x1f alone, with its eight bytes "padded with zeros"
@@ -45,14 +41,6 @@ beside (Send n bytes) = false
 beside (Mask register value mask) = false
 beside (Plain e) = finePlain e
 
--- "Reload sends the attempted bytes in `initialize`'s chunks (7, 7, 2, then 7, 4)"
+-- "Reload sends the attempted bytes in `initialize`'s chunks (7, 7, 2, then 7, 4)"; since #106 they are the shadow
 abbrev pub reloadSteps : List ℕ → List Step
 reloadSteps bs = tunerWrite bs 0 3 ++ tunerWrite bs 3 5
-
--- "and sets the shadow to them when all are done"
-abbrev pub shadowBy : Went → Chip → Chip
-shadowBy Going c = withLists c (c .attempted) (c .attempted) (c .doubtful)
-shadowBy (Refused11 k) c = c
-
-abbrev pub reloaded : Trace → Chip
-reloaded t = shadowBy (t .went) (t .chip)

@@ -16,7 +16,7 @@ ghost use Rattle.drivers.specs.Drivers as driver;
 ghost use Rattle.drivers.specs.Drivers.{ppmInto, rateOver, rates, xtalOver};
 ghost use Rattle.expansion.specs.Expansion.{expandInto, readInto};
 ghost use Rattle.r82xx.specs.Orders.{courseOf};
-ghost use Rattle.r82xx.specs.Orders.Order.{Initialize, Reload, Bandwidth, IfFreq, Gain, GainIndex, InputPath, Tune, Shadow, Ppm, Notch, GainTold, IfTold};
+ghost use Rattle.r82xx.specs.Orders.Order.{Initialize, Reload, Bandwidth, IfFreq, Gain, GainIndex, InputPath, Tune, Ppm, Notch, GainTold, IfTold};
 ghost use Rattle.parting.specs.Parting.{partingOf};
 ghost use Rattle.replies.specs.Replies.{partsOf, replyOf};
 ghost use Rattle.settings.specs.Image.{wider};
@@ -35,12 +35,12 @@ use settings::Reply2;
 use settings::Settings;
 use settings::Settings2;
 
-// 3.4.0: the major number times 65,536, the minor times 256, the patch.
+// 4.0.0: the major number times 65,536, the minor times 256, the patch.
 #[no_mangle]
 pub extern "C" fn pasetone_version() -> u32
-    ensures { λ r. ⌜ r ≡ 197632 ⌝ }
+    ensures { λ r. ⌜ r ≡ 262144 ⌝ }
 {
-    0x0003_0400
+    0x0004_0000
 }
 
 // The tuner: src/tuners/r82xx.rs.
@@ -161,20 +161,6 @@ pub extern "C" fn pasetone_reload(
         ≡ overTuner (courseOf Reload) (now (outcomes .entry)) (now (tuner .entry)) (now (room .entry)) (now (next .entry)) ⌝ }
 {
     tuners::reload(tuner, outcomes, room, next)
-}
-
-#[no_mangle]
-pub extern "C" fn pasetone_update_shadow(
-    tuner: &[u8],
-    register: u8,
-    value: u8,
-    mask: u8,
-    next: &mut [u8],
-) -> Reply
-    ensures { λ r. ⌜ lent r (now (next .exit)) ≡ lentBy (changedInto (Shadow register value mask) (now (tuner .entry)) (now (next .entry))) ⌝ }
-{
-    let answer = tuners::update_shadow(tuner, register, value, mask, next);
-    replies::numbers(answer, 0)
 }
 
 #[no_mangle]

@@ -1,4 +1,4 @@
--- A tuning's call over the code, and the calls that are told by cases: path, shadow, correction. Assumes nothing.
+-- A tuning's call over the code, and the calls that are told by cases: path, correction. Assumes nothing.
 use Prim.Native.Nat.{ℕ, _+_, _-_, _^_, _≤_, _<_}
 use mathlib.Core.Path.{_≡_, refl, sym, ap, subst⁻¹, _∙_}
 use mathlib.Core.Bool.{Bool, true, false, not, _&&_, _||_, cond}
@@ -20,7 +20,6 @@ use Rattle.chip.specs.declared.Seen.{Seen}
 use Rattle.chip.specs.declared.Updates.{Updates}
 use Rattle.chip.specs.declared.Went.the-variants.{Going}
 use Rattle.chip.specs.Calls.{Called, answerOf, called, laidOut, performed, sealed, seenIn}
-use Rattle.chip.specs.Chips.{maskedByte, shadowed}
 use Rattle.chip.specs.Entries.{unseen}
 use Rattle.chip.specs.Steps.{Line, Logged, Step, Trace, behind, eight, every, inRoom, line, listed, logged, meantOf, onRoom, run, trace}
 use Rattle.chip.proofs.Taken.{handed, performs, seen-in, stands, tried, untried}
@@ -46,7 +45,7 @@ use Rattle.chip.specs.Courses.{leftBy}
 use Rattle.chip.specs.Courses.Course.{Still}
 use Rattle.r82xx.specs.Calls.{hzRefusal, keptBy, keptNotch, keptPpm, planFor, ppmAnswer, refusalOf, soundAnswer, toldBy}
 use Rattle.r82xx.specs.Orders.{lockKept, pathRow, ppmRow, quietly, resultOf, seenOf, tableOf, tuneOf}
-use Rattle.r82xx.specs.Orders.Order.{Tune, Shadow, Ppm, Notch, GainTold, IfTold, TableTold}
+use Rattle.r82xx.specs.Orders.Order.{Tune, Ppm, Notch, GainTold, IfTold, TableTold}
 use Rattle.r82xx.proofs.Whole.{behind-eight, bracket-by, bracketCall, refuse-by, stepCall}
 
 -- a plan's divider number
@@ -137,31 +136,6 @@ chosen-step db k e = ap clamped e ∙ within (chosenOf db) (chosen-lt db)
   where
     within : (n : ℕ) → n < 29 → clamped n ≡ n
     within n h = omega arith
-
--- the mask leaf alone
-pub shadow-unsound : (r v m : ℕ) (t : Tuner) → sound t ≡ false → called t [] 0 (Refused 1) ≡ quietly (Shadow r v m) t
-unfolding resultOf leftBy
-shadow-unsound r v m t h = rw h (go (leb 5 r && leb r 31))
-  where
-    go : (b : Bool)
-        → called t [] 0 (Refused 1)
-        ≡ leftBy false (cond b (Still (withChip t (shadowed (t .chip) r (maskedByte (t .chip) r v m))) (Done (maskedByte (t .chip) r v m))) (Still t (Refused 5))) [] (t .chip) t []
-    go true = refl
-    go false = refl
-
-pub shadow-low : (r v m : ℕ) (t : Tuner) → sound t ≡ true → r < 5 → called t [] 0 (Refused 5) ≡ quietly (Shadow r v m) t
-unfolding resultOf leftBy
-shadow-low r v m t h k = rw (h, lt-leb 5 r k)
-
-pub shadow-high : (r v m : ℕ) (t : Tuner) → sound t ≡ true → 5 ≤ r → 31 < r → called t [] 0 (Refused 5) ≡ quietly (Shadow r v m) t
-unfolding resultOf leftBy
-shadow-high r v m t h k l = rw (h, le-leb 5 r k, lt-leb r 31 l)
-
-pub shadow-done : (r v m byte : ℕ) (t : Tuner) → sound t ≡ true → 5 ≤ r → r ≤ 31 → byte ≡ maskedByte (t .chip) r v m
-    → called (withChip t (shadowed (t .chip) r byte)) [] 0 (Done byte) ≡ quietly (Shadow r v m) t
-unfolding resultOf leftBy
-shadow-done r v m byte t h k l e =
-    ap (λ (b : ℕ). called (withChip t (shadowed (t .chip) r b)) [] 0 (Done b)) e ∙ rw (h, le-leb 5 r k, le-leb r 31 l)
 
 -- a correction that is refused, or taken
 module _ (n c : ℕ) (ppm : ℤ) (r : Corrected) (s : soundBy n c ≡ true) (e : r ≡ correctedOf n ppm) where

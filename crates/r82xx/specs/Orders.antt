@@ -2,9 +2,8 @@
 -- refusals from it, and demand 3 is about it. Document 01, "Transcript and script", "Refusal numbers", "The record", "Gain", "PLL".
 -- Assumes nothing.
 use Prim.Native.Nat.{ℕ, _+_}
-use mathlib.Core.Bool.{Bool, _&&_, cond}
+use mathlib.Core.Bool.{Bool, cond}
 use mathlib.Core.List.{List, [], map}
-use lib.Dec.{leb}
 use lib.Ieee.{Float, binary32, toBits}
 use lib.IntN.{ℤ, pos}
 use lib.ListN.{length, replicate}
@@ -16,7 +15,6 @@ use Rattle.chip.specs.declared.Answer.the-variants.{Done, Refused}
 use Rattle.chip.specs.declared.Seen.{Seen}
 use Rattle.chip.specs.declared.Update.{Update}
 use Rattle.chip.specs.Calls.{Called, seenIn}
-use Rattle.chip.specs.Chips.{maskedByte, shadowed}
 use Rattle.chip.specs.Courses.{Course, askedBy, entriesBy, leftBy}
 use Rattle.chip.specs.Courses.Course.{Still, Taken}
 use Rattle.chip.specs.Steps.{Step, Trace, behind, updates}
@@ -34,10 +32,10 @@ use Rattle.writes.specs.Lists.{bandwidthUpdates, gainUpdates, ifUpdates, pathUp
 use Rattle.writes.specs.Programs.{initSteps, sendAll}
 use Rattle.r82xx.specs.declared.Table.{Table}
 use Rattle.r82xx.specs.declared.Tuner.{Tuner}
-use Rattle.r82xx.specs.Record.{endedBy, reloaded, sound, withChip, withCorrected, withGain, withIf, withLock, withNotch}
+use Rattle.r82xx.specs.Record.{endedBy, sound, withChip, withCorrected, withGain, withIf, withLock, withNotch}
 use Rattle.r82xx.specs.Calls.{hzRefusal, planFor}
 
--- rs are the replies. The last six take no step: "`set_ppm`, notch, `update_shadow` 0, 0", and the three that only tell
+-- rs are the replies. The last five take no step: "`set_ppm`, notch .. 0, 0", and the three that only tell
 pub data Order : Type 0 where
   Initialize : Order
   Reload : Order
@@ -47,7 +45,6 @@ pub data Order : Type 0 where
   GainIndex : (k : ℕ) → Order
   InputPath : (path : ℕ) → Order
   Tune : (hz : ℕ) (rs : List ℕ) → Order
-  Shadow : (register value mask : ℕ) → Order
   Ppm : (ppm : ℤ) → Order
   Notch : (on : Bool) → Order
   GainTold : Order
@@ -68,13 +65,6 @@ pathRow path-read.Refused kind t = Still t (Refused 1)
 pathRow (path-read.Is path) R820T t = Still t (Done 0)
 pathRow (path-read.Is path) R828D t = bracket 2 (pathUpdates path) (Done 0) t t
 
--- "5 register | `update_shadow` alone, not 0x05..0x1f": the shadow is changed and nothing is attempted
-abbrev pub shadowRow : ℕ → ℕ → ℕ → Tuner → Course Tuner
-shadowRow register value mask t =
-    cond (leb 5 register && leb register 31)
-    (Still (withChip t (shadowed (t .chip) register (maskedByte (t .chip) register value mask))) (Done (maskedByte (t .chip) register value mask)))
-    (Still t (Refused 5))
-
 -- 4 where the corrected reference is out of its range
 abbrev pub ppmRow : Corrected → Tuner → Course Tuner
 ppmRow (corrected-variants.Is v) t = Still (withCorrected t v) (Done 0)
@@ -90,7 +80,7 @@ lockKept t tr = withLock (withChip t (tr .chip)) (lockBy (seenIn (tr .log)) (t .
 -- "initialise 19, 0; tune 53, 35; gain 7, 0; bandwidth 3, 0; IF 4, 0; .. reload 9, 0"
 abbrev pub courseOf : Order → Tuner → Course Tuner
 courseOf Initialize t = Taken 0 19 0 [] (Done 0) initSteps (λ tr. withChip t (tr .chip))
-courseOf Reload t = Taken 0 9 0 [] (Done 0) (sendAll (t .chip .attempted)) (λ tr. withChip t (reloaded (tr .went) (tr .chip)))
+courseOf Reload t = Taken 0 9 0 [] (Done 0) (sendAll (t .chip .shadow)) (λ tr. withChip t (tr .chip))
 courseOf (Bandwidth hz) t = bracket 1 (bandwidthUpdates hz) (Done 0) t t
 courseOf (IfFreq hz) t = bracket 2 (ifUpdates hz) (Done 0) (withIf t hz) (withIf t hz)
 courseOf (Gain db) t = gainRow (chosenOf db) t
@@ -98,7 +88,6 @@ courseOf (GainIndex k) t = gainRow (clamped k) t
 courseOf (InputPath path) t = pathRow (pathOf path) (t .kind) t
 courseOf (Tune hz rs) t =
     Taken (hzRefusal hz (t .ifreq)) 53 35 rs (wholeOf (planFor t hz) hz) (tuneOf t (planFor t hz) hz rs) (lockKept t)
-courseOf (Shadow register value mask) t = shadowRow register value mask t
 courseOf (Ppm ppm) t = ppmRow (correctedOf (t .nominal) ppm) t
 courseOf (Notch on) t = Still (withNotch t on) (Done 0)
 courseOf GainTold t = Still t (Done (toBits binary32 (t .gain)))

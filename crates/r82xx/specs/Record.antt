@@ -10,8 +10,6 @@ use Rattle.chip.specs.declared.Answer.{Answer}
 use Rattle.chip.specs.declared.Answer.the-variants.{Done, Refused, Stopped}
 use Rattle.chip.specs.declared.Chip.{Chip}
 use Rattle.chip.specs.declared.Went.{Went}
-use Rattle.chip.specs.declared.Went.the-variants.{Going, Refused11}
-use Rattle.chip.specs.Chips.{withLists}
 use Rattle.chip.specs.Steps.{goes}
 use Rattle.pll.specs.declared.Kind.{Kind}
 use Rattle.pll.specs.declared.Kind.the-variants.{R820T, R828D}
@@ -23,10 +21,10 @@ use Rattle.r82xx.specs.declared.Tuner.{Tuner}
 abbrev pub nought : Float
 nought = ofBits binary32 0
 
--- "per register the byte last attempted (fresh: `INIT_ARRAY`) and a doubtful mark (fresh: all)"; the shadow starts as `INIT_ARRAY` too
+-- "per register the byte last attempted (fresh: `INIT_ARRAY`) and a doubtful mark (fresh: all)"; the former is the shadow's (#106)
 abbrev pub freshChip : ℕ → Chip
 freshChip address =
-    record { address = address; shadow = initArray; attempted = initArray; doubtful = replicate 27 true }
+    record { address = address; shadow = initArray; doubtful = replicate 27 true }
 
 -- "It holds kind, address, 27 shadow bytes for 0x05..0x1f, nominal and corrected reference, lock, gain, IF (fresh 2,300,000), notch"
 abbrev pub freshTuner : Kind → ℕ → ℕ → Tuner
@@ -92,8 +90,3 @@ withNotch t notch =
 -- the record after steps: one where a step failed, another where all were done, each with the chip's part as the steps left it
 abbrev pub endedBy : Tuner → Tuner → Went → Chip → Tuner
 endedBy cut whole went chip = withChip (cond (goes went) whole cut) chip
-
--- "sets the shadow to them when all are done"
-abbrev pub reloaded : Went → Chip → Chip
-reloaded Going c = withLists c (c .attempted) (c .attempted) (c .doubtful)
-reloaded (Refused11 k) c = c

@@ -13,10 +13,10 @@ ghost use Rattle.chip.specs.Entries.{saw};
 ghost use Rattle.chip.specs.Steps.{allIn, goes, meantOf, trace};
 ghost use Rattle.chip.specs.Courses.{leftBy};
 ghost use Rattle.tuning.specs.Program.{dividerNumber, wholeOf};
-ghost use Rattle.r82xx.specs.Record.{freshTuner, madeOf, reloaded, sound, soundBy};
+ghost use Rattle.r82xx.specs.Record.{freshTuner, madeOf, sound, soundBy};
 ghost use Rattle.r82xx.specs.Calls.{hzRefusal, keptNotch, keptPpm, ppmAnswer, refusalOf, soundAnswer};
 ghost use Rattle.r82xx.specs.Orders.{bracket, lockKept, quietly, resultOf, seenOf, tableOf, tuneOf};
-ghost use Rattle.r82xx.specs.Orders.Order.{Initialize, Reload, Bandwidth, IfFreq, Gain, GainIndex, InputPath, Tune, Shadow, Ppm, Notch, GainTold, IfTold};
+ghost use Rattle.r82xx.specs.Orders.Order.{Initialize, Reload, Bandwidth, IfFreq, Gain, GainIndex, InputPath, Tune, Ppm, Notch, GainTold, IfTold};
 use board::PathRead;
 use chip::Answer;
 use chip::Chip;
@@ -74,7 +74,6 @@ fn fresh(kind: Kind, address: u8, nominal: u32) -> Tuner
     let chip = Chip {
         address: address,
         shadow: INIT_ARRAY,
-        attempted: INIT_ARRAY,
         doubtful: [true; 27],
     };
     Tuner {
@@ -128,19 +127,6 @@ pub fn hz_refusal(hz: u64, ifreq: u64) -> u8
         return chip::FREQUENCY;
     }
     0
-}
-
-// "sets the shadow to them when all are done".
-fn reload_chip(went: Went, c: Chip) -> Chip
-    ensures { λ r. ⌜ r ≡ reloaded went c ⌝ }
-{
-    let Went::Going = went else {
-        return c;
-    };
-    let bytes = c.attempted;
-    let mut next = c;
-    next.shadow = bytes;
-    next
 }
 
 fn sound_answer(nominal: u32, corrected: u32, value: u64) -> Answer
@@ -405,7 +391,7 @@ impl Tuner {
         }
     }
 
-    // "Reload sends the attempted bytes in `initialize`'s chunks .. and sets the shadow to them when all are done."
+    // "Reload sends the attempted bytes in `initialize`'s chunks": since #106 they are the shadow, so nothing is set at its end.
     pub fn reload(mut self, outcomes: &[u8], room: &mut [u8]) -> Told
         ensures { λ r. ⌜ called (r .tuner) (now (room .exit)) (r .count) (r .answer)
             ≡ resultOf Reload (now (outcomes .entry)) self (now (room .entry)) ⌝ }
@@ -415,17 +401,15 @@ impl Tuner {
             return refused(self, number);
         }
         let chip = self.chip;
-        let bytes = chip.attempted;
+        let bytes = chip.shadow;
         let start = Flow {
             chip: chip,
             log: chip::START,
         };
         let sent = writes::send_all(start, bytes, outcomes, room);
         let answered = chip::finish(sent, Answer::Done(0), room);
-        let log = sent.log;
-        let went = log.went;
         let left = sent.chip;
-        self.chip = reload_chip(went, left);
+        self.chip = left;
         Told {
             tuner: self,
             answer: answered,
@@ -507,31 +491,6 @@ impl Tuner {
         let kind = self.kind;
         let plan = pll::plan_pll(kind, hz + ifreq, self.corrected);
         self.tune(plan, hz, outcomes, replies, room)
-    }
-
-    // The mask leaf called alone: the shadow is changed and nothing is sent.
-    pub fn update_shadow(mut self, register: u8, value: u8, mask: u8) -> Told
-        ensures { λ r. ⌜ called (r .tuner) [] (r .count) (r .answer) ≡ quietly (Shadow register value mask) self ⌝ }
-    {
-        if !sound(self.nominal, self.corrected) {
-            return refused(self, chip::SETUP);
-        }
-        if register < chip::REG_SHADOW_START {
-            return refused(self, chip::REGISTER);
-        }
-        if 0x1f < register {
-            return refused(self, chip::REGISTER);
-        }
-        let index = (register - chip::REG_SHADOW_START) as usize;
-        let mut chip = self.chip;
-        let byte = chip::mask_into(chip.shadow[index], value, mask);
-        chip.shadow[index] = byte;
-        self.chip = chip;
-        Told {
-            tuner: self,
-            answer: Answer::Done(byte as u64),
-            count: 0,
-        }
     }
 
     pub fn get_gain(self) -> Answer

@@ -136,7 +136,6 @@ module _ (t : Tuner) (h : Ranged t) where
             record {
               address = value-bytes 1 (t .chip .address) (h .address) i;
               shadow = t .chip .shadow;
-              attempted = t .chip .attempted;
               doubtful = flags-read (t .chip .doubtful) i;
             };
         nominal = nominal-read i;
@@ -152,13 +151,13 @@ module _ (t : Tuner) (h : Ranged t) where
   parts-fit =
       rw (kind-fits (t .kind), nominal-read, le-leb 1 (t .nominal) (h .known), corrected-read, le-leb 1 (t .corrected) (h .right), flag-fits (t .lock), gain-bits, gain-fits (t .gain) (h .gain), flag-fits (t .notch), flags-fit (t .chip .doubtful))
 
-  long : length (tunerBytes t) ≡ 105
+  long : length (tunerBytes t) ≡ 78
   unfolding tunerBytes
   long = length-joined tunerWidths (tunerParts t) (sized t (h .lists))
 
   accepted : isTuner (tunerBytes t) ≡ true
   unfolding isTuner
-  accepted = rw (eq-eqb (length (tunerBytes t)) 105 long) (ap tunerFits parted ∙ parts-fit)
+  accepted = rw (eq-eqb (length (tunerBytes t)) 78 long) (ap tunerFits parted ∙ parts-fit)
 
   -- what was written is read
   pub read-written : tunerOf (tunerBytes t) ≡ tunerRead true t
@@ -166,9 +165,9 @@ module _ (t : Tuner) (h : Ranged t) where
   read-written = rw accepted (ap (tunerRead true) (ap tunerFrom parted ∙ fields-read))
 
 module _ (b : List ℕ) (bytes : Bytes b) (good : isTuner b ≡ true) where
-  size : length b ≡ 105
+  size : length b ≡ 78
   unfolding isTuner
-  size = eqb-true (length b) 105 (both (eqb (length b) 105) (tunerFits (partsFrom 0 tunerWidths b)) good .0)
+  size = eqb-true (length b) 78 (both (eqb (length b) 78) (tunerFits (partsFrom 0 tunerWidths b)) good .0)
 
   record Tests : Type 0 where
     kind : leValue (take 1 b) ≤ 1
@@ -177,7 +176,7 @@ module _ (b : List ℕ) (bytes : Bytes b) (good : isTuner b ≡ true) where
     lock : leValue (take 1 (drop 37 b)) ≤ 1
     gain : properGain (leValue (take 4 (drop 38 b))) ≡ true
     notch : leValue (take 1 (drop 50 b)) ≤ 1
-    flags : flagsOnly (take 27 (drop 78 b)) ≡ true
+    flags : flagsOnly (take 27 (drop 51 b)) ≡ true
 
   tests : Tests
   unfolding isTuner tunerFits
@@ -188,8 +187,8 @@ module _ (b : List ℕ) (bytes : Bytes b) (good : isTuner b ≡ true) where
       let l = leb (leValue (take 1 (drop 37 b))) 1 in
       let g = properGain (leValue (take 4 (drop 38 b))) in
       let o = leb (leValue (take 1 (drop 50 b))) 1 in
-      let f = flagsOnly (take 27 (drop 78 b)) in
-      let z = both (eqb (length b) 105) (k && n && c && l && g && o && f) good in
+      let f = flagsOnly (take 27 (drop 51 b)) in
+      let z = both (eqb (length b) 78) (k && n && c && l && g && o && f) good in
       let p = both (k && n && c && l && g && o) f (z .1) in
       let q = both (k && n && c && l && g) o (p .0) in
       let r = both (k && n && c && l) g (q .0) in
@@ -207,13 +206,13 @@ module _ (b : List ℕ) (bytes : Bytes b) (good : isTuner b ≡ true) where
       }
 
   -- a part that is a number, by its width and place
-  number : (k at : ℕ) → at + k ≤ 105 → leBytes k (leValue (take k (drop at b))) ≡ take k (drop at b)
+  number : (k at : ℕ) → at + k ≤ 78 → leBytes k (leValue (take k (drop at b))) ≡ take k (drop at b)
   number k at h = one-number k at b bytes (omega (arith, size))
 
   parts-written : tunerParts (tunerFrom (partsFrom 0 tunerWidths b)) ≡ partsFrom 0 tunerWidths b
   parts-written =
       let h = tests in
-      rw (kind-written (leValue (take 1 b)) (h .kind), number 1 0 (omega arith), number 1 1 (omega arith), number 4 29 (omega arith), number 4 33 (omega arith), flag-written (leValue (take 1 (drop 37 b))) (h .lock), number 1 37 (omega arith), gain-written (leValue (take 4 (drop 38 b))) (one-below 4 38 b bytes (omega (arith, size))) (h .gain), number 4 38 (omega arith), number 8 42 (omega arith), flag-written (leValue (take 1 (drop 50 b))) (h .notch), number 1 50 (omega arith), flags-written (take 27 (drop 78 b)) (h .flags))
+      rw (kind-written (leValue (take 1 b)) (h .kind), number 1 0 (omega arith), number 1 1 (omega arith), number 4 29 (omega arith), number 4 33 (omega arith), flag-written (leValue (take 1 (drop 37 b))) (h .lock), number 1 37 (omega arith), gain-written (leValue (take 4 (drop 38 b))) (one-below 4 38 b bytes (omega (arith, size))) (h .gain), number 4 38 (omega arith), number 8 42 (omega arith), flag-written (leValue (take 1 (drop 50 b))) (h .notch), number 1 50 (omega arith), flags-written (take 27 (drop 51 b)) (h .flags))
 
   taken : tunerOf b ≡ tunerRead true (tunerFrom (partsFrom 0 tunerWidths b))
   unfolding tunerOf
@@ -226,8 +225,7 @@ module _ (b : List ℕ) (bytes : Bytes b) (good : isTuner b ≡ true) where
         lists =
             record {
               shadow = one-long 27 2 b (omega (arith, size));
-              attempted = one-long 27 51 b (omega (arith, size));
-              doubtful = length-map (take 27 (drop 78 b)) flagOf ∙ one-long 27 78 b (omega (arith, size));
+              doubtful = length-map (take 27 (drop 51 b)) flagOf ∙ one-long 27 51 b (omega (arith, size));
             };
         address = one-below 1 1 b bytes (omega (arith, size));
         nominal = one-below 4 29 b bytes (omega (arith, size));
@@ -243,4 +241,4 @@ module _ (b : List ℕ) (bytes : Bytes b) (good : isTuner b ≡ true) where
   unfolding tunerBytes
   written-read =
       rw taken
-      (refl, ap joined parts-written ∙ joined-parts b 0 tunerWidths ∙ take-all 105 b (omega (arith, size)), in-ranges)
+      (refl, ap joined parts-written ∙ joined-parts b 0 tunerWidths ∙ take-all 78 b (omega (arith, size)), in-ranges)

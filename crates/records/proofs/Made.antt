@@ -25,10 +25,10 @@ use Rattle.records.proofs.Turns.{sets-whole}
 use Rattle.wire.proofs.Joins.{laid-joined, length-joined}
 
 module _ (b : List ℕ) where
-  pub chip-made : (a : ℕ) (s t : List ℕ) (d : List Bool) → a ≡ leValue (take 1 (drop 1 b)) → s ≡ take 27 (drop 2 b) → t ≡ take 27 (drop 51 b)
-      → d ≡ map flagOf (take 27 (drop 78 b))
-      → _≡_ {A = Chip} (record { address = a; shadow = s; attempted = t; doubtful = d }) (chipFrom (partsFrom 0 tunerWidths b))
-  chip-made a s t d ea es et ed i = record { address = ea i; shadow = es i; attempted = et i; doubtful = ed i }
+  pub chip-made : (a : ℕ) (s : List ℕ) (d : List Bool) → a ≡ leValue (take 1 (drop 1 b)) → s ≡ take 27 (drop 2 b)
+      → d ≡ map flagOf (take 27 (drop 51 b))
+      → _≡_ {A = Chip} (record { address = a; shadow = s; doubtful = d }) (chipFrom (partsFrom 0 tunerWidths b))
+  chip-made a s d ea es ed i = record { address = ea i; shadow = es i; doubtful = ed i }
 
   pub tuner-made : (k : Kind) (chip : Chip) (kn n c l g h o : ℕ) (f : Float) → kn ≡ leValue (take 1 b) → k ≡ kindOf kn
       → chip ≡ chipFrom (partsFrom 0 tunerWidths b) → n ≡ leValue (take 4 (drop 29 b)) → c ≡ leValue (take 4 (drop 33 b))
@@ -42,30 +42,29 @@ module _ (b : List ℕ) where
 
   pub fits-made : (k n c l g o : ℕ) (p f : Bool) → k ≡ leValue (take 1 b) → n ≡ leValue (take 4 (drop 29 b)) → c ≡ leValue (take 4 (drop 33 b))
       → l ≡ leValue (take 1 (drop 37 b)) → g ≡ leValue (take 4 (drop 38 b)) → p ≡ properGain g → o ≡ leValue (take 1 (drop 50 b))
-      → f ≡ flagsOnly (take 27 (drop 78 b))
+      → f ≡ flagsOnly (take 27 (drop 51 b))
       → leb k 1 && leb 1 n && leb 1 c && leb l 1 && p && leb o 1 && f ≡ tunerFits (partsFrom 0 tunerWidths b)
   unfolding tunerFits
   fits-made k n c l g o p f ek en ec el eg ep eo ef = rw (ep, eg, ek, en, ec, el, eo, ef)
 
   -- another length; a part out of its range; a record
   module _ (m : Made) (made : m ≡ madeOf 0 0 1) where
-    pub no-length : (length b ≡ 105 → ⊥) → tunerRead false (m .tuner) ≡ tunerOf b
+    pub no-length : (length b ≡ 78 → ⊥) → tunerRead false (m .tuner) ≡ tunerOf b
     unfolding tunerOf isTuner madeOf
-    no-length h = rw (made, ne-eqb (length b) 105 h)
+    no-length h = rw (made, ne-eqb (length b) 78 h)
 
-    pub no-fit : (f : Bool) → length b ≡ 105 → f ≡ tunerFits (partsFrom 0 tunerWidths b) → f ≡ false → tunerRead false (m .tuner) ≡ tunerOf b
+    pub no-fit : (f : Bool) → length b ≡ 78 → f ≡ tunerFits (partsFrom 0 tunerWidths b) → f ≡ false → tunerRead false (m .tuner) ≡ tunerOf b
     unfolding tunerOf isTuner madeOf
-    no-fit f h e never = rw (made, eq-eqb (length b) 105 h, ← e, never)
+    no-fit f h e never = rw (made, eq-eqb (length b) 78 h, ← e, never)
 
-  pub whole : (f : Bool) (t : Tuner) → length b ≡ 105 → f ≡ tunerFits (partsFrom 0 tunerWidths b) → f ≡ true → t ≡ tunerFrom (partsFrom 0 tunerWidths b)
+  pub whole : (f : Bool) (t : Tuner) → length b ≡ 78 → f ≡ tunerFits (partsFrom 0 tunerWidths b) → f ≡ true → t ≡ tunerFrom (partsFrom 0 tunerWidths b)
       → tunerRead true t ≡ tunerOf b
   unfolding tunerOf isTuner
-  whole f t h e fine same = rw (same, eq-eqb (length b) 105 h, ← e, fine)
+  whole f t h e fine same = rw (same, eq-eqb (length b) 78 h, ← e, fine)
 
 -- a record's lists have their lengths
 pub record Lists (t : Tuner) : Type 0 where
   pub shadow : length (t .chip .shadow) ≡ 27
-  pub attempted : length (t .chip .attempted) ≡ 27
   pub doubtful : length (t .chip .doubtful) ≡ 27
 
 pub sized : (t : Tuner) → Lists t → Sized tunerWidths (tunerParts t)
@@ -85,7 +84,7 @@ sized t h = (
               length-leBytes 4 (toBits binary32 (t .gain)),
               (
                 length-leBytes 8 (t .ifreq),
-                (length-leBytes 1 (flagByte (t .notch)), (h .attempted, (length-map (t .chip .doubtful) flagByte ∙ h .doubtful, tt))),
+                (length-leBytes 1 (flagByte (t .notch)), (length-map (t .chip .doubtful) flagByte ∙ h .doubtful, tt)),
               ),
             ),
           ),
@@ -95,9 +94,9 @@ sized t h = (
   ),
 )
 
--- the parts stored one after the other over 105 bytes
-pub image-whole : (t : Tuner) (l : List ℕ) → Lists t → length l ≡ 105 → laid l 0 tunerWidths (tunerParts t) ≡ tunerBytes t
+-- the parts stored one after the other over 78 bytes
+pub image-whole : (t : Tuner) (l : List ℕ) → Lists t → length l ≡ 78 → laid l 0 tunerWidths (tunerParts t) ≡ tunerBytes t
 unfolding tunerBytes
 image-whole t l h e =
-    let long : length (tunerBytes t) ≡ 105 = length-joined tunerWidths (tunerParts t) (sized t h) in
+    let long : length (tunerBytes t) ≡ 78 = length-joined tunerWidths (tunerParts t) (sized t h) in
     laid-joined l 0 tunerWidths (tunerParts t) (sized t h) ∙ sets-whole l (tunerBytes t) (omega arith)

@@ -1,5 +1,5 @@
--- The tuner's record as 105 bytes. Document 01, "The record": "It holds kind, address, 27 shadow bytes for 0x05..0x1f, nominal and corrected
--- reference, lock, gain, IF .., notch, and our attempt record: per register the byte last attempted .. and a doubtful mark".
+-- The tuner's record as 78 bytes. Document 01, "The record": "It holds kind, address, 27 shadow bytes for 0x05..0x1f, nominal and corrected
+-- reference, lock, gain, IF .., notch, and our attempt record"; #106: the shadow is the bytes last attempted, "and only the doubtful marks are kept beside it".
 -- Assumes nothing.
 use Prim.Native.Nat.{ℕ}
 use mathlib.Core.Bool.{Bool, true, false, _&&_}
@@ -17,9 +17,9 @@ use Rattle.pll.specs.Plan.{kindNumber}
 use Rattle.records.specs.Fields.{flagByte, flagOf, flagsOnly, kindOf, properGain}
 use Rattle.wire.specs.Parts.{joined, num, part, partsFrom}
 
--- kind, address, shadow, nominal, corrected, lock, gain, IF, notch, attempted, doubtful
+-- kind, address, shadow, nominal, corrected, lock, gain, IF, notch, doubtful
 abbrev pub tunerWidths : List ℕ
-tunerWidths = 1 ∷ 1 ∷ 27 ∷ 4 ∷ 4 ∷ 1 ∷ 4 ∷ 8 ∷ 1 ∷ 27 ∷ 27 ∷ []
+tunerWidths = 1 ∷ 1 ∷ 27 ∷ 4 ∷ 4 ∷ 1 ∷ 4 ∷ 8 ∷ 1 ∷ 27 ∷ []
 
 abbrev pub tunerParts : Tuner → List (List ℕ)
 tunerParts t =
@@ -32,7 +32,6 @@ tunerParts t =
     ∷ leBytes 4 (toBits binary32 (t .gain))
     ∷ leBytes 8 (t .ifreq)
     ∷ leBytes 1 (flagByte (t .notch))
-    ∷ t .chip .attempted
     ∷ map flagByte (t .chip .doubtful)
     ∷ []
 
@@ -41,7 +40,7 @@ tunerBytes t = joined (tunerParts t)
 
 abbrev pub chipFrom : List (List ℕ) → Chip
 chipFrom ps =
-    record { address = num ps 1; shadow = part ps 2; attempted = part ps 9; doubtful = map flagOf (part ps 10) }
+    record { address = num ps 1; shadow = part ps 2; doubtful = map flagOf (part ps 9) }
 
 abbrev pub tunerFrom : List (List ℕ) → Tuner
 tunerFrom ps =
@@ -65,10 +64,10 @@ tunerFits ps =
     && leb (num ps 5) 1
     && properGain (num ps 6)
     && leb (num ps 8) 1
-    && flagsOnly (part ps 10)
+    && flagsOnly (part ps 9)
 
 unfoldable pub isTuner : List ℕ → Bool
-isTuner b = eqb (length b) 105 && tunerFits (partsFrom 0 tunerWidths b)
+isTuner b = eqb (length b) 78 && tunerFits (partsFrom 0 tunerWidths b)
 
 abbrev pub tunerRead : Bool → Tuner → TunerRead
 tunerRead ok tuner = record { ok = ok; tuner = tuner }

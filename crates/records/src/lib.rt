@@ -35,11 +35,9 @@ const IFREQ: usize = 42;
 
 const NOTCH: usize = 50;
 
-const ATTEMPTED: usize = 51;
+const DOUBTFUL: usize = 51;
 
-const DOUBTFUL: usize = 78;
-
-pub const TUNER: usize = 105;
+pub const TUNER: usize = 78;
 
 // And of a driver's: its board stands first.
 const REFERENCE: usize = 1;
@@ -147,7 +145,7 @@ fn flag_bytes(flags: [bool; 27]) -> [u8; 27]
 }
 
 fn tuner_fits(b: &[u8]) -> bool
-    requires { ⌜ length (now b) ≡ 105 ⌝ }
+    requires { ⌜ length (now b) ≡ 78 ⌝ }
     ensures { λ r. ⌜ r ≡ tunerFits (partsFrom 0 tunerWidths (now (b .entry))) ⌝ }
 {
     (wire::get(b, 0, 1) <= 1)
@@ -160,19 +158,18 @@ fn tuner_fits(b: &[u8]) -> bool
 }
 
 fn chip_in(b: &[u8]) -> Chip
-    requires { ⌜ length (now b) ≡ 105 ⌝ }
+    requires { ⌜ length (now b) ≡ 78 ⌝ }
     ensures { λ r. ⌜ r ≡ chipFrom (partsFrom 0 tunerWidths (now (b .entry))) ⌝ }
 {
     Chip {
         address: wire::get(b, ADDRESS, 1) as u8,
         shadow: bytes_at(b, SHADOW),
-        attempted: bytes_at(b, ATTEMPTED),
         doubtful: flags_at(b, DOUBTFUL),
     }
 }
 
 fn tuner_in(b: &[u8]) -> Tuner
-    requires { ⌜ length (now b) ≡ 105 ⌝ }
+    requires { ⌜ length (now b) ≡ 78 ⌝ }
     ensures { λ r. ⌜ r ≡ tunerFrom (partsFrom 0 tunerWidths (now (b .entry))) ⌝ }
 {
     Tuner {
@@ -209,30 +206,29 @@ pub fn decode_tuner(b: &[u8]) -> TunerRead
     }
 }
 
-fn number(image: &mut [u8; 105], at: usize, n: u64, k: usize)
-    requires { ⌜ at + k ≤ 105 ⌝ }
+fn number(image: &mut [u8; 78], at: usize, n: u64, k: usize)
+    requires { ⌜ at + k ≤ 78 ⌝ }
     ensures { λ _. ⌜ now (image .exit) ≡ sets (now (image .entry)) at (leBytes k n) ⌝ }
 {
     wire::put(image, at, n, k);
 }
 
-fn list(image: &mut [u8; 105], at: usize, bytes: [u8; 27])
-    requires { ⌜ at + 27 ≤ 105 ⌝ }
+fn list(image: &mut [u8; 78], at: usize, bytes: [u8; 27])
+    requires { ⌜ at + 27 ≤ 78 ⌝ }
     ensures { λ _. ⌜ (now (image .exit) ≡ sets (now (image .entry)) at bytes) × (length bytes ≡ 27) ⌝ }
 {
     wire::copy(image, at, &bytes);
 }
 
-// The record's 105 bytes.
-pub fn tuner_image(t: Tuner) -> [u8; 105]
+// The record's 78 bytes.
+pub fn tuner_image(t: Tuner) -> [u8; 78]
     ensures { λ r. ⌜ r ≡ tunerBytes t ⌝ }
 {
     let kind = t.kind;
     let chip = t.chip;
     let shadow = chip.shadow;
-    let attempted = chip.attempted;
     let doubtful = chip.doubtful;
-    let mut image = [0u8; 105];
+    let mut image = [0u8; 78];
     number(&mut image, 0, kind_number(kind) as u64, 1);
     number(&mut image, ADDRESS, chip.address as u64, 1);
     list(&mut image, SHADOW, shadow);
@@ -242,7 +238,6 @@ pub fn tuner_image(t: Tuner) -> [u8; 105]
     number(&mut image, GAIN, wire::bits_of(t.gain) as u64, 4);
     number(&mut image, IFREQ, t.ifreq, 8);
     number(&mut image, NOTCH, flag_byte(t.notch) as u64, 1);
-    list(&mut image, ATTEMPTED, attempted);
     list(&mut image, DOUBTFUL, flag_bytes(doubtful));
     image
 }

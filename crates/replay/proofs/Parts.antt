@@ -21,7 +21,7 @@ pub size-5 : (c : List ℕ) (k n v : ℕ) → k ≡ 5 → n ≡ numberAt c 50 2 
 unfolding sizeAt
 size-5 c k n v h e f = f ∙ ap (λ (y : ℕ). flagged c 1 (16 * y + 8)) e ∙ ap (sizeAt c) (sym h)
 
-pub size-6 : (c : List ℕ) (k v : ℕ) → k ≡ 6 → v ≡ flagged c 2 105 → v ≡ sizeAt c k
+pub size-6 : (c : List ℕ) (k v : ℕ) → k ≡ 6 → v ≡ flagged c 2 78 → v ≡ sizeAt c k
 unfolding sizeAt
 size-6 c k v h f = f ∙ ap (sizeAt c) (sym h)
 

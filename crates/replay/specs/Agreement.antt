@@ -25,7 +25,7 @@ flagged c bit n = cond (eqb (numberAt c 7 1 / bit % 2) 1) n 0
 unfoldable pub sizeAt : List ℕ → ℕ → ℕ
 sizeAt c k =
     cond (eqb k 5) (flagged c 1 (16 * numberAt c 50 2 + 8))
-    (cond (eqb k 6) (flagged c 2 105) (cond (eqb k 7) (flagged c 4 29) (cond (eqb k 8) (numberAt c 64 2) (numberAt c (54 + 2 * k) 2))))
+    (cond (eqb k 6) (flagged c 2 78) (cond (eqb k 7) (flagged c 4 29) (cond (eqb k 8) (numberAt c 64 2) (numberAt c (54 + 2 * k) 2))))
 
 -- where part k starts: they stand end to end
 unfoldable pub startAt : List ℕ → ℕ → ℕ

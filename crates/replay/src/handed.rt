@@ -38,11 +38,11 @@ pub fn hands(told: compare::Answer) -> bool {
 }
 
 // What a slice lent for the next tuner record holds after the call.
-pub fn next_tuner(told: compare::Answer, tuner: Tuner) -> [u8; 105] {
+pub fn next_tuner(told: compare::Answer, tuner: Tuner) -> [u8; 78] {
     if hands(told) {
         return records::tuner_image(tuner);
     }
-    [0xa5u8; 105]
+    [0xa5u8; 78]
 }
 
 pub fn next_driver(told: compare::Answer, driver: Driver) -> [u8; 29] {

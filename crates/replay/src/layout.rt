@@ -105,7 +105,7 @@ fn size(c: &[u8], k: usize) -> usize
         return flag(c, 1, 16 * two(c, COUNT) + 8);
     }
     if k == NEXT_TUNER {
-        return flag(c, 2, 105);
+        return flag(c, 2, 78);
     }
     if k == NEXT_DRIVER {
         return flag(c, 4, 29);

@@ -21,7 +21,7 @@ fn judge(c: &[u8]) -> Verdict {
     match call {
         1 => tuners::fresh(c),
         3 => tuners::tuned(c),
-        2..=12 => tuners::changed(c),
+        2..=11 => tuners::changed(c),
         13 => tuners::get_gain(c),
         14 => tuners::get_if_freq(c),
         15 => tuners::get_gain_table(c),

@@ -25,7 +25,6 @@ fn record_name(call: u64) {
         9 => text(b"reload"),
         10 => text(b"set_ppm"),
         11 => text(b"notch"),
-        12 => text(b"update_shadow"),
         13 => text(b"get gain"),
         14 => text(b"get IF"),
         15 => text(b"gain table"),

@@ -1,4 +1,4 @@
-// The tuner's calls, over the record's bytes: fresh (1), those that hand the next record back (2 to 12), those that only read (13 to 15).
+// The tuner's calls, over the record's bytes: fresh (1), those that hand the next record back (2 to 11), those that only read (13 to 15).
 ghost use Prim.Native.Nat.{_≤_};
 ghost use lib.ListN.{length};
 use crate::compare;
@@ -48,12 +48,7 @@ fn stepped(c: &[u8], t: Tuner, room: &mut [u8]) -> Told {
 fn plain(c: &[u8], t: Tuner) -> Told {
     match layout::one(c, layout::CALL) {
         10 => t.with_ppm(wire::to_signed(layout::four(c, layout::D) as u32)),
-        11 => t.with_notch(layout::one(c, layout::A) != 0),
-        _ => t.update_shadow(
-            layout::one(c, layout::A) as u8,
-            layout::one(c, layout::B) as u8,
-            layout::one(c, layout::C) as u8,
-        ),
+        _ => t.with_notch(layout::one(c, layout::A) != 0),
     }
 }
 

@@ -25,16 +25,16 @@ use Rattle.chip.specs.declared.Chip.{Chip}
 use Rattle.chip.specs.declared.Went.{Went}
 use Rattle.chip.specs.declared.Went.the-variants.{Going, Refused11}
 use Rattle.chip.specs.Calls.{Called, answerOf}
+use Rattle.chip.specs.Chips.{maskOf, maskedByte}
 use Rattle.chip.specs.Steps.{Trace, trace}
 use Rattle.device.specs.Calls.{noChip}
 use Rattle.writes.specs.Lists.{initArray}
 use Rattle.writes.specs.Programs.{sendAll}
 use Rattle.r82xx.specs.declared.Tuner.{Tuner}
-use Rattle.r82xx.specs.Record.{freshChip, madeOf, reloaded, withChip}
+use Rattle.r82xx.specs.Record.{freshChip, madeOf, withChip}
 use Rattle.r82xx.specs.Calls.{refusalOf}
 use Rattle.r82xx.specs.Orders as tuner
 use Rattle.r82xx.specs.Orders.Order.{Reload}
-use Rattle.history.specs.Programs.{shadowBy}
 use Rattle.history.specs.Histories.{Cut, Fresh, History, Restored, wentIn}
 use Rattle.history.specs.Histories.History.{made}
 use Rattle.history.proofs.Calls.{call-performed, call-refused}
@@ -57,7 +57,7 @@ unfolding madeOf
 fresh-chip kind address nominal h = go (leb 1 nominal && leb nominal 4_294_967_295) refl (eqb kind 0) refl (eqb kind 1) refl
   where
     new : (a : ℕ) → a ≤ 255 → Fresh initArray (freshChip a)
-    new a l = record { chip = l; long = refl; attempted = refl; doubtful = refl }
+    new a l = record { chip = l; long = refl; shadow = refl; doubtful = refl }
 
     go : (n : Bool) → (leb 1 nominal && leb nominal 4_294_967_295) ≡ n → (a : Bool) → eqb kind 0 ≡ a → (b : Bool) → eqb kind 1 ≡ b
         → Fresh initArray (madeOf kind address nominal .tuner .chip)
@@ -90,9 +90,10 @@ module _ (t : Tuner) (es : List Entry) (s : Sequence t es) where
   pub doubtful-words : (i : ℕ) → i < 27 → (getD (t .chip .doubtful) i true ≡ true) ↔ InVain (lastIn (t .chip .address) es (5 + i))
   doubtful-words = demand.doubtful-words initArray (t .chip) es history
 
-  -- (b) the record's attempted byte is the last attempted in the entries, or `INIT_ARRAY`'s where none was
-  pub attempted-last : (i : ℕ) → i < 27 → getD (t .chip .attempted) i 0 ≡ byteIn (getD initArray i 0) (lastIn (t .chip .address) es (5 + i))
-  attempted-last = demand.attempted-last initArray (t .chip) es history
+  -- (b) #106: the shadow's byte is the last attempted in the entries, or `INIT_ARRAY`'s where none was: "The shadow and the last attempted bytes are then
+  -- one and the same list"
+  pub shadow-last : (i : ℕ) → i < 27 → getD (t .chip .shadow) i 0 ≡ byteIn (getD initArray i 0) (lastIn (t .chip .address) es (5 + i))
+  shadow-last = demand.shadow-last initArray (t .chip) es history
 
   module _ (before now : Regs) (played : Played (t .chip .address) es before now) where
     -- (b) "at each call's end a register whose last attempt was done holds the byte sent": any register, also past 0x1f
@@ -103,9 +104,13 @@ module _ (t : Tuner) (es : List Entry) (s : Sequence t es) where
     pub never-kept : (r : ℕ) → lastIn (t .chip .address) es r ≡ Never → now r ≡ before r
     never-kept = demand.never-kept initArray (t .chip) es history before now played
 
-    -- so a register without a doubtful mark holds the record's attempted byte
-    pub sure-holds : (i : ℕ) → i < 27 → getD (t .chip .doubtful) i true ≡ false → now (5 + i) ≡ getD (t .chip .attempted) i 0
+    -- so a register without a doubtful mark holds the shadow's byte
+    pub sure-holds : (i : ℕ) → i < 27 → getD (t .chip .doubtful) i true ≡ false → now (5 + i) ≡ getD (t .chip .shadow) i 0
     sure-holds = demand.sure-holds initArray (t .chip) es history before now played
+
+    -- and the next masked write is built on what the chip holds (#106)
+    pub built-on : (i value mask : ℕ) → i < 27 → getD (t .chip .doubtful) i true ≡ false → maskedByte (t .chip) (5 + i) value mask ≡ maskOf (now (5 + i)) value mask
+    built-on = demand.built-on initArray (t .chip) es history before now played
 
   -- (f) there is such a chip, whatever the chip to start from (and a failed write admits both the old and the new byte: `failed-part` of crate attempts)
   pub some-chip : (before : Regs) → (now : Regs) × Played (t .chip .address) es before now
@@ -145,10 +150,6 @@ module _ (t : Tuner) (es : List Entry) (s : Sequence t es) where
 
 -- ---- (d) reload
 
-reloaded-same : (w : Went) (c : Chip) → reloaded w c ≡ shadowBy w c
-reloaded-same Going c = refl
-reloaded-same (Refused11 k) c = refl
-
 abbrev isDone : Answer → Bool
 isDone (Done value) = true
 isDone (Refused number) = false
@@ -159,13 +160,13 @@ module _ (t : Tuner) (es : List Entry) (s : Sequence t es) (os room : List ℕ) 
   k = call (Tuned Reload) os room
 
   abbrev tr : Trace
-  tr = trace os (sendAll (t .chip .attempted)) (t .chip)
+  tr = trace os (sendAll (t .chip .shadow)) (t .chip)
 
   abbrev number : ℕ
   number = refusalOf t 0 9 0 (length room) (length os) 0
 
   abbrev keep : Trace → Tuner
-  keep u = withChip t (reloaded (u .went) (u .chip))
+  keep u = withChip t (u .chip)
 
   -- answered done, it was not refused, and no step failed
   performed : result k t .answer ≡ Done 0 → (eqb number 0 ≡ true) × (tr .went ≡ Going)
@@ -178,15 +179,14 @@ module _ (t : Tuner) (es : List Entry) (s : Sequence t es) (os room : List ℕ) 
 
       go : (b : Bool) → eqb number 0 ≡ b → (eqb number 0 ≡ true) × (tr .went ≡ Going)
       go false e =
-          absurd (false≢true (ap isDone (sym (ap (λ (d : Called Tuner). d .answer) (call-refused number (Done 0) os (sendAll (t .chip .attempted)) (t .chip) keep t room e)) ∙ h)))
+          absurd (false≢true (ap isDone (sym (ap (λ (d : Called Tuner). d .answer) (call-refused number (Done 0) os (sendAll (t .chip .shadow)) (t .chip) keep t room e)) ∙ h)))
       go true e =
-          (e, by-went (tr .went) refl (sym (ap (λ (d : Called Tuner). d .answer) (call-performed number (Done 0) os (sendAll (t .chip .attempted)) (t .chip) keep t room e)) ∙ h))
+          (e, by-went (tr .went) refl (sym (ap (λ (d : Called Tuner). d .answer) (call-performed number (Done 0) os (sendAll (t .chip .shadow)) (t .chip) keep t room e)) ∙ h))
 
-  left : eqb number 0 ≡ true → after k t .chip ≡ shadowBy (tr .went) (tr .chip)
+  left : eqb number 0 ≡ true → after k t .chip ≡ tr .chip
   unfolding tuner.resultOf leftBy
   left e =
-      ap (λ (d : Called Tuner). d .next .chip) (call-performed number (Done 0) os (sendAll (t .chip .attempted)) (t .chip) keep t room e)
-      ∙ reloaded-same (tr .went) (tr .chip)
+      ap (λ (d : Called Tuner). d .next .chip) (call-performed number (Done 0) os (sendAll (t .chip .shadow)) (t .chip) keep t room e)
 
   told : eqb number 0 ≡ true → entries k t ≡ tr .log
   told e = rw e

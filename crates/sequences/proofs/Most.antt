@@ -55,7 +55,7 @@ use Rattle.sequences.proofs.Views.{asked-steps, row-long}
 use Rattle.sequences.proofs.Ties.{entries-most, none-entries}
 use Rattle.sequences.proofs.Asides.{aside-length}
 
--- "initialise 19, 0; tune 53, 35; gain 7, 0; bandwidth 3, 0; IF 4, 0; input path 4, 0; reload 9, 0; .. sample rate 17, 0; board path 10, 3; .. `set_ppm`, notch, `update_shadow` 0, 0"
+-- "initialise 19, 0; tune 53, 35; gain 7, 0; bandwidth 3, 0; IF 4, 0; input path 4, 0; reload 9, 0; .. sample rate 17, 0; board path 10, 3; .. `set_ppm`, notch .. 0, 0"
 pub most-entries : (k : Call) (t : Tuner) → length (entries k t) ≤ most (k .order) t
 most-entries k t =
     entries-most (most (k .order) t) (k .outcomes) (asked k t) (t .chip)

@@ -19,7 +19,6 @@ use Rattle.chip.specs.Courses.{Asked, askedBy}
 use Rattle.chip.specs.Steps.{run, trace}
 use Rattle.r82xx.specs.declared.Tuner.{Tuner}
 use Rattle.history.specs.Histories.{Cut, History, stops, wentIn}
-use Rattle.history.specs.Histories.History.{still}
 use Rattle.history.proofs.Fitted.{most-trace}
 use Rattle.history.proofs.Calls.{call-count, call-cut, call-history, call-index, call-read, call-refused}
 use Rattle.sequences.specs.Calls.{Call, asked, entries, rowOf, soundFor, uncut}
@@ -95,10 +94,10 @@ module _ (t : Tuner) (x : Called Tuner) (a : Asked) (os room : List ℕ) where
   pub view-history : View t x a os room → (init : List ℕ) (before : List Entry) → History init (t .chip) before → History init (x .next .chip) (before ++ es)
   view-history (moving m) init before h =
       subst (λ (d : Called Tuner). History init (d .next .chip) (before ++ es)) (sym (m .steps .same))
-      (call-history (λ (u : Tuner). u .chip) init before (a .number) (m .steps .whole) os (a .steps) (m .steps .keep) t room (m .steps .good) (m .alike (trace os (a .steps) (t .chip))) h)
+      (call-history (λ (u : Tuner). u .chip) init before (a .number) (m .steps .whole) os (a .steps) (m .steps .keep) t room (m .steps .good) (m .kept (trace os (a .steps) (t .chip))) h)
   view-history (silent s) init before h =
       subst (History init (x .next .chip)) (sym (ap (λ (l : List Entry). before ++ l) (no-entries s) ∙ append-nil before))
-      (still (t .chip) before h (x .next .chip) (s .alike))
+      (subst (λ (c : Chip). History init c before) (sym (s .kept)) h)
 
 -- no more entries than steps
 pub entries-most : (n : ℕ) (os : List ℕ) (a : Asked) (c : Chip) → length (a .steps) ≤ n → length (callEntries (a .number) os (a .steps) c) ≤ n

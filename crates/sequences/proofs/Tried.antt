@@ -159,12 +159,7 @@ done-by false k h = absurd (false≢true (ap goes h))
 quiet-updates : (us : List Update) → every quiet (updates us) ≡ true
 unfolding every
 quiet-updates [] = refl
-quiet-updates (u ∷ us) = go (u .past) (quiet-updates us)
-  where
-    go : (b : Bool) → every quiet (updates us) ≡ true
-        → (quiet (cond b (Send 2 (pair (u .register) (u .value))) (Mask (u .register) (u .value) (u .mask))) && every quiet (updates us)) ≡ true
-    go true h = h
-    go false h = h
+quiet-updates (u ∷ us) = quiet-updates us
 
 quiet-after : (i : ℕ) → every quiet (afterTry i) ≡ true
 unfolding every

@@ -34,19 +34,19 @@ use Rattle.reference.specs.declared.Corrected.the-variants as corrected-variant
 use Rattle.reference.specs.Correct.{correctedOf}
 use Rattle.writes.specs.Lists.{bandwidthUpdates, gainUpdates, ifUpdates, pathUpdates}
 use Rattle.r82xx.specs.declared.Tuner.{Tuner}
-use Rattle.r82xx.specs.Record.{reloaded, sound, withGain, withIf}
+use Rattle.r82xx.specs.Record.{sound, withGain, withIf}
 use Rattle.tuning.specs.Program.{wholeOf}
 use Rattle.r82xx.specs.Calls.{planFor}
 use Rattle.r82xx.specs.Orders.{bracket, gainRow, pathRow, ppmRow}
 use Rattle.r82xx.specs.Orders as tuner
-use Rattle.r82xx.specs.Orders.Order.{Initialize, Reload, Bandwidth, IfFreq, Gain, GainIndex, InputPath, Tune, Shadow, Ppm, Notch, GainTold, IfTold, TableTold}
+use Rattle.r82xx.specs.Orders.Order.{Initialize, Reload, Bandwidth, IfFreq, Gain, GainIndex, InputPath, Tune, Ppm, Notch, GainTold, IfTold, TableTold}
 use Rattle.driver.specs.declared.Driver.{Driver}
 use Rattle.driver.specs.Record.{soundDriver, xtalOf}
 use Rattle.driver.specs.Programs.{boardPathSteps, ifFor}
 use Rattle.driver.specs.Calls.{Both, boardResult, boardRow, both, rateResult, rateRow}
 use Rattle.driver.proofs.Lengths.{sample-rate-length}
 use Rattle.history.specs.Programs.{fine}
-use Rattle.history.specs.Histories.{Alike, stops}
+use Rattle.history.specs.Histories.{stops}
 use Rattle.history.proofs.Calls.{lent-room}
 use Rattle.history.proofs.Fine.{fine-reload}
 use Rattle.sequences.specs.Calls.{Call, Order, asked, call, given, most, resultOf, rowOf, soundFor, tunerOf, tunerPart}
@@ -63,34 +63,30 @@ pub record Stepping (R : Type 0) (c : Chip) (old : R) (x : Called R) (a : Asked)
   pub few : length (a .steps) ≤ 4096
   pub roomy : a .number ≡ 0 → 16 * length (a .steps) + 8 ≤ length room
 
--- a stepping call of the tuner: what it hands back differs from the trace's chip in the shadow at most
+-- a stepping call of the tuner: it hands the trace's chip back
 pub record Moving (t : Tuner) (x : Called Tuner) (a : Asked) (os room : List ℕ) : Type 0 where
   pub steps : Stepping Tuner (t .chip) t x a os room
-  pub alike : (tr : Trace) → Alike (tr .chip) (steps .keep tr .chip)
+  pub kept : (tr : Trace) → steps .keep tr .chip ≡ tr .chip
 
 pub record Silent (t : Tuner) (x : Called Tuner) (a : Asked) : Type 0 where
   pub nothing : a ≡ ask 0 []
   pub count : x .count ≡ 0
   pub named : stops (x .answer) ≡ false
-  pub alike : Alike (t .chip) (x .next .chip)
+  pub kept : x .next .chip ≡ t .chip
 
 pub data View (t : Tuner) (x : Called Tuner) (a : Asked) (os room : List ℕ) : Type 0 where
   moving : Moving t x a os room → View t x a os room
   silent : Silent t x a → View t x a os room
 
-as-it-was : (c : Chip) → Alike c c
-as-it-was c = record { chip = refl; attempted = refl; doubtful = refl }
-
 -- ---- calls with steps
 
 -- ---- of any row
 
--- what is asked of a row: its answer is no step's failing; its steps pass crate history's test; what it keeps differs from the chip's record after them in the
--- shadow at most
+-- what is asked of a row: its answer is no step's failing; its steps pass crate history's test; what it keeps is the chip's record after them
 pub data Proper (t : Tuner) : Course Tuner → Type 0 where
-  resting : (next : Tuner) (answer : Answer) → stops answer ≡ false → Alike (t .chip) (next .chip) → Proper t (Still next answer)
+  resting : (next : Tuner) (answer : Answer) → stops answer ≡ false → next .chip ≡ t .chip → Proper t (Still next answer)
   stepping : (argument n m : ℕ) (rs : List ℕ) (whole : Answer) (ss : List Step) (keep : Trace → Tuner) → stops whole ≡ false → every fine ss ≡ true
-      → ((tr : Trace) → Alike (tr .chip) (keep tr .chip)) → Proper t (Taken argument n m rs whole ss keep)
+      → ((tr : Trace) → keep tr .chip ≡ tr .chip) → Proper t (Taken argument n m rs whole ss keep)
 
 -- a row's steps are what is asked
 pub asked-steps : {R : Type 0} (s : Bool) (row : Course R) (os room : ℕ) → askedBy s row os room .steps ≡ stepsOf row
@@ -110,10 +106,10 @@ suffices whole argument n m os rs room ss l e =
     go false z q h = absurd (omega arith)
 
 module _ (t : Tuner) (s : Bool) (os room : List ℕ) where
-  resting-view : (next : Tuner) (answer : Answer) → stops answer ≡ false → Alike (t .chip) (next .chip) → (b : Bool)
+  resting-view : (next : Tuner) (answer : Answer) → stops answer ≡ false → next .chip ≡ t .chip → (b : Bool)
       → Silent t (cond b (called next room 0 answer) (called t room 0 (Refused 1))) (ask 0 [])
-  resting-view next answer n a true = record { nothing = refl; count = refl; named = n; alike = a }
-  resting-view next answer n a false = record { nothing = refl; count = refl; named = refl; alike = as-it-was (t .chip) }
+  resting-view next answer n a true = record { nothing = refl; count = refl; named = n; kept = a }
+  resting-view next answer n a false = record { nothing = refl; count = refl; named = refl; kept = refl }
 
   pub row-view : (row : Course Tuner) → Proper t row → length (stepsOf row) ≤ mostOf row → mostOf row ≤ 4096
       → View t (leftBy s row os (t .chip) t room) (askedBy s row (length os) (length room)) os room
@@ -132,7 +128,7 @@ module _ (t : Tuner) (s : Bool) (os room : List ℕ) where
               few = omega arith;
               roomy = suffices s argument n m os rs room ss l;
             };
-        alike = a;
+        kept = a;
       }
 
 -- ---- each row
@@ -169,7 +165,6 @@ row-long (Tuned (Gain db)) t = omega (arith, bracket-steps (gainUpdates (chosenO
 row-long (Tuned (GainIndex k)) t = omega (arith, bracket-steps (gainUpdates (clamped k)))
 row-long (Tuned (InputPath path)) t = path-long (pathOf path) (t .kind) t
 row-long (Tuned (Tune hz rs)) t = tune-length (t .chip .address) (t .kind) (t .notch) (planFor t hz) hz rs
-row-long (Tuned (Shadow register value mask)) t = still-long (leb 5 register && leb register 31) _ _ _ _
 row-long (Tuned (Ppm ppm)) t = ppm-long (correctedOf (t .nominal) ppm) t
 row-long (Tuned (Notch on)) t = omega arith
 row-long (Tuned GainTold) t = omega arith
@@ -208,7 +203,6 @@ row-few (Tuned (Gain db)) t = omega arith
 row-few (Tuned (GainIndex k)) t = omega arith
 row-few (Tuned (InputPath path)) t = few-path (pathOf path) (t .kind) t
 row-few (Tuned (Tune hz rs)) t = omega arith
-row-few (Tuned (Shadow register value mask)) t = few-still (leb 5 register && leb register 31) _ _ _ _
 row-few (Tuned (Ppm ppm)) t = few-ppm (correctedOf (t .nominal) ppm) t
 row-few (Tuned (Notch on)) t = omega arith
 row-few (Tuned GainTold) t = omega arith
@@ -220,40 +214,32 @@ row-few (BoardPath path rs) t = few-board (pathOf path) rs t
 module _ (t : Tuner) where
   bracket-proper : (n : ℕ) (us : List Update) (answer : Answer) (cut whole : Tuner) → stops answer ≡ false → allIn us ≡ true → Proper t (bracket n us answer cut whole)
   unfolding bracket
-  bracket-proper n us answer cut whole named h = stepping 0 (n + 2) 0 [] answer (behind (updates us)) _ named (fine-bracket us h) (λ tr. as-it-was (tr .chip))
+  bracket-proper n us answer cut whole named h = stepping 0 (n + 2) 0 [] answer (behind (updates us)) _ named (fine-bracket us h) (λ tr. refl)
 
   gain-proper : (k : ℕ) → Proper t (gainRow k t)
   unfolding gainRow
   gain-proper k = bracket-proper 5 (gainUpdates k) _ t (withGain t (gainOf (stepAt k))) refl (gain-in k)
 
   path-proper : (p : PathRead) (kind : Kind) → Proper t (pathRow p kind t)
-  path-proper path-read.Refused kind = resting t (Refused 1) refl (as-it-was (t .chip))
-  path-proper (path-read.Is path) R820T = resting t (Done 0) refl (as-it-was (t .chip))
+  path-proper path-read.Refused kind = resting t (Refused 1) refl refl
+  path-proper (path-read.Is path) R820T = resting t (Done 0) refl refl
   path-proper (path-read.Is path) R828D = bracket-proper 2 (pathUpdates path) (Done 0) t t refl (path-in path)
 
   board-proper : (p : PathRead) (rs : List ℕ) → Proper t (boardRow p rs t)
-  board-proper path-read.Refused rs = resting t (Refused 1) refl (as-it-was (t .chip))
-  board-proper (path-read.Is path) rs = stepping 0 10 3 rs (Done 0) (boardPathSteps (t .kind) path rs) _ refl (fine-board (t .kind) path rs) (λ tr. as-it-was (tr .chip))
-
-  either-proper : (b : Bool) (x y : Course Tuner) → Proper t x → Proper t y → Proper t (cond b x y)
-  either-proper true x y p q = p
-  either-proper false x y p q = q
+  board-proper path-read.Refused rs = resting t (Refused 1) refl refl
+  board-proper (path-read.Is path) rs = stepping 0 10 3 rs (Done 0) (boardPathSteps (t .kind) path rs) _ refl (fine-board (t .kind) path rs) (λ tr. refl)
 
   ppm-proper : (r : Corrected) → Proper t (ppmRow r t)
-  ppm-proper (corrected-variants.Is v) = resting _ (Done 0) refl (as-it-was (t .chip))
-  ppm-proper corrected-variants.Refused = resting t (Refused 4) refl (as-it-was (t .chip))
-
-  reload-alike : (went : Went) (c : Chip) → Alike c (reloaded went c)
-  reload-alike Going c = record { chip = refl; attempted = refl; doubtful = refl }
-  reload-alike (Refused11 k) c = as-it-was c
+  ppm-proper (corrected-variants.Is v) = resting _ (Done 0) refl refl
+  ppm-proper corrected-variants.Refused = resting t (Refused 4) refl refl
 
   unstopped : (plan : Pll) (hz : ℕ) → stops (wholeOf plan hz) ≡ false
   unstopped pll-variants.Refused hz = refl
   unstopped (pll-variants.Planned p) hz = refl
 
   pub proper : (o : Order) → given o t ≡ true → t .chip .address ≤ 255 → Proper t (rowOf o t)
-  proper (Tuned Initialize) g small = stepping 0 19 0 [] (Done 0) _ _ refl fine-init (λ tr. as-it-was (tr .chip))
-  proper (Tuned Reload) g small = stepping 0 9 0 [] (Done 0) _ _ refl (fine-reload (t .chip .attempted)) (λ tr. reload-alike (tr .went) (tr .chip))
+  proper (Tuned Initialize) g small = stepping 0 19 0 [] (Done 0) _ _ refl fine-init (λ tr. refl)
+  proper (Tuned Reload) g small = stepping 0 9 0 [] (Done 0) _ _ refl (fine-reload (t .chip .shadow)) (λ tr. refl)
   proper (Tuned (Bandwidth hz)) g small = bracket-proper 1 (bandwidthUpdates hz) (Done 0) t t refl (bandwidth-in hz)
   proper (Tuned (IfFreq hz)) g small = bracket-proper 2 (ifUpdates hz) (Done 0) (withIf t hz) (withIf t hz) refl (if-in hz)
   proper (Tuned (Gain db)) g small = gain-proper (chosenOf db)
@@ -261,16 +247,14 @@ module _ (t : Tuner) where
   proper (Tuned (InputPath path)) g small = path-proper (pathOf path) (t .kind)
   proper (Tuned (Tune hz rs)) g small =
       stepping _ 53 35 rs (wholeOf (planFor t hz) hz) _ _ (unstopped (planFor t hz) hz)
-      (fine-tune (t .chip .address) rs small g (t .kind) (t .notch) (planFor t hz) hz) (λ tr. as-it-was (tr .chip))
-  proper (Tuned (Shadow register value mask)) g small =
-      either-proper (leb 5 register && leb register 31) _ _ (resting _ _ refl record { chip = refl; attempted = refl; doubtful = refl }) (resting t (Refused 5) refl (as-it-was (t .chip)))
+      (fine-tune (t .chip .address) rs small g (t .kind) (t .notch) (planFor t hz) hz) (λ tr. refl)
   proper (Tuned (Ppm ppm)) g small = ppm-proper (correctedOf (t .nominal) ppm)
-  proper (Tuned (Notch on)) g small = resting _ (Done 0) refl (as-it-was (t .chip))
-  proper (Tuned GainTold) g small = resting t _ refl (as-it-was (t .chip))
-  proper (Tuned IfTold) g small = resting t _ refl (as-it-was (t .chip))
-  proper (Tuned TableTold) g small = resting t (Done 0) refl (as-it-was (t .chip))
+  proper (Tuned (Notch on)) g small = resting _ (Done 0) refl refl
+  proper (Tuned GainTold) g small = resting t _ refl refl
+  proper (Tuned IfTold) g small = resting t _ refl refl
+  proper (Tuned TableTold) g small = resting t (Done 0) refl refl
   proper (SampleRate rate d) g small =
-      stepping _ 17 0 [] (Done 0) _ _ refl (fine-rate (ifFor (t .ifreq) rate) rate (xtalOf d) (planOf (d .board) (d .frequency) .inverted)) (λ tr. as-it-was (tr .chip))
+      stepping _ 17 0 [] (Done 0) _ _ refl (fine-rate (ifFor (t .ifreq) rate) rate (xtalOf d) (planOf (d .board) (d .frequency) .inverted)) (λ tr. refl)
   proper (BoardPath path rs) g small = board-proper (pathOf path) rs
 
 -- ---- every call

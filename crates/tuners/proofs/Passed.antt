@@ -117,7 +117,7 @@ module _ (row : Tuner → Course Tuner) (os b room next : List ℕ) where
   call t lent = leftBy (sound t) (row t) os (t .chip) t lent
 
   abbrev number : ℕ
-  number = readyOf (tunerOf b .ok) (argument (tunerOf b .tuner)) (length next) 105
+  number = readyOf (tunerOf b .ok) (argument (tunerOf b .tuner)) (length next) 78
 
   abbrev made : After
   made = handed (call (tunerOf b .tuner) room) next
@@ -127,12 +127,12 @@ module _ (row : Tuner → Course Tuner) (os b room next : List ℕ) where
   told t = seenIn (entriesBy (askedBy (sound t) (row t) (length os) (length room)) os (t .chip))
 
   -- what is read, and the number that it is refused by, as the code has them
-  module _ (read : TunerRead) (k n : ℕ) (is : read ≡ tunerOf b) (asked : k ≡ argument (read .tuner)) (said : n ≡ readyOf (read .ok) k (length next) 105) where
+  module _ (read : TunerRead) (k n : ℕ) (is : read ≡ tunerOf b) (asked : k ≡ argument (read .tuner)) (said : n ≡ readyOf (read .ok) k (length next) 78) where
     number-is : n ≡ number
     number-is =
         said
-        ∙ ap (λ (x : ℕ). readyOf (read .ok) x (length next) 105) asked
-        ∙ ap (λ (x : TunerRead). readyOf (x .ok) (argument (x .tuner)) (length next) 105) is
+        ∙ ap (λ (x : ℕ). readyOf (read .ok) x (length next) 78) asked
+        ∙ ap (λ (x : TunerRead). readyOf (x .ok) (argument (x .tuner)) (length next) 78) is
 
     pub refused-by : (r : Reply) → (n ≡ 0 → ⊥) → r ≡ replyOf (Refused n) 0 → after r room next ≡ overTuner row os b room next
     unfolding overTuner

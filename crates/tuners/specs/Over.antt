@@ -57,7 +57,7 @@ unlessRefused number refuse made = cond (eqb number 0) made (refuse number)
 -- one call over bytes, by its row: the number of its argument's refusal, and what it leaves of the record that the bytes are
 unfoldable pub overTuner : (Tuner → Course Tuner) → List ℕ → List ℕ → List ℕ → List ℕ → After
 overTuner row os b room next =
-    unlessRefused (readyOf (tunerOf b .ok) (argumentOf (row (tunerOf b .tuner))) (length next) 105)
+    unlessRefused (readyOf (tunerOf b .ok) (argumentOf (row (tunerOf b .tuner))) (length next) 78)
     (λ n. refusal n room next)
     (handed (leftBy (sound (tunerOf b .tuner)) (row (tunerOf b .tuner)) os (tunerOf b .tuner .chip) (tunerOf b .tuner) room) next)
 
@@ -77,7 +77,7 @@ tunedBy a s = tunedTo (tunedOf (a .answer) s) (a .room) (a .next)
 -- #101: what a call over bytes tells of the lock, by the entries that it makes on the record that the bytes are
 unfoldable pub seenOver : (Tuner → Course Tuner) → List ℕ → List ℕ → List ℕ → List ℕ → Seen
 seenOver row os b room next =
-    unlessRefused (readyOf (tunerOf b .ok) (argumentOf (row (tunerOf b .tuner))) (length next) 105)
+    unlessRefused (readyOf (tunerOf b .ok) (argumentOf (row (tunerOf b .tuner))) (length next) 78)
     (λ n. unseen)
     (seenIn (entriesBy (askedBy (sound (tunerOf b .tuner)) (row (tunerOf b .tuner)) (length os) (length room)) os (tunerOf b .tuner .chip)))
 

@@ -7,7 +7,7 @@ ghost use Prim.Native.Nat.{_≤_};
 ghost use lib.ListN.{length};
 ghost use Rattle.lending.specs.Lent.{answeredTo, given};
 ghost use Rattle.r82xx.specs.Orders.{courseOf};
-ghost use Rattle.r82xx.specs.Orders.Order.{Initialize, Reload, Bandwidth, IfFreq, Gain, GainIndex, InputPath, Tune, Shadow, Ppm, Notch, GainTold, IfTold};
+ghost use Rattle.r82xx.specs.Orders.Order.{Initialize, Reload, Bandwidth, IfFreq, Gain, GainIndex, InputPath, Tune, Ppm, Notch, GainTold, IfTold};
 ghost use Rattle.records.specs.Tuners.{tunerBytes};
 ghost use Rattle.replies.specs.Replies.{replyOf};
 ghost use Rattle.chip.specs.declared.Answer.the-variants.{Refused};
@@ -54,7 +54,7 @@ pub fn kept(answer: Answer, count: usize) -> bool
 }
 
 pub fn store(answer: Answer, count: usize, tuner: Tuner, next: &mut [u8])
-    requires { ⌜ 105 ≤ length (now next) ⌝ }
+    requires { ⌜ 78 ≤ length (now next) ⌝ }
     ensures { λ _. ⌜ now (next .exit) ≡ nextOf tunerBytes answer count tuner (now (next .entry)) ⌝ }
 {
     if kept(answer, count) {
@@ -65,7 +65,7 @@ pub fn store(answer: Answer, count: usize, tuner: Tuner, next: &mut [u8])
 
 // What a call hands back: its record into the slice, the rest as numbers.
 pub fn hand(told: Told, next: &mut [u8]) -> Reply
-    requires { ⌜ 105 ≤ length (now next) ⌝ }
+    requires { ⌜ 78 ≤ length (now next) ⌝ }
     ensures { λ r. ⌜ (r ≡ replyOf (told .answer) (told .count)) × (now (next .exit) ≡ nextOf tunerBytes (told .answer) (told .count) (told .tuner) (now (next .entry))) ⌝ }
 {
     let answer = told.answer;
@@ -245,19 +245,6 @@ pub fn fresh(kind: u64, address: u8, nominal: u64, next: &mut [u8]) -> Answer
     let made = Tuner::new(kind, address, nominal);
     let answer = made.answer;
     lend(answer, made.tuner, next)
-}
-
-pub fn update_shadow(tuner: &[u8], register: u8, value: u8, mask: u8, next: &mut [u8]) -> Answer
-    ensures { λ r. ⌜ given r (now (next .exit)) ≡ changedInto (Shadow register value mask) (now (tuner .entry)) (now (next .entry)) ⌝ }
-{
-    let read = records::decode_tuner(tuner);
-    if !read.ok {
-        return Answer::Refused(chip::SETUP);
-    }
-    let given = read.tuner;
-    let told = given.update_shadow(register, value, mask);
-    let answer = told.answer;
-    lend(answer, told.tuner, next)
 }
 
 pub fn set_ppm(tuner: &mut [u8], ppm: i32) -> Answer

@@ -39,11 +39,7 @@ pick-every p true xs ys h k = h
 pick-every p false xs ys h k = k
 
 pub eight-update : (u : Update) → eight (updateStep u) ≡ true
-eight-update u = go (u .past) refl
-  where
-    go : (b : Bool) → u .past ≡ b → eight (updateStep u) ≡ true
-    go true e = rw e
-    go false e = rw e
+eight-update u = refl
 
 length-reply : (rs : List ℕ) (at n : ℕ) → length (replyBytes rs at n) ≡ 8
 unfolding replyBytes

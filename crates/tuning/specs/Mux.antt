@@ -6,7 +6,7 @@ use mathlib.Core.Bool.{Bool, cond}
 use mathlib.Core.List.{List, [], _∷_, _++_}
 use lib.Dec.{eqb, leb}
 use Rattle.chip.specs.declared.Update.{Update}
-use Rattle.chip.specs.Steps.{masked, past}
+use Rattle.chip.specs.Steps.{masked}
 use Rattle.pll.specs.declared.Plan.{Plan}
 use Rattle.tuning.specs.declared.FreqRange.{FreqRange}
 
@@ -68,12 +68,12 @@ muxUpdates notch r =
     ∷ masked 0x1a 0x20 0x30
     ∷ []
 
--- `set_pll_raw`, "Pass 1": divider, N, the sum's two bytes, and whether the fraction is off
+-- `set_pll_raw`, "Pass 1": divider, N, the sum's two bytes, and whether the fraction is off. #106: 0x14, 0x16 and 0x15 "go through the shadow"
 abbrev pub pllUpdates : Plan → List Update
 pllUpdates p =
     masked 0x10 (p .number * 32) 0xe0
-    ∷ past 0x14 (p .setting)
-    ∷ past 0x16 (p .sum / 256)
-    ∷ past 0x15 (p .sum % 256)
+    ∷ masked 0x14 (p .setting) 0xff
+    ∷ masked 0x16 (p .sum / 256) 0xff
+    ∷ masked 0x15 (p .sum % 256) 0xff
     ∷ masked 0x12 (cond (eqb (p .fraction) 0) 0x08 0x00) 0x08
     ∷ []

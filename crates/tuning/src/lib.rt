@@ -22,7 +22,6 @@ use chip::Update;
 use chip::Updates;
 use chip::Went;
 use chip::masked;
-use chip::past;
 use pll::Kind;
 use pll::Plan;
 use pll::Pll;
@@ -147,9 +146,9 @@ fn tune_updates(r: FreqRange, notch: bool, p: Plan) -> [Update; 16]
         masked(0x1e, 14, 0x1f),
         masked(0x1a, 0x20, 0x30),
         masked(0x10, p.number * 32, 0xe0),
-        past(0x14, p.setting),
-        past(0x16, high),
-        past(0x15, low),
+        masked(0x14, p.setting, 0xff),
+        masked(0x16, high, 0xff),
+        masked(0x15, low, 0xff),
         masked(0x12, whole, 0x08),
     ]
 }

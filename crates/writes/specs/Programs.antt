@@ -1,5 +1,5 @@
--- The programs of several brackets. Document 01, "The record": "`initialize` sends `INIT_ARRAY` but doesn't reset the shadow"; "Reload sends the
--- attempted bytes in `initialize`'s chunks (7, 7, 2, then 7, 4)".
+-- The programs of several brackets. Document 01, "The record": "Reload sends the attempted bytes in `initialize`'s chunks (7, 7, 2, then 7, 4)"; document
+-- 02, #106: "`initialize` puts each chunk's bytes into the shadow as it is tried", as every write does.
 -- Assumes nothing.
 use Prim.Native.Nat.{ℕ}
 use mathlib.Core.List.{List, _++_}

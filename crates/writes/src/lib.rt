@@ -6,7 +6,8 @@ ghost use mathlib.Core.List.{_++_};
 ghost use Prim.Native.Nat.{_+_, _*_, _≤_, _<_};
 ghost use lib.Dec.{leb};
 ghost use lib.ListN.{length};
-ghost use Rattle.chip.specs.Steps.{behind, closing, due, inRoom, listed, onLists, onRoom, run, updates};
+ghost use Rattle.chip.specs.Chips.{chipOf};
+ghost use Rattle.chip.specs.Steps.{behind, closing, due, inRoom, listed, onLog, onRoom, run, updates};
 ghost use Rattle.writes.specs.Lists.{bandwidthUpdates, byHand, gainUpdates, ifUpdates, initUpdates, pathUpdates, stepValues};
 ghost use Rattle.writes.specs.Programs.{initSteps, sendAll};
 use board::Path;
@@ -113,25 +114,24 @@ fn gain_by_hand(
     l: Log,
     address: u8,
     shadow: &mut [u8; 27],
-    attempted: &mut [u8; 27],
     doubtful: &mut [bool; 27],
     outcomes: &[u8],
     room: &mut [u8],
 ) -> Log
     requires { ⌜ (l .count + 2 + due (l .held) ≤ length (now outcomes)) × (16 * (l .count + 2 + due (l .held)) ≤ length (now room)) ⌝ }
-    ensures { λ r. ⌜ onLists address (now (shadow .exit)) (now (attempted .exit)) (now (doubtful .exit)) r (now (room .exit))
+    ensures { λ r. ⌜ onLog (chipOf address (now (shadow .exit)) (now (doubtful .exit))) r (now (room .exit))
         ≡ closing inRoom (now (outcomes .entry)) (run inRoom (now (outcomes .entry)) (updates byHand)
-        (onLists address (now (shadow .entry)) (now (attempted .entry)) (now (doubtful .entry)) l (now (room .entry)))) ⌝ }
+        (onLog (chipOf address (now (shadow .entry)) (now (doubtful .entry))) l (now (room .entry)))) ⌝ }
     ensures bounds { λ r. ⌜ r .count + due (r .held) ≤ l .count + 2 + due (l .held) ⌝ }
 {
     let u = masked(0x05, 0x10, 0x10);
-    let l = chip::write_reg_mask_raw(l, address, u, shadow, attempted, doubtful, outcomes, room);
+    let l = chip::write_reg_mask_raw(l, address, u, shadow, doubtful, outcomes, room);
     let went = l.went;
     let Went::Going = went else {
         return chip::log_close(l, outcomes, room);
     };
     let u = masked(0x07, 0x00, 0x10);
-    let l = chip::write_reg_mask_raw(l, address, u, shadow, attempted, doubtful, outcomes, room);
+    let l = chip::write_reg_mask_raw(l, address, u, shadow, doubtful, outcomes, room);
     chip::log_end(l, outcomes, room)
 }
 
@@ -141,31 +141,30 @@ fn gain_values(
     address: u8,
     cfg: GainEntry,
     shadow: &mut [u8; 27],
-    attempted: &mut [u8; 27],
     doubtful: &mut [bool; 27],
     outcomes: &[u8],
     room: &mut [u8],
 ) -> Log
     requires { ⌜ (l .count + 3 + due (l .held) ≤ length (now outcomes)) × (16 * (l .count + 3 + due (l .held)) ≤ length (now room)) ⌝ }
-    ensures { λ r. ⌜ onLists address (now (shadow .exit)) (now (attempted .exit)) (now (doubtful .exit)) r (now (room .exit))
+    ensures { λ r. ⌜ onLog (chipOf address (now (shadow .exit)) (now (doubtful .exit))) r (now (room .exit))
         ≡ closing inRoom (now (outcomes .entry)) (run inRoom (now (outcomes .entry)) (updates (stepValues cfg))
-        (onLists address (now (shadow .entry)) (now (attempted .entry)) (now (doubtful .entry)) l (now (room .entry)))) ⌝ }
+        (onLog (chipOf address (now (shadow .entry)) (now (doubtful .entry))) l (now (room .entry)))) ⌝ }
     ensures bounds { λ r. ⌜ r .count + due (r .held) ≤ l .count + 3 + due (l .held) ⌝ }
 {
     let u = masked(0x05, cfg.lna, 0x0f);
-    let l = chip::write_reg_mask_raw(l, address, u, shadow, attempted, doubtful, outcomes, room);
+    let l = chip::write_reg_mask_raw(l, address, u, shadow, doubtful, outcomes, room);
     let went = l.went;
     let Went::Going = went else {
         return chip::log_close(l, outcomes, room);
     };
     let u = masked(0x07, cfg.mix, 0x0f);
-    let l = chip::write_reg_mask_raw(l, address, u, shadow, attempted, doubtful, outcomes, room);
+    let l = chip::write_reg_mask_raw(l, address, u, shadow, doubtful, outcomes, room);
     let went = l.went;
     let Went::Going = went else {
         return chip::log_close(l, outcomes, room);
     };
     let u = masked(0x0c, cfg.vga, 0x0f);
-    let l = chip::write_reg_mask_raw(l, address, u, shadow, attempted, doubtful, outcomes, room);
+    let l = chip::write_reg_mask_raw(l, address, u, shadow, doubtful, outcomes, room);
     chip::log_end(l, outcomes, room)
 }
 
@@ -175,29 +174,19 @@ fn gain_writes(
     address: u8,
     k: usize,
     shadow: &mut [u8; 27],
-    attempted: &mut [u8; 27],
     doubtful: &mut [bool; 27],
     outcomes: &[u8],
     room: &mut [u8],
 ) -> Log
     requires { ⌜ (k < 29) × (l .count + 5 + due (l .held) ≤ length (now outcomes)) × (16 * (l .count + 5 + due (l .held)) ≤ length (now room)) ⌝ }
-    ensures { λ r. ⌜ onLists address (now (shadow .exit)) (now (attempted .exit)) (now (doubtful .exit)) r (now (room .exit))
+    ensures { λ r. ⌜ onLog (chipOf address (now (shadow .exit)) (now (doubtful .exit))) r (now (room .exit))
         ≡ closing inRoom (now (outcomes .entry)) (run inRoom (now (outcomes .entry)) (updates (gainUpdates k))
-        (onLists address (now (shadow .entry)) (now (attempted .entry)) (now (doubtful .entry)) l (now (room .entry)))) ⌝ }
+        (onLog (chipOf address (now (shadow .entry)) (now (doubtful .entry))) l (now (room .entry)))) ⌝ }
     ensures bounds { λ r. ⌜ r .count + due (r .held) ≤ l .count + 5 + due (l .held) ⌝ }
 {
     let cfg = gain::entry_at(k);
-    let manual = gain_by_hand(l, address, shadow, attempted, doubtful, outcomes, room);
-    gain_values(
-        manual,
-        address,
-        cfg,
-        shadow,
-        attempted,
-        doubtful,
-        outcomes,
-        room,
-    )
+    let manual = gain_by_hand(l, address, shadow, doubtful, outcomes, room);
+    gain_values(manual, address, cfg, shadow, doubtful, outcomes, room)
 }
 
 // `set_gain`, over a flow: one bracket.
@@ -217,14 +206,12 @@ pub fn gain_steps(f: Flow, k: usize, outcomes: &[u8], room: &mut [u8]) -> Flow
         };
     };
     let mut shadow = chip.shadow;
-    let mut attempted = chip.attempted;
     let mut doubtful = chip.doubtful;
     let written = gain_writes(
         opened,
         chip.address,
         k,
         &mut shadow,
-        &mut attempted,
         &mut doubtful,
         outcomes,
         room,
@@ -233,7 +220,6 @@ pub fn gain_steps(f: Flow, k: usize, outcomes: &[u8], room: &mut [u8]) -> Flow
     let next = Chip {
         address: chip.address,
         shadow: shadow,
-        attempted: attempted,
         doubtful: doubtful,
     };
     Flow {

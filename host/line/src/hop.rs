@@ -163,7 +163,7 @@ fn together(given: &Given, out: &mut Out) {
 }
 
 fn kept(given: &Given, out: &mut Out) -> Option<Start> {
-    let bytes = read(given, Key::Record, record::SIZE + 1, out)?;
+    let bytes = read(given, Key::Record, record::LOOKED_AT, out)?;
     match record::read(&bytes) {
         Ok((tuner, driver)) => Some(Start::Kept { tuner, driver }),
         Err(why) => {

@@ -3,14 +3,22 @@ use pasetone::{Driver, Error, Tuner};
 
 pub const SIZE: usize = Tuner::SIZE + Driver::SIZE;
 
-/// Reads a kept record, of whose file one byte more was read at most; what is wrong with the bytes comes back in words.
+/// What was kept before 4.0.0, and before 3.0.0: the tuner's record had 105 bytes, the driver's 29, then 21.
+const OLD: [usize; 2] = [134, 126];
+
+/// How much of a file tells whether it is a kept record.
+pub const LOOKED_AT: usize = OLD[0] + 1;
+
+/// Reads a kept record, of whose file [`LOOKED_AT`] bytes were read at most; what is wrong with the bytes comes back in words.
 pub fn read(bytes: &[u8]) -> Result<(Tuner, Driver), String> {
     if bytes.len() != SIZE {
-        let (tuner, driver) = (Tuner::SIZE, Driver::SIZE);
-        let here = if bytes.len() > SIZE { String::from("more") } else { bytes.len().to_string() };
-        return Err(format!(
-            "a record has {SIZE} bytes ({tuner} of the tuner, then {driver} of the driver), and here are {here}: give a file that --keep has written"
-        ));
+        let (tuner, driver, length) = (Tuner::SIZE, Driver::SIZE, bytes.len());
+        let has = format!("a record has {SIZE} bytes ({tuner} of the tuner, then {driver} of the driver), and here are");
+        if OLD.contains(&length) {
+            return Err(format!("{has} {length}, as an older version kept: run once without --record, and give what --keep then writes"));
+        }
+        let here = if length == LOOKED_AT { String::from("more") } else { length.to_string() };
+        return Err(format!("{has} {here}: give a file that --keep has written"));
     }
     let (tuner, driver) = bytes.split_at(Tuner::SIZE);
     let none = |whose: &str| format!("its bytes for the {whose} are no record (refusal 1): give a file that --keep has written");
@@ -43,6 +51,10 @@ mod tests {
         for length in [0, 1, Tuner::SIZE, SIZE - 1] {
             assert!(read(&bytes[..length]).unwrap_err().ends_with(&format!("here are {length}: give a file that --keep has written")));
         }
+        for length in OLD {
+            assert!(read(&vec![0; length]).unwrap_err().contains(&format!("here are {length}, as an older version kept")));
+        }
+        assert!(read(&[0; LOOKED_AT]).unwrap_err().contains("here are more: "));
         let spoiled = |at: usize| {
             let mut bytes = bytes.clone();
             bytes[at] = 9;

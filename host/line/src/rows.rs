@@ -24,7 +24,7 @@ pub fn other(label: &str, what: &str, outcome: &str, out: &mut Out) {
 }
 
 pub fn registers(tuner: &Tuner, out: &mut Out) {
-    out.line("registers: shadow byte, byte last attempted, ? where the chip may hold another");
+    out.line("registers: the byte last sent, ? where the chip may hold another");
     let all: Vec<u8> = Tuner::registers().collect();
     // Three stand side by side.
     let high = all.len().div_ceil(3);
@@ -33,7 +33,7 @@ pub fn registers(tuner: &Tuner, out: &mut Out) {
         let mut line = String::new();
         for (at, register) in cells.iter().enumerate() {
             let doubtful = tuner.is_doubtful(**register);
-            let cell = format!("  0x{register:02x}  {}  {}", byte(tuner.shadow(**register)), byte(tuner.attempted(**register)));
+            let cell = format!("  0x{register:02x}  {}", byte(tuner.shadow(**register)));
             let last = at + 1 == cells.len();
             line += &cell;
             line += &if doubtful { format!(" {}", out.loud("?")) } else { String::new() };
@@ -71,7 +71,6 @@ pub fn register_json(tuner: &Tuner, register: u8) -> String {
     json::object(&[
         ("register", register.to_string()),
         ("shadow", json::maybe(tuner.shadow(register))),
-        ("attempted", json::maybe(tuner.attempted(register))),
         ("doubtful", tuner.is_doubtful(register).to_string()),
     ])
 }

@@ -14,9 +14,7 @@ pub enum Error {
     Rate,
     /// 4: a corrected reference out of 1..=4,294,967,295, or a given reference of 0.
     Correction,
-    /// 5: a register out of 0x05..=0x1f.
-    Register,
-    /// 6: a GPIO above 7.
+    /// 6: a GPIO above 7. (5 is not used.)
     Pin,
     /// 7: an FIR value past its width.
     Coefficient,
@@ -54,7 +52,6 @@ impl Error {
             2 => Error::Frequency,
             3 => Error::Rate,
             4 => Error::Correction,
-            5 => Error::Register,
             6 => Error::Pin,
             7 => Error::Coefficient,
             8 => Error::Room,
@@ -78,7 +75,6 @@ impl Error {
             Error::Frequency => 2,
             Error::Rate => 3,
             Error::Correction => 4,
-            Error::Register => 5,
             Error::Pin => 6,
             Error::Coefficient => 7,
             Error::Room => 8,
@@ -101,7 +97,6 @@ impl Error {
             Error::Frequency => "frequency",
             Error::Rate => "rate",
             Error::Correction => "correction",
-            Error::Register => "register",
             Error::Pin => "pin",
             Error::Coefficient => "coefficient",
             Error::Room => "room",
@@ -128,7 +123,6 @@ impl Error {
             }
             Error::Rate => "the rate is 0: give one from 1",
             Error::Correction => "the corrected reference is not from 1 to 4294967295 Hz: give another correction, and no reference of 0",
-            Error::Register => "there is no such register: give one from 0x05 to 0x1f",
             Error::Pin => "there is no such GPIO: give one from 0 to 7",
             Error::Coefficient => "an FIR value is past its width: give -128 to 127 for the first eight, -2048 to 2047 for the others",
             Error::Room => "the library asked for more room than this crate lends: build both from one tree",

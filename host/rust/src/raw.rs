@@ -167,7 +167,6 @@ unsafe extern "C" {
         n: usize,
     ) -> Reply;
     pub fn pasetone_reload(tuner: Bytes, t: usize, outcomes: Bytes, o: usize, room: BytesMut, r: usize, next: BytesMut, n: usize) -> Reply;
-    pub fn pasetone_update_shadow(tuner: Bytes, t: usize, reg: u8, value: u8, mask: u8, next: BytesMut, n: usize) -> Reply;
     pub fn pasetone_get_gain(tuner: Bytes, t: usize) -> Reply;
     pub fn pasetone_get_if_freq(tuner: Bytes, t: usize) -> Reply;
     pub fn pasetone_get_gain_table(tuner: Bytes, t: usize, out: BytesMut, n: usize) -> Reply;

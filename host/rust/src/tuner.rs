@@ -27,8 +27,7 @@ const NOMINAL: usize = 29;
 const CORRECTED: usize = 33;
 const LOCK: usize = 37;
 const NOTCH: usize = 50;
-const ATTEMPTED: usize = 51;
-const DOUBTFUL: usize = 78;
+const DOUBTFUL: usize = 51;
 const FIRST: u8 = 0x05;
 const REGISTERS: usize = 27;
 
@@ -39,8 +38,8 @@ pub struct Tuner {
 }
 
 impl Tuner {
-    /// The record's bytes.
-    pub const SIZE: usize = 105;
+    /// The record's bytes. Before 4.0.0 there were 105, which are no record any more.
+    pub const SIZE: usize = 78;
 
     /// A tuner as it is before [`Tuner::initialize`]: every register is doubtful. `address` is the chip's on I2C, any byte (an R820T has 0x34, an
     /// R828D 0x74), `nominal` its reference in Hz.
@@ -82,7 +81,8 @@ impl Tuner {
         Answer::of(reply, transcript, |value| value)
     }
 
-    /// Sends the chip's initial bytes past the shadow, then sets it up by way of it: 19 outcomes. IF, gain, lock and notch stay.
+    /// Sends the chip's initial bytes, each chunk's into the shadow as it is tried, then sets it up by way of that shadow: 19 outcomes. IF, gain, lock and
+    /// notch stay.
     ///
     /// # Errors
     ///
@@ -235,34 +235,19 @@ impl Tuner {
         }))
     }
 
-    /// Sends every register's attempted byte again: 9 outcomes. All done, none is doubtful and the shadow is what the chip holds: the way back after
-    /// [`Error::Step`].
+    /// Sends the shadow again, every register of it: 9 outcomes. All done, none is doubtful and the chip holds the shadow: the way back after
+    /// [`Error::Step`]. The shadow stays.
     ///
     /// # Errors
     ///
     /// - [`Error::Outcomes`] (9): fewer than 9 outcomes.
-    /// - [`Error::Step`] (11): a step failed. The shadow stays, and the steps before it stand.
+    /// - [`Error::Step`] (11): a step failed, and the steps before it stand.
     pub fn reload(&mut self, script: &Script) -> Answer<()> {
         let o = script.outcomes();
         // SAFETY: see raw.rs.
         unit(self.operate(Need::RELOAD, |t, room, next| unsafe {
             raw::pasetone_reload(t.as_ptr(), t.len(), o.as_ptr(), o.len(), room.as_mut_ptr(), room.len(), next.as_mut_ptr(), next.len())
         }))
-    }
-
-    /// The bits of `mask` in a register's shadow byte; nothing is sent. The value is the new byte.
-    ///
-    /// # Errors
-    ///
-    /// - [`Error::Register`] (5): `register` is out of 0x05..=0x1f.
-    pub fn update_shadow(&mut self, register: u8, value: u8, mask: u8) -> Result<u8, Error> {
-        let mut next = self.record;
-        let (t, n) = (&self.record, &mut next);
-        // SAFETY: see raw.rs.
-        let reply = unsafe { raw::pasetone_update_shadow(t.as_ptr(), t.len(), register, value, mask, n.as_mut_ptr(), n.len()) };
-        let byte = reply.result()? as u8;
-        self.record = next;
-        Ok(byte)
     }
 
     /// The tuner's corrected reference: nominal + nominal · ppm / 1,000,000, the quotient cut toward zero. A [`Driver`](crate::Driver) keeps its own.
@@ -333,14 +318,9 @@ impl Tuner {
         self.record[NOTCH] != 0
     }
 
-    /// A register's shadow byte; `None` out of 0x05..=0x1f.
+    /// A register's shadow byte, the one last sent to it, done or not; `None` out of 0x05..=0x1f.
     pub fn shadow(&self, register: u8) -> Option<u8> {
         self.register(SHADOW, register)
-    }
-
-    /// The byte last attempted for a register; `None` out of 0x05..=0x1f.
-    pub fn attempted(&self, register: u8) -> Option<u8> {
-        self.register(ATTEMPTED, register)
     }
 
     /// The registers that the record keeps, ascending: 0x05..=0x1f.
@@ -348,12 +328,12 @@ impl Tuner {
         (FIRST..).take(REGISTERS)
     }
 
-    /// Whether the chip may hold another byte in a register than the one last attempted; false out of 0x05..=0x1f, of which nothing is kept.
+    /// Whether the chip may hold another byte in a register than its shadow; false out of 0x05..=0x1f, of which nothing is kept.
     pub fn is_doubtful(&self, register: u8) -> bool {
         self.register(DOUBTFUL, register).is_some_and(|mark| mark != 0)
     }
 
-    /// The registers of which the chip may hold another byte than the one last attempted.
+    /// The registers of which the chip may hold another byte than their shadow.
     pub fn doubtful(&self) -> impl Iterator<Item = u8> + '_ {
         Tuner::registers().filter(|register| self.is_doubtful(*register))
     }
@@ -413,7 +393,6 @@ impl fmt::Debug for Tuner {
             .field("if_freq", &self.if_freq())
             .field("notch", &self.notch())
             .field("shadow", &Bytes(&self.record[SHADOW..SHADOW + REGISTERS]))
-            .field("attempted", &Bytes(&self.record[ATTEMPTED..ATTEMPTED + REGISTERS]))
             .field("doubtful", &Registers(self))
             .finish()
     }

@@ -96,7 +96,6 @@ fn errors_say_what_to_do() {
         Error::Frequency,
         Error::Rate,
         Error::Correction,
-        Error::Register,
         Error::Pin,
         Error::Coefficient,
         Error::Room,
@@ -105,7 +104,8 @@ fn errors_say_what_to_do() {
         Error::Step { index: 60 },
         Error::Section,
     ];
-    for (number, error) in (1..).zip(all) {
+    // 5 is not used.
+    for (number, error) in (1..).filter(|&number| number != 5).zip(all) {
         assert_eq!(error.number(), number);
         let text = error.to_string();
         assert!(text.starts_with(&format!("refusal {number} ({})", error.word())), "{text}");
@@ -161,9 +161,9 @@ fn tuner_prints_its_fields() {
     let _ = tuner.set_bandwidth(0, &done().failing(1).unwrap());
     assert!(format!("{tuner:?}").ends_with(", doubtful: [0x0a] }"));
     // Records that differ print otherwise, also where a shadow byte is all.
-    let before = format!("{tuner:?}");
-    tuner.update_shadow(0x1f, 0xff, 0xff).unwrap();
-    assert_ne!(format!("{tuner:?}"), before);
+    let mut other = *tuner.as_bytes();
+    other[2 + 26] ^= 1;
+    assert_ne!(format!("{:?}", Tuner::from_bytes(&other).unwrap()), format!("{tuner:?}"));
 }
 
 /// A run of the command line, step for step: what `Display` gives is what it prints behind a call's name.

@@ -22,7 +22,7 @@ fn fresh_tuner() {
     assert_eq!((tuner.kind(), tuner.address(), tuner.nominal(), tuner.corrected()), (TunerKind::R828d, 0x74, 28_800_000, 28_800_000));
     assert_eq!((tuner.has_lock(), tuner.gain(), tuner.if_freq(), tuner.notch()), (false, 0.0, 2_300_000, false));
     assert_eq!(tuner.doubtful().collect::<Vec<_>>(), (0x05..=0x1f).collect::<Vec<_>>());
-    assert_eq!((tuner.shadow(0x05), tuner.attempted(0x1f), tuner.shadow(0x04), tuner.shadow(0x20)), (Some(0x83), Some(0xc0), None, None));
+    assert_eq!((tuner.shadow(0x05), tuner.shadow(0x1f), tuner.shadow(0x04), tuner.shadow(0x20)), (Some(0x83), Some(0xc0), None, None));
     assert_eq!(Tuner::new(TunerKind::R820t, 0x34, 0), Err(Error::Setup));
 }
 
@@ -31,6 +31,7 @@ fn records_as_bytes() {
     let tuner = r828d();
     assert_eq!(Tuner::from_bytes(tuner.as_bytes()), Ok(tuner.clone()));
     assert_eq!(Tuner::from_bytes(&tuner.as_bytes()[1..]), Err(Error::Setup));
+    assert_eq!((Tuner::SIZE, Tuner::from_bytes(&[&tuner.as_bytes()[..], &[0; 27]].concat())), (78, Err(Error::Setup)));
     let mut damaged = *tuner.as_bytes();
     damaged[37] = 2;
     assert_eq!(Tuner::from_bytes(&damaged), Err(Error::Setup));
@@ -143,7 +144,6 @@ fn refused_before_steps() {
         assert_eq!((answer.result, answer.transcript), (Err(error), Transcript::default()));
     }
     assert_eq!(tuner.set_frequency(0, &done()).result, Err(Error::Frequency));
-    assert_eq!(tuner.update_shadow(0x04, 0, 0), Err(Error::Register));
     assert_eq!(tuner.set_ppm(-1_000_000), Err(Error::Correction));
     assert_eq!(tuner, before);
 }
@@ -170,7 +170,6 @@ fn other_calls_of_the_tuner() {
     assert_eq!(tuner.if_freq(), 3_570_000);
     assert_eq!(tuner.set_input_path(InputPath::Uhf, &done()).transcript.len(), 4);
     assert_eq!(tuner.apply_input_path(InputPath::Hf, &done()).transcript.len(), 10);
-    assert_eq!(tuner.update_shadow(0x0f, 0xff, 0x0f), Ok(0x6f));
     tuner.apply_notch(true);
     assert!(tuner.notch());
     tuner.set_ppm(-1).unwrap();
@@ -179,6 +178,29 @@ fn other_calls_of_the_tuner() {
     let answer = small.set_input_path(InputPath::Hf, &Script::new([], []));
     assert_eq!((answer.result, answer.transcript), (Ok(()), Transcript::default()));
     assert_eq!(small.apply_input_path(InputPath::Hf, &done()).transcript.len(), 6);
+}
+
+/// Document 02, #106: what was sent is in the shadow, whether it was done or not, and nothing else is.
+#[test]
+fn the_shadow_follows_every_write() {
+    let mut tuner = r828d();
+    tuner.set_frequency(100_000_000, &done()).result.unwrap();
+    tuner.set_gain_by_index(28, &done()).result.unwrap();
+    let bytes = |tuner: &Tuner| [0x05, 0x0c, 0x14, 0x15, 0x16, 0x1a].map(|register| tuner.shadow(register).unwrap());
+    assert_eq!(bytes(&tuner), [0x9f, 0xff, 0xca, 0x56, 0xd5, 0x22]);
+    let reload = tuner.clone().reload(&done());
+    assert_eq!(reload.transcript.get(1).unwrap().bytes[..2], [0x05, 0x9f]);
+    assert_eq!(reload.transcript.get(3).unwrap().bytes[2], 0xca);
+    // The opening fails: nothing was tried. The first chunk fails: it was, and the ones behind it were not.
+    let (mut closed, mut cut) = (tuner.clone(), tuner.clone());
+    assert_eq!(closed.initialize(&done().failing(0).unwrap()).result, Err(Error::Step { index: 0 }));
+    assert_eq!(closed, tuner);
+    assert_eq!(cut.initialize(&done().failing(1).unwrap()).result, Err(Error::Step { index: 1 }));
+    assert_eq!(bytes(&cut), [0x83, 0xff, 0xca, 0x56, 0xd5, 0x22]);
+    // A second initialise stands on its own bytes: 0x1a has 0x60 there, and 0x22 from the tuning.
+    let again = tuner.initialize(&done());
+    assert_eq!(again.transcript.get(10).unwrap().bytes, [0x1a, 0x60]);
+    assert_eq!(bytes(&tuner), [0x83, 0xf0, 0x0f, 0x00, 0xc0, 0x60]);
 }
 
 #[test]
@@ -308,7 +330,7 @@ fn errors_have_numbers_and_words() {
     assert_eq!((Error::Coefficient.number(), Error::Coefficient.word()), (7, "coefficient"));
     assert_eq!((Error::Ratio.number(), Error::Ratio.word()), (13, "ratio"));
     assert_eq!(Transcript::read(&[]).map(|_| ()).unwrap_err().number(), 12);
-    assert_eq!(pasetone::version(), (3, 4, 0));
+    assert_eq!(pasetone::version(), (4, 0, 0));
     assert_eq!((Error::Expansion.number(), Error::Expansion.word()), (15, "expansion"));
 }
 

@@ -1,4 +1,5 @@
-//! The answer to a case: refusals in document 01's order, then the Rust, and document 01 where the Rust has no answer.
+//! The answer to a case: refusals in document 01's order, then the Rust, and document 01 where the Rust has no answer. The record's shadow is the one
+//! that the Rust keeps: requests.rs has document 02's.
 use crate::case::{Answer, By, Case};
 use crate::page;
 use crate::records::{Driver, Tuner};
@@ -11,7 +12,7 @@ use rusb::rec::Entry;
 use std::sync::Arc;
 
 pub fn takes_tuner(call: u8) -> bool {
-    matches!(call, 2..=15 | 19 | 20)
+    matches!(call, 2..=11 | 13..=15 | 19 | 20)
 }
 pub fn takes_driver(call: u8) -> bool {
     matches!(call, 17..=19)
@@ -43,7 +44,7 @@ pub fn answer(case: &Case) -> Answer {
     match case.call {
         1 => fresh(case),
         2..=9 => steps_on_tuner(case, &given.tuner),
-        10..=15 => without_steps(case, &given.tuner),
+        10 | 11 | 13..=15 => without_steps(case, &given.tuner),
         16..=18 => on_driver(case, &given.driver),
         19 => sample_rate(case, &given),
         20 => board_path(case, &given),
@@ -72,8 +73,6 @@ fn argument(case: &Case, given: &Given) -> Option<(u8, By)> {
         3 if case.a == 0 => asked(|| run::chip(&given.tuner).set_frequency(0)),
         3 => over(case.a.checked_add(given.tuner.intermediate).is_none(), 2),
         10 => over(page::corrected(given.tuner.nominal, case.d as i32).is_none(), 4),
-        12 if case.a > 0x1f => asked(|| run::chip(&given.tuner).see_update_shadow(case.a as u8, case.b as u8, case.c as u8)),
-        12 => over(case.a < 0x05, 5),
         16 => over(page::corrected(case.a as u32, case.d as i32).is_none(), 4),
         17 => over(page::corrected(given.driver.nominal, case.d as i32).is_none(), 4),
         19 if case.a == 0 => asked(|| rate(Arc::new(run::chip(&given.tuner)), given, 0).0),
@@ -149,9 +148,6 @@ fn steps_on_tuner(case: &Case, tuner: &Tuner) -> Answer {
     if given.intermediate != tuner.intermediate {
         next.intermediate = tuner.intermediate;
     }
-    if case.call == 9 && result.is_ok() {
-        next.shadow = next.attempted;
-    }
     let mut answer = stepped(result, &entries, by);
     answer.tuner = Some(next.bytes());
     if case.call == 8 && tuner.kind == 0 {
@@ -178,11 +174,11 @@ pub fn call(chip: &R82xx, case: &Case, given: &Tuner) -> Result<u64> {
     }
 }
 
-/// Our addition, by the Rust's own writer: "the attempted bytes in `initialize`'s chunks".
-fn reload(tuner: &Tuner) -> Result<u64> {
+/// Our addition, by the Rust's own writer: "the attempted bytes in `initialize`'s chunks", which are the shadow since #106.
+pub fn reload(tuner: &Tuner) -> Result<u64> {
     let usb = run::usb();
-    usb.i2c_write_tuner(tuner.address, 0x05, &tuner.attempted[..16])?;
-    usb.i2c_write_tuner(tuner.address, 0x15, &tuner.attempted[16..])?;
+    usb.i2c_write_tuner(tuner.address, 0x05, &tuner.shadow[..16])?;
+    usb.i2c_write_tuner(tuner.address, 0x15, &tuner.shadow[16..])?;
     Ok(0)
 }
 
@@ -192,13 +188,12 @@ fn without_steps(case: &Case, tuner: &Tuner) -> Answer {
     let ((), entries) = run(&[], &[], || match case.call {
         10 => chip.set_ppm(case.d as i32).expect("in range"),
         11 => chip.apply_notch(case.a != 0).expect("no step to fail"),
-        12 => answer.value = chip.see_update_shadow(case.a as u8, case.b as u8, case.c as u8).expect("in range") as u64,
         13 => answer.value = chip.get_gain().expect("no step to fail").to_bits() as u64,
         14 => answer.value = chip.get_if_freq(),
         _ => answer.answered = chip.get_gain_table().iter().flat_map(|step| step.to_le_bytes()).collect(),
     });
     assert!(entries.is_empty());
-    if case.call <= 12 {
+    if case.call <= 11 {
         answer.tuner = Some(tuner.after(&chip.see(), &[]).bytes());
     }
     answer

@@ -27,6 +27,8 @@ pub enum By {
     Page = 1,
     /// Document 01, over a Rust that panics, wraps or cuts; or document 02, over one that answers as document 01.
     PageOverRust = 2,
+    /// The Rust, but for the shadow in the record: it follows every write by document 02, #106.
+    RustButShadow = 3,
 }
 
 #[derive(Debug, Clone, Default, PartialEq)]

@@ -4,6 +4,7 @@
 mod lists;
 mod refused;
 mod rest;
+mod shadow;
 mod tune;
 
 use crate::answer::{takes_driver, takes_tuner};
@@ -42,7 +43,6 @@ pub fn plain(call: u8) -> Case {
         6 => case.a = 2_048_000,
         7 => case.a = 3_570_000,
         10 | 17 => case.d = 37,
-        12 => (case.a, case.b, case.c) = (0x0a, 0x5a, 0x0f),
         16 => (case.a, case.b, case.c, case.d, case.e) = (28_800_000, TUNED, 1, (-7i32) as u32, 2_048_000),
         19 => case.a = 2_048_000,
         26 => (case.a, case.b, case.c) = (1, 0x15, 0x05),
@@ -76,7 +76,7 @@ pub fn around(t: u64) -> impl Iterator<Item = u64> {
     [t.wrapping_sub(1), t, t.wrapping_add(1)].into_iter().filter(move |x| x.abs_diff(t) <= 1)
 }
 
-/// A record such as some history might leave, or none: any shadow, any attempts.
+/// A record such as some history might leave, or none: any shadow, any marks.
 pub fn random_tuner(dice: &mut Dice) -> Tuner {
     let nominal = match dice.below(6) {
         0 => 16_000_000,
@@ -102,7 +102,6 @@ pub fn random_tuner(dice: &mut Dice) -> Tuner {
             _ => 2_300_000,
         },
         notch: dice.yes(),
-        attempted: std::array::from_fn(|_| dice.byte()),
         doubtful: std::array::from_fn(|_| dice.below(3) == 0),
     }
 }
@@ -149,7 +148,6 @@ pub fn random(call: u8, dice: &mut Dice) -> Case {
         8 | 20 => case.a = dice.below(3),
         10 | 17 => case.d = if dice.below(4) == 0 { dice.next() as u32 } else { (dice.below(2001) as i32 - 1000) as u32 },
         11 => case.a = dice.byte() as u64,
-        12 => (case.a, case.b, case.c) = (dice.below(0x24), dice.byte() as u64, dice.byte() as u64),
         16 => {
             let made = random_driver(dice);
             (case.a, case.b, case.c, case.d, case.e) = (made.nominal as u64, dice.spread(), made.board as u64, made.ppm as u32, made.rate);
@@ -192,10 +190,15 @@ fn at_every_step(case: &Case) -> Vec<Case> {
         .collect()
 }
 
+/// The calls of list 1 but for those that document 02 adds. 12 was `update_shadow`, which is gone (#106); its number is not used again.
+fn numbers() -> impl Iterator<Item = u8> {
+    (1..=35).filter(|&call| call != 12)
+}
+
 /// List 1: the calls.
 pub fn calls() -> Vec<Case> {
     let mut dice = Dice(0x5041_5345_544f_4e45);
-    let mut all: Vec<Case> = (1..=35).map(plain).collect();
+    let mut all: Vec<Case> = numbers().map(plain).collect();
     refused::refused_and_damaged(&mut all);
     tune::tune_boundaries(&mut all, &mut dice);
     tune::tune_steps(&mut all, &mut dice);
@@ -206,7 +209,7 @@ pub fn calls() -> Vec<Case> {
     rest::sample_rates(&mut all, &mut dice);
     rest::steps_of_each(&mut all, &mut dice);
     rest::masks(&mut all);
-    for call in (1..=35).filter(|call| !matches!(call, 15 | 22)) {
+    for call in numbers().filter(|call| !matches!(call, 15 | 22)) {
         let times = match call {
             3 => 240,
             4 => 40,
@@ -218,5 +221,6 @@ pub fn calls() -> Vec<Case> {
     tune::figures(&mut all, &mut dice);
     rest::held_rates(&mut all);
     rest::true_rates(&mut all);
+    shadow::follows(&mut all);
     all
 }

@@ -1,10 +1,9 @@
-//! What document 01 says of any answer with steps, read off its entries: the failing step and what follows it, and what
+//! What the documents say of any answer with steps, read off its entries: the failing step and what follows it, and what
 //! the records hold afterwards.
-use crate::answer::answer;
 use crate::case::{Answer, Case};
-use crate::page;
 use crate::records::{Driver, FIRST, Tuner};
 use crate::tally::Tally;
+use crate::{answer, page, requests};
 use rusb::rec::Entry;
 
 pub fn entries(answer: &Answer) -> Vec<Entry> {
@@ -22,14 +21,41 @@ pub fn bare(entry: &Entry) -> Entry {
     entry
 }
 
+/// Whose answers are judged: document 01's, whose shadow is the Rust's, or document 02's.
+#[derive(Debug, Clone, Copy, PartialEq, Eq)]
+pub enum Paper {
+    First,
+    Second,
+}
+
+impl Paper {
+    pub fn answer(self, case: &Case) -> Answer {
+        match self {
+            Paper::First => answer::answer(case),
+            Paper::Second => requests::answer(case),
+        }
+    }
+
+    /// Whether a write puts its byte for this register into the shadow. By document 01 a masked write does, of two bytes, and three registers go past
+    /// the shadow; by document 02 (#106) every write does. Done or not.
+    fn shadows(self, register: u8, write: &Entry) -> bool {
+        self == Paper::Second || (write[3] == 2 && !matches!(register, 0x14..=0x16))
+    }
+}
+
+/// The writes that name a register, the last first.
+fn naming(register: u8, made: &[Entry]) -> impl Iterator<Item = &Entry> {
+    made.iter().rev().filter(move |entry| entry[0] == 2 && entry[8] <= register && register + 1 < entry[8] + entry[3])
+}
+
 /// Everything below, for a case with its answer.
-pub fn all(case: &Case, found: &Answer, tally: &mut Tally) {
+pub fn all(paper: Paper, case: &Case, found: &Answer, tally: &mut Tally) {
     shape(case, found, tally);
     if found.refusal == 11 {
-        cut(case, found, tally);
+        cut(paper, case, found, tally);
     }
     if found.tuner.is_some() && !case.tuner.is_empty() {
-        afterwards(case, found, tally);
+        afterwards(paper, case, found, tally);
     }
 }
 
@@ -37,7 +63,7 @@ pub fn all(case: &Case, found: &Answer, tally: &mut Tally) {
 fn shape(case: &Case, found: &Answer, tally: &mut Tally) {
     let made = entries(found);
     if found.section.is_none() {
-        let silent = matches!(case.call, 1 | 8 | 10..=18 | 33..=40) || found.refusal != 0;
+        let silent = matches!(case.call, 1 | 8 | 10 | 11 | 13..=18 | 33..=40) || found.refusal != 0;
         tally.that(silent && (found.count == 0 || case.call == 38), || format!("no section: {case:?}"));
         let nothing = found.tuner.is_none() && found.driver.is_none() && found.answered.is_empty() && found.value == 0 && found.index == 0;
         tally.that(found.refusal == 0 || nothing, || format!("refused, yet something changed: {case:?}"));
@@ -60,10 +86,10 @@ fn shape(case: &Case, found: &Answer, tally: &mut Tally) {
 }
 
 /// A cut call against the uncut one: "the one with the failing step done and all other outcomes and replies equal".
-fn cut(case: &Case, found: &Answer, tally: &mut Tally) {
+fn cut(paper: Paper, case: &Case, found: &Answer, tally: &mut Tally) {
     let mut whole = case.clone();
     whole.outcomes[found.index] = 0;
-    let (made, uncut) = (entries(found), entries(&answer(&whole)));
+    let (made, uncut) = (entries(found), entries(&paper.answer(&whole)));
     let upto = found.index + 1;
     let same = uncut.len() >= upto && made[..upto].iter().map(bare).eq(uncut[..upto].iter().map(bare));
     tally.that(same, || format!("steps up to the failing one: {case:?}"));
@@ -74,19 +100,17 @@ fn cut(case: &Case, found: &Answer, tally: &mut Tally) {
 }
 
 /// The record afterwards, from the record before, the arguments and the entries.
-fn afterwards(case: &Case, found: &Answer, tally: &mut Tally) {
+fn afterwards(paper: Paper, case: &Case, found: &Answer, tally: &mut Tally) {
     let before = Tuner::read(&case.tuner).expect("given");
     let made = entries(found);
     let mut wanted = before.clone();
-    for entry in made.iter().filter(|entry| entry[0] == 2 && entry[3] == 2) {
-        // Two bytes are a masked write, its byte in the shadow whether done or not; three registers go past the shadow.
-        if !matches!(entry[8], 0x14..=0x16) {
-            wanted.shadow[entry[8] as usize - FIRST] = entry[9];
+    for (place, register) in (FIRST as u8..).take(27).enumerate() {
+        if let Some(write) = naming(register, &made).find(|write| paper.shadows(register, write)) {
+            wanted.shadow[place] = write[9 + (register - write[8]) as usize];
         }
-    }
-    wanted.attempt(&made);
-    if case.call == 9 && found.refusal == 0 {
-        wanted.shadow = wanted.attempted;
+        if let Some(write) = naming(register, &made).next() {
+            wanted.doubtful[place] = write[1] == 1;
+        }
     }
     match case.call {
         3 => wanted.lock = lock(&made, before.lock),
@@ -94,11 +118,6 @@ fn afterwards(case: &Case, found: &Answer, tally: &mut Tally) {
         7 => wanted.intermediate = case.a,
         10 => wanted.corrected = page::corrected(before.nominal, case.d as i32).expect("taken"),
         11 => wanted.notch = case.a != 0,
-        12 => {
-            let byte = &mut wanted.shadow[case.a as usize - FIRST];
-            *byte = *byte & !(case.c as u8) | case.b as u8 & case.c as u8;
-            tally.same(found.value, *byte as u64, || format!("the new byte: {case:?}"));
-        }
         19 => wanted.intermediate = page::rate_if(case.a as u32, before.intermediate) as u64,
         _ => {}
     }

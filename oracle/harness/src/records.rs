@@ -1,9 +1,10 @@
-//! The two records and their bytes (numbers low byte first, fields in document 01's order).
+//! The two records and their bytes (numbers low byte first, fields in document 01's order; since document 02, #106, without the attempted bytes, which
+//! are the shadow).
 use crate::page;
 use original::tuners::r82xx::{SEEN_INIT, Seen};
 use rusb::rec::Entry;
 
-pub const TUNER: usize = 105;
+pub const TUNER: usize = 78;
 pub const DRIVER: usize = 29;
 /// The first register that has a shadow byte.
 pub const FIRST: usize = 0x05;
@@ -20,7 +21,6 @@ pub struct Tuner {
     pub gain: u32,
     pub intermediate: u64,
     pub notch: bool,
-    pub attempted: [u8; 27],
     pub doubtful: [bool; 27],
 }
 
@@ -61,7 +61,6 @@ impl Tuner {
             gain: 0,
             intermediate: 2_300_000,
             notch: false,
-            attempted: SEEN_INIT,
             doubtful: [true; 27],
         }
     }
@@ -75,7 +74,6 @@ impl Tuner {
         all.extend(self.gain.to_le_bytes());
         all.extend(self.intermediate.to_le_bytes());
         all.push(self.notch as u8);
-        all.extend(self.attempted);
         all.extend(self.doubtful.map(|mark| mark as u8));
         all
     }
@@ -94,7 +92,6 @@ impl Tuner {
         let gain = u32::from_le_bytes(at.take());
         let intermediate = u64::from_le_bytes(at.take());
         let [notch] = at.take();
-        let attempted = at.take();
         let marks: [u8; 27] = at.take();
         if kind > 1 || nominal == 0 || corrected == 0 || marks.iter().any(|&mark| mark > 1) {
             return None;
@@ -103,19 +100,7 @@ impl Tuner {
             return None;
         }
         let doubtful = marks.map(|mark| mark == 1);
-        Some(Self {
-            kind,
-            address,
-            shadow,
-            nominal,
-            corrected,
-            lock: flag(lock)?,
-            gain,
-            intermediate,
-            notch: flag(notch)?,
-            attempted,
-            doubtful,
-        })
+        Some(Self { kind, address, shadow, nominal, corrected, lock: flag(lock)?, gain, intermediate, notch: flag(notch)?, doubtful })
     }
 
     /// What the original's own state holds of this record.
@@ -130,7 +115,7 @@ impl Tuner {
         }
     }
 
-    /// This record after a run: the original's state, and our attempt record worked out from the entries.
+    /// This record after a run, by document 01: the original's state, its shadow as the original keeps it, and the marks worked out from the entries.
     pub fn after(&self, seen: &Seen, entries: &[Entry]) -> Self {
         let mut next = Self {
             shadow: seen.shadow,
@@ -141,20 +126,17 @@ impl Tuner {
             notch: seen.notch,
             ..self.clone()
         };
-        next.attempt(entries);
+        for (place, _, done) in attempts(entries) {
+            next.doubtful[place] = !done;
+        }
         next
     }
+}
 
-    /// "A write of n bytes attempts n-1 registers upward from its first byte"; a failed one leaves them doubtful.
-    pub fn attempt(&mut self, entries: &[Entry]) {
-        for entry in entries.iter().filter(|entry| entry[0] == 2) {
-            for i in 1..entry[3] as usize {
-                let place = entry[8] as usize + i - 1 - FIRST;
-                self.attempted[place] = entry[8 + i];
-                self.doubtful[place] = entry[1] == 1;
-            }
-        }
-    }
+/// "A write of n bytes attempts n-1 registers upward from its first byte": each register's place, the byte sent to it, and whether the write was done.
+pub fn attempts(entries: &[Entry]) -> impl Iterator<Item = (usize, u8, bool)> {
+    let writes = entries.iter().filter(|entry| entry[0] == 2);
+    writes.flat_map(|entry| (1..entry[3] as usize).map(|i| (entry[8] as usize + i - 1 - FIRST, entry[8 + i], entry[1] == 0)))
 }
 
 impl Driver {

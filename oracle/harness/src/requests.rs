@@ -4,9 +4,11 @@ use crate::answer;
 use crate::case::{Answer, By, Case};
 use crate::judge;
 use crate::page;
-use crate::records::{Driver, Tuner};
+use crate::records::{Driver, FIRST, Tuner, attempts};
 use crate::run::{self, run};
 use original::tuner::Tuner as Calls;
+use original::tuners::r82xx::SEEN_INIT;
+use rusb::rec::Entry;
 
 /// Length of a call's answered bytes.
 pub fn answered(call: u8) -> Option<usize> {
@@ -15,12 +17,58 @@ pub fn answered(call: u8) -> Option<usize> {
 
 pub fn answer(case: &Case) -> Answer {
     match case.call {
-        3 => looked_at(if too_small(case) { as_above_the_band(case) } else { answer::answer(case) }),
+        2 | 4..=9 | 20 => following(case, answer::answer),
+        3 => looked_at(following(case, |case| if too_small(case) { as_above_the_band(case) } else { answer::answer(case) })),
         19 | 28 if not_held(case) => Answer::refused(13, By::PageOverRust),
-        19 => with_true_rate(case, answer::answer(case)),
+        19 => with_true_rate(case, following(case, answer::answer)),
         39 | 40 => figures(case),
         _ => answer::answer(case),
     }
+}
+
+/// #106: "writes to 0x14, 0x15 and 0x16 go through the shadow, and `initialize` puts each chunk's bytes into the shadow as it is tried". So whatever a
+/// call tries to send, done or not, is in the shadow behind it, and nothing else is.
+pub fn followed(mut shadow: [u8; 27], made: &[Entry]) -> [u8; 27] {
+    for (place, byte, _) in attempts(made) {
+        shadow[place] = byte;
+    }
+    shadow
+}
+
+/// The three registers that the Rust writes past its shadow.
+pub fn past(place: usize) -> bool {
+    (0x14..=0x16).contains(&(place + FIRST))
+}
+
+/// A call on a tuner with its record's shadow by #106. The entries are the Rust's on the record given; but `initialize` of the Rust builds its masked
+/// writes on a shadow that its chunks have left behind. They come only when all chunks are done, when the shadow is `INIT_ARRAY` by #106: so it is run on that one.
+fn following(case: &Case, first: impl Fn(&Case) -> Answer) -> Answer {
+    let Some(given) = Tuner::read(&case.tuner) else { return first(case) };
+    let own = first(case);
+    if own.tuner.is_none() {
+        return own;
+    }
+    let (mut answer, start) = if case.call == 2 {
+        let fresh = Tuner { shadow: SEEN_INIT, ..given.clone() };
+        (first(&Case { tuner: fresh.bytes(), ..case.clone() }), SEEN_INIT)
+    } else {
+        (own.clone(), given.shadow)
+    };
+    let (made, next) = (judge::entries(&answer), next_of(&answer));
+    let agrees = (0..27).all(|place| past(place) || next.shadow[place] == followed(start, &made)[place]);
+    assert!(agrees, "the Rust's shadow is not what it sent: {case:02x?}");
+    let shadow = followed(given.shadow, &made);
+    if answer.section != own.section {
+        answer.by = By::PageOverRust;
+    } else if answer.by == By::Rust && shadow != next_of(&own).shadow {
+        answer.by = By::RustButShadow;
+    }
+    answer.tuner = Some(Tuner { shadow, ..next }.bytes());
+    answer
+}
+
+fn next_of(answer: &Answer) -> Tuner {
+    answer.tuner.as_deref().and_then(Tuner::read).expect("a record")
 }
 
 /// #101: "Tries equal the three-byte reads in the transcript that were done", "and locked means a try read the lock bit". Both are read off the

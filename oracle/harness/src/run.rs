@@ -73,7 +73,6 @@ pub fn number(error: &Error) -> u8 {
     match error {
         Error::InvalidFrequency(_) => 2,
         Error::InvalidSampleRate(_) => 3,
-        Error::Tuner(_) => 5,
         Error::Usb(_) => 11,
         other => panic!("document 01 has no number for {other:?}"),
     }

@@ -29,7 +29,7 @@ impl Line {
     fn raw(&mut self, register: u8, byte: u8) {
         self.put(2, self.tuner.address, 0, &[register, byte]);
         let place = register as usize - FIRST;
-        (self.tuner.attempted[place], self.tuner.doubtful[place]) = (byte, false);
+        self.tuner.doubtful[place] = false;
     }
     /// "(old and not mask) or (value and mask)".
     fn mask(&mut self, register: u8, value: u8, mask: u8) {

@@ -66,13 +66,11 @@ impl Host {
         };
         for place in 0..27 {
             let last = self.chip.last[place];
-            let (mark, byte) = (record.doubtful[place], record.attempted[place]);
+            let (mark, byte) = (record.doubtful[place], record.shadow[place]);
             tally.that(mark != last.is_some_and(|(_, done)| done), || format!("mark {place} after {}", what()));
             let sent = last.map_or(SEEN_INIT[place], |(sent, _)| sent);
-            tally.that(byte == sent, || format!("attempted byte {place} is {byte:#x}, sent {sent:#x}, after {}", what()));
-            if let Some((sent, true)) = last {
-                tally.that(self.chip.bytes[place] == sent, || format!("chip's byte {place} after {}", what()));
-            }
+            tally.that(byte == sent, || format!("shadow byte {place} is {byte:#x}, sent {sent:#x}, after {}", what()));
+            tally.that(mark || byte == self.chip.bytes[place], || format!("chip's byte {place} after {}", what()));
         }
     }
 }
@@ -102,7 +100,7 @@ pub fn chain(length: u64, wrong: Wrong, dice: &mut Dice, tally: &mut Tally, done
         let at = dice.below(2) as usize;
         let given = drawn(&hosts[at].receiver, dice);
         let mut found = port::call(&given);
-        wrong.spoil(&given, &mut found, dice);
+        wrong.spoil(&mut found, dice);
         let made = entries(&found);
         for host in &mut hosts {
             host.chip.play(&made, wrong, dice);
@@ -130,7 +128,7 @@ pub fn chain(length: u64, wrong: Wrong, dice: &mut Dice, tally: &mut Tally, done
 
 /// A call on a receiver's own records.
 fn drawn(receiver: &Receiver, dice: &mut Dice) -> Given {
-    let call = dice.pick(&[2, 3, 3, 3, 4, 5, 6, 7, 8, 9, 9, 10, 11, 12, 19, 20]);
+    let call = dice.pick(&[2, 2, 3, 3, 3, 4, 5, 6, 7, 8, 9, 9, 10, 11, 19, 20]);
     let mut given = draw::draw(call, receiver, dice);
     given.case.tuner = receiver.tuner.clone();
     if takes_driver(call) {
@@ -156,10 +154,9 @@ fn cut(given: &Given, found: &Found, made: &[Entry], wrong: Wrong, tally: &mut T
     tally.that(rest.len() == open as usize && rest.iter().all(page::closes), || format!("what follows the failing step: {}", what()));
 }
 
-/// After a reload that is all done nothing is doubtful, and shadow, attempted bytes and chip are the same.
+/// After a reload that is all done nothing is doubtful, and shadow and chip are the same.
 fn reloaded(host: &Host, tally: &mut Tally, what: &dyn Fn() -> String) {
     let record = Tuner::read(&host.receiver.tuner);
-    let same = record
-        .is_some_and(|record| record.doubtful == [false; 27] && record.shadow == record.attempted && record.attempted == host.chip.bytes);
+    let same = record.is_some_and(|record| record.doubtful == [false; 27] && record.shadow == host.chip.bytes);
     tally.that(same, || format!("reload: {}", what()));
 }

@@ -28,18 +28,23 @@ impl Receiver {
     }
 }
 
+/// The numbers of the calls. 12 was `update_shadow`, which is gone (#106).
+pub fn calls() -> impl Iterator<Item = u8> {
+    (1..=40).filter(|&call| call != 12)
+}
+
 /// How often each call is drawn, by its number: those with more to go wrong more often.
 pub fn pick_call(dice: &mut Dice) -> u8 {
     const HEAVY: [(u8, u64); 13] =
         [(3, 22), (4, 6), (2, 3), (9, 3), (19, 6), (20, 4), (10, 2), (21, 3), (22, 2), (33, 3), (38, 3), (39, 3), (40, 3)];
-    let mut at = dice.below(HEAVY.iter().map(|heavy| heavy.1).sum::<u64>() + 40);
+    let mut at = dice.below(HEAVY.iter().map(|heavy| heavy.1).sum::<u64>() + 39);
     for (call, weight) in HEAVY {
         if at < weight {
             return call;
         }
         at -= weight;
     }
-    at as u8 + 1
+    calls().nth(at as usize).expect("39 calls")
 }
 
 pub fn draw(call: u8, receiver: &Receiver, dice: &mut Dice) -> Given {
@@ -85,13 +90,14 @@ fn put(record: &mut [u8], at: usize, bytes: &[u8]) {
 
 fn damage_tuner(record: &mut Vec<u8>, dice: &mut Dice) {
     let at = dice.below(record.len() as u64) as usize;
-    match dice.below(9) {
+    match dice.below(10) {
+        9 => record.splice(51..51, dice.bytes(27)).for_each(drop), // as long as it was before #106
         8 => *record = dice.bytes(record.len()),
         0 => record.truncate(at),
         1 => record.extend(dice.bytes(1 + at % 3)),
         2 => record[0] = dice.byte(),
-        3 => put(record, dice.pick(&[29, 33]), &[0; 4]),              // a reference of 0
-        4 => record[dice.pick(&[37, 50, 78, 91, 104])] = dice.byte(), // a flag
+        3 => put(record, dice.pick(&[29, 33]), &[0; 4]),             // a reference of 0
+        4 => record[dice.pick(&[37, 50, 51, 64, 77])] = dice.byte(), // a flag
         5 => {
             let bits = dice.pick(&[0x7fc0_0000, 0x7fc0_0001, 0xffc0_0000, 0x7f80_0001, 0x7f80_0000, 0xff80_0000u32]);
             put(record, 38, &bits.to_le_bytes());
@@ -169,7 +175,6 @@ fn fit(case: &mut Case) {
         1 => case.c &= byte,
         4 | 6 | 19 | 27 | 28 | 34 | 35 => (case.a, case.b) = (case.a & word, case.b & word),
         11 | 31 | 32 => (case.a, case.b) = (case.a & byte, case.b & byte),
-        12 => (case.a, case.b, case.c) = (case.a & byte, case.b & byte, case.c & byte),
         26 => (case.a, case.b, case.c) = (case.a & byte, case.b & u16::MAX as u64, case.c & byte),
         39 | 40 => case.b &= word,
         _ => {}

@@ -122,7 +122,6 @@ pub fn arguments(case: &mut Case, dice: &mut Dice) {
         8 | 20 => case.a = dice.pick(&[0, 1, 2, 3, 4, 255, 256, u64::MAX]),
         10 => case.d = ppm(dice, Tuner::read(&case.tuner).map_or(1, |tuner| tuner.nominal as u64)),
         11 => case.a = dice.pick(&[0, 1, 2, 255]),
-        12 => case.a = dice.pick(&[0, 4, 5, 6, 0x1e, 0x1f, 0x20, 0x21, 0x80, 255]),
         16 => {
             (case.a, case.c) = (nominal(dice), dice.pick(&[0, 1, 1, 2, 256, 1 << 32, u64::MAX]));
             case.d = ppm(dice, case.a);

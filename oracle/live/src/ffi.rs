@@ -88,7 +88,6 @@ unsafe extern "C" {
     pub fn pasetone_set_if_freq(tuner: In, tn: N, hz: u64, outcomes: In, on: N, room: Out, mn: N, next: Out, nn: N) -> Reply;
     pub fn pasetone_set_input_path(tuner: In, tn: N, path: u64, outcomes: In, on: N, room: Out, mn: N, next: Out, nn: N) -> Reply;
     pub fn pasetone_reload(tuner: In, tn: N, outcomes: In, on: N, room: Out, mn: N, next: Out, nn: N) -> Reply;
-    pub fn pasetone_update_shadow(tuner: In, tn: N, register: u8, value: u8, mask: u8, next: Out, nn: N) -> Reply;
     pub fn pasetone_get_gain(tuner: In, tn: N) -> Reply;
     pub fn pasetone_get_if_freq(tuner: In, tn: N) -> Reply;
     pub fn pasetone_get_gain_table(tuner: In, tn: N, out: Out, mn: N) -> Reply;

@@ -14,7 +14,7 @@ pub struct Given {
 }
 
 pub fn hands_tuner(call: u8) -> bool {
-    matches!(call, 1..=9 | 12 | 19 | 20)
+    matches!(call, 1..=9 | 19 | 20)
 }
 pub fn hands_driver(call: u8) -> bool {
     matches!(call, 16 | 17 | 19)

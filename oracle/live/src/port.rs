@@ -37,7 +37,7 @@ pub fn call(given: &Given) -> Found {
         input: Lent::holding(&case.input, fill ^ 0x99),
     };
     found.reply = match case.call {
-        1 | 10..=18 => without_steps(case, &mut found),
+        1 | 10 | 11 | 13..=18 => without_steps(case, &mut found),
         2..=9 | 19 | 20 => on_record(case, &mut found),
         21..=32 => on_interface(case, &mut found),
         _ => leaf(case, &mut found),
@@ -55,7 +55,6 @@ fn without_steps(c: &Case, f: &mut Found) -> Reply {
             1 => pasetone_tuner_new(c.a, c.c as u8, c.b, n, nn),
             10 => pasetone_set_ppm(t, tn, c.d as i32),
             11 => pasetone_apply_notch(t, tn, c.a as u8),
-            12 => pasetone_update_shadow(t, tn, c.a as u8, c.b as u8, c.c as u8, n, nn),
             13 => pasetone_get_gain(t, tn),
             14 => pasetone_get_if_freq(t, tn),
             15 => pasetone_get_gain_table(t, tn, m, mn),

@@ -33,8 +33,8 @@ pub fn rust(given: &Given) -> Option<Answer> {
     ASKED.set(true);
     let ended = panic::catch_unwind(AssertUnwindSafe(|| match given.case.call {
         1 => made(&given.case),
-        3 | 4 => on_chip(&given.case),
-        10 | 12 => without_steps(&given.case),
+        2..=4 => on_chip(&given.case),
+        10 => corrected(&given.case),
         16..=19 => on_driver(&given.case),
         27 | 28 | 31 | 32 => on_interface(&given.case),
         _ => leaf(&given.case),
@@ -71,14 +71,10 @@ fn on_chip(case: &Case) -> Answer {
     if case.call == 3 { looked_at(answer) } else { answer }
 }
 
-fn without_steps(case: &Case) -> Answer {
+fn corrected(case: &Case) -> Answer {
     let (tuner, chip) = chip(case);
-    let result = match case.call {
-        10 => chip.set_ppm(case.d as i32).map(|()| 0),
-        _ => chip.see_update_shadow(case.a as u8, case.b as u8, case.c as u8).map(u64::from),
-    };
-    match result {
-        Ok(value) => Answer { value, tuner: Some(tuner.after(&chip.see(), &[]).bytes()), ..Answer::default() },
+    match chip.set_ppm(case.d as i32) {
+        Ok(()) => Answer { tuner: Some(tuner.after(&chip.see(), &[]).bytes()), ..Answer::default() },
         Err(error) => Answer::refused(run::number(&error), By::Rust),
     }
 }

@@ -109,9 +109,11 @@ unsafe fn read(m: &mut Memory) -> Reply {
     let (t, tn) = part(&m.tuner);
     unsafe { pasetone_get_if_freq(t, tn) }
 }
+/// R820T's input path: no step, the record is read and written.
 unsafe fn read_and_write(m: &mut Memory) -> Reply {
-    let (t, tn) = part(&m.tuner);
-    unsafe { pasetone_update_shadow(t, tn, black_box(0x0a), black_box(0x5a), 0x0f, m.next.as_mut_ptr(), m.next.len()) }
+    m.tuner[0] = 0;
+    let ((t, tn), (o, on)) = (part(&m.tuner), part(&m.outcomes));
+    unsafe { pasetone_set_input_path(t, tn, black_box(1), o, on, m.room.as_mut_ptr(), m.room.len(), m.next.as_mut_ptr(), m.next.len()) }
 }
 
 fn part(bytes: &[u8]) -> (*const u8, usize) {
@@ -151,6 +153,6 @@ pub fn rows() -> Vec<(&'static str, usize, Work)> {
         ("packets-expand", 0, packets(pasetone_expand, plain::section(4096), 18 * 4096)),
         ("packets-read", 0, packets(pasetone_read_packets, expanded(), 16 * 4096 + 8)),
         ("read-record", 0, work(14, vec![], 0, read)),
-        ("read-and-write-record", 0, work(12, vec![], 0, read_and_write)),
+        ("read-and-write-record", 0, work(8, vec![], 0, read_and_write)),
     ]
 }

@@ -3,8 +3,10 @@
 //! too (raw.rs): a row that names an input on which the original agrees is a fault here, and so is one that no case reached.
 use crate::given::Given;
 use harness::page;
-use harness::records::{Driver, Tuner};
+use harness::records::{Driver, FIRST, Tuner};
 use harness::requests;
+use original::tuners::r82xx::SEEN_INIT;
+use std::ops::RangeInclusive;
 
 /// Overflow panics in this build of the original, as in a debug build.
 pub const PANICS: bool = cfg!(debug_assertions);
@@ -15,7 +17,7 @@ pub struct Rule {
 }
 
 #[rustfmt::skip]
-pub const RULES: [Rule; 20] = [
+pub const RULES: [Rule; 22] = [
     Rule { row: 1, inputs: "tune: hz not 0, hz + IF of 2^64 or more, and the wrapped sum is not tunable" },
     Rule { row: 2, inputs: "tune: the same, and the wrapped sum is tunable" },
     Rule { row: 3, inputs: "tune: lo of 2^58 or more, all lent, entries 0 to 11 done, no wrapped product tunable; differs where overflow panics" },
@@ -28,7 +30,6 @@ pub const RULES: [Rule; 20] = [
     Rule { row: 10, inputs: "gain: product -2,147,483,520, all lent; differs where entries 0 to 2 are done, or overflow panics" },
     Rule { row: 11, inputs: "gain: another product below -2,147,483,151, all lent; differs where overflow panics" },
     Rule { row: 12, inputs: "GPIO direction, GPIO bit: pin above 7" },
-    Rule { row: 13, inputs: "update_shadow: register 0 to 4; differs where overflow panics" },
     Rule { row: 14, inputs: "if_freq_regs, set_if_freq_xtal: reference 0" },
     Rule { row: 15, inputs: "resample_regs: rate 0" },
     Rule { row: 16, inputs: "resample_regs, set_sample_rate_xtal: rate not 0, reference 0" },
@@ -36,6 +37,9 @@ pub const RULES: [Rule; 20] = [
     Rule { row: 19, inputs: "FIR packer: 64 bytes, a value past its width" },
     Rule { row: 20, inputs: "tune: N below 13, all lent, entries 0 to 11 done" },
     Rule { row: 22, inputs: "sample rate, set_sample_rate_xtal: rate and reference not 0, a ratio below 4, of 2^29 or more, or whose bits 27 and 28 differ" },
+    Rule { row: 23, inputs: "initialise: all lent, and a masked write is tried whose register's shadow byte differs from INIT_ARRAY's in a bit that it keeps" },
+    Rule { row: 24, inputs: "initialise: the same, none such, and a chunk is tried with a register, no masked write of it tried, whose shadow byte is not INIT_ARRAY's" },
+    Rule { row: 25, inputs: "tune: taken, all lent, and 0x14, 0x16 or 0x15 is tried with another byte than the shadow has" },
 ];
 
 /// The row that names this case, if one does.
@@ -44,10 +48,10 @@ pub fn row(given: &Given) -> Option<u8> {
     let (a, b) = (case.a, case.b);
     match case.call {
         1 => (a > 1 || !(1..=u32::MAX as u64).contains(&b)).then_some(18),
+        2 => initialise(given),
         3 => tune(given),
         4 => gain(given),
         10 => correction(Tuner::read(&case.tuner)?.nominal, case.d as i32),
-        12 => (Tuner::read(&case.tuner).is_some() && a < 5).then_some(13),
         19 if requests::not_held(case) => Some(22),
         16..=19 => driver(given),
         27 | 34 => (b == 0).then_some(14),
@@ -64,7 +68,7 @@ pub fn row(given: &Given) -> Option<u8> {
 /// Whether the original answers otherwise on this row's case in this build.
 pub fn differs(row: u8, given: &Given) -> bool {
     match row {
-        3 | 11 | 13 => PANICS,
+        3 | 11 => PANICS,
         10 => PANICS || done(given, 3),
         _ => true,
     }
@@ -90,8 +94,36 @@ fn tune(given: &Given) -> Option<u8> {
         (_, true) => Some(if tunable { 2 } else { 1 }),
         _ if requests::too_small(&given.case) => (all_lent(given) && done(given, 12)).then_some(20),
         _ if lo >= 1 << 58 && all_lent(given) && done(given, 12) => Some(if tunable { 4 } else { 3 }),
+        _ if all_lent(given) => past_shadow(given, &tuner, lo).then_some(25),
         _ => None,
     }
+}
+
+/// Entries 13, 14 and 15 of a tune are the writes of 0x14, 0x16 and 0x15; one is tried when all before it are done.
+fn past_shadow(given: &Given, tuner: &Tuner, lo: u64) -> bool {
+    let Some(plan) = page::pll(tuner.kind, tuner.corrected as u64, lo) else { return false };
+    let sent = [(0x14, plan.byte), (0x16, (plan.s >> 8) as u8), (0x15, plan.s as u8)];
+    (13..).zip(sent).any(|(entry, (register, byte))| done(given, entry) && tuner.shadow[register - FIRST] != byte)
+}
+
+/// The five chunks of an initialise: their entries, and their registers.
+const CHUNKS: [(usize, RangeInclusive<usize>); 5] =
+    [(1, 0x05..=0x0b), (2, 0x0c..=0x12), (3, 0x13..=0x14), (6, 0x15..=0x1b), (7, 0x1c..=0x1f)];
+/// Its masked writes: entry, register, mask.
+const MASKED: [(usize, usize, u8); 6] =
+    [(10, 0x1a, 0x0c), (11, 0x12, 0xff), (12, 0x0c, 0x0f), (13, 0x13, 0x3f), (16, 0x0a, 0x70), (17, 0x0b, 0xef)];
+
+fn initialise(given: &Given) -> Option<u8> {
+    let tuner = Tuner::read(&given.case.tuner).filter(|_| all_lent(given))?;
+    // Closings do not stop it: entries 4, 8 and 14.
+    let tried = |entry: usize| (0..entry).all(|before| matches!(before, 4 | 8 | 14) || given.case.outcomes[before] == 0);
+    let other = |register: usize| tuner.shadow[register - FIRST] ^ SEEN_INIT[register - FIRST];
+    if MASKED.into_iter().any(|(entry, register, mask)| tried(entry) && other(register) & !mask != 0) {
+        return Some(23);
+    }
+    let masked = |register: usize| MASKED.into_iter().any(|(entry, masked, _)| masked == register && tried(entry));
+    let stale = |(entry, mut registers): (usize, RangeInclusive<usize>)| tried(entry) && registers.any(|at| other(at) != 0 && !masked(at));
+    CHUNKS.into_iter().any(stale).then_some(24)
 }
 
 /// Whether a release build takes this lo: the search for the divider with products that wrap.

@@ -1,5 +1,4 @@
 //! Faults put in on purpose: each must be found, or the check that should find it checks nothing.
-use crate::given::Given;
 use crate::port::Found;
 use harness::dice::Dice;
 use harness::records::TUNER;
@@ -13,9 +12,8 @@ pub enum Wrong {
     Landing,
     /// A chip takes the writes to other addresses too.
     AnyAddress,
-    /// A doubtful mark, an attempted byte, or a shadow byte behind a reload is another.
+    /// A doubtful mark or a shadow byte is another.
     Mark,
-    Attempted,
     Shadow,
     /// A write in the transcript has another byte, or another outcome.
     Sent,
@@ -28,11 +26,10 @@ pub enum Wrong {
     Uncut,
 }
 
-pub const ALL: [Wrong; 10] = [
+pub const ALL: [Wrong; 9] = [
     Wrong::Landing,
     Wrong::AnyAddress,
     Wrong::Mark,
-    Wrong::Attempted,
     Wrong::Shadow,
     Wrong::Sent,
     Wrong::Outcome,
@@ -53,13 +50,12 @@ impl Wrong {
     }
 
     /// Changes one thing in an answer that has it.
-    pub fn spoil(self, given: &Given, found: &mut Found, dice: &mut Dice) {
+    pub fn spoil(self, found: &mut Found, dice: &mut Dice) {
         let (count, cut) = (found.reply.count as usize, found.reply.refusal == 11);
         let place = dice.below(27) as usize;
         match self {
-            Wrong::Mark => flip(found, 78 + place, 1),
-            Wrong::Attempted => flip(found, 51 + place, 0x40),
-            Wrong::Shadow if given.case.call == 9 => flip(found, 2 + place, 0x40),
+            Wrong::Mark => flip(found, 51 + place, 1),
+            Wrong::Shadow => flip(found, 2 + place, 0x40),
             Wrong::Index if cut => found.reply.index = found.reply.index.saturating_sub(1),
             Wrong::Closing if cut && count > found.reply.index as usize + 1 => found.reply.count -= 1,
             Wrong::Sent | Wrong::Outcome => {
@@ -106,8 +102,8 @@ pub fn spoiled(found: &Found, how: usize) -> Option<(&'static str, Found)> {
             let past = 16 * found.reply.count as usize + 8;
             spoil_byte(next.room.lent_mut(), past, "byte behind the section")?
         }
-        6 => spoil_byte(next.next_tuner.lent_mut(), 104, "last byte of the next tuner record")?,
-        7 => spoil_byte(next.next_tuner.lent_mut(), 105, "byte behind the next tuner record")?,
+        6 => spoil_byte(next.next_tuner.lent_mut(), 77, "last byte of the next tuner record")?,
+        7 => spoil_byte(next.next_tuner.lent_mut(), 78, "byte behind the next tuner record")?,
         8 => spoil_byte(next.next_driver.lent_mut(), 28, "last byte of the next driver record")?,
         9 => spoil_byte(next.next_driver.lent_mut(), 29, "byte behind the next driver record")?,
         10 => spoil_byte(next.outcomes.lent_mut(), 0, "given outcome")?,

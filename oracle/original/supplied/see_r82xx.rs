@@ -33,9 +33,6 @@ impl R82xx {
         *self.current_if.lock() = seen.intermediate;
         *self.in_notch.lock() = seen.notch;
     }
-    pub fn see_update_shadow(&self, reg: u8, val: u8, mask: u8) -> Result<u8> {
-        self.update_shadow(reg, val, mask)
-    }
 }
 
 pub fn see_bit_reverse(b: u8) -> u8 {

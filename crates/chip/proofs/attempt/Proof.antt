@@ -1,6 +1,5 @@
 -- `chip::attempt` meets its contract. The loop's invariant: what is left, from here, gives what all of it gives from the start. Assumes nothing.
 use mathlib.Core.Path.{_≡_, refl, _∙_}
-use mathlib.Core.List.{[]}
 use borrow.Author.Needs.{needs}
 use Prim.Native.Nat.{_≤_, _+_, _-_}
 use lib.ListN.{length, getD}
@@ -10,10 +9,10 @@ use Rattle.chip.proofs.attempt.Statement.{statement}
 use Rattle.chip.proofs.attempt.Tie as tie
 
 abbrev Inv-loop : tie.InvT-loop
-Inv-loop n ok attempted₀ doubtful₀ bytes first doubt i₀ attempted doubtful i = (i + 1 ≤ n) × ((first ≡ getD bytes 0 0 - 5) × ((length bytes ≡ 8) × (left (chipOf 0 [] attempted doubtful) first n bytes ok i ≡ attemptedBy (chipOf 0 [] attempted₀ doubtful₀) n bytes ok)))
+Inv-loop n ok shadow₀ doubtful₀ bytes first doubt i₀ shadow doubtful i = (i + 1 ≤ n) × ((first ≡ getD bytes 0 0 - 5) × ((length bytes ≡ 8) × (left (chipOf 0 shadow doubtful) first n bytes ok i ≡ attemptedBy (chipOf 0 shadow₀ doubtful₀) n bytes ok)))
 
 abbrev μ-loop : tie.MeasureT-loop
-μ-loop n ok attempted₀ doubtful₀ bytes first doubt i₀ attempted doubtful i = n - (i + 1)
+μ-loop n ok shadow₀ doubtful₀ bytes first doubt i₀ shadow doubtful i = n - (i + 1)
 
 array-read-first : tie.Need-array-read-first Inv-loop μ-loop
 array-read-first c = search needs
@@ -30,17 +29,17 @@ loop-holds c = (search needs, (refl, (search needs, begin _ _ _ _ _ refl)))
 add-loop : tie.Need-add-loop Inv-loop μ-loop
 add-loop c = search needs
 
-add-attempted : tie.Need-add-attempted Inv-loop μ-loop
-add-attempted c = search needs
+add-shadow : tie.Need-add-shadow Inv-loop μ-loop
+add-shadow c = search needs
 
-array-read-attempted : tie.Need-array-read-attempted Inv-loop μ-loop
-array-read-attempted c = search needs
+array-read-shadow : tie.Need-array-read-shadow Inv-loop μ-loop
+array-read-shadow c = search needs
 
-add-attempted-2 : tie.Need-add-attempted-2 Inv-loop μ-loop
-add-attempted-2 c = search needs
+add-shadow-2 : tie.Need-add-shadow-2 Inv-loop μ-loop
+add-shadow-2 c = search needs
 
-element-write-attempted : tie.Need-element-write-attempted Inv-loop μ-loop
-element-write-attempted c = search needs
+element-write-shadow : tie.Need-element-write-shadow Inv-loop μ-loop
+element-write-shadow c = search needs
 
 add-doubtful : tie.Need-add-doubtful Inv-loop μ-loop
 add-doubtful c = search needs
@@ -58,7 +57,7 @@ loop-again : tie.Need-loop-again Inv-loop μ-loop
 loop-again c = (search needs, (refl, (c .before .loop .inv .1 .1 .0, turn _ _ _ _ _ _ (search needs) (search needs) ∙ c .before .loop .inv .1 .1 .1)))
 
 returns : tie.Need-returns Inv-loop μ-loop
-returns c = of-attempted (chipOf 0 [] _ _) (chipOf 0 [] _ _) _ _ _ (end _ (getD (c .before .before .args .t2) 0 0 - 5) (c .before .before .args .n) (c .before .before .args .t2) (c .before .before .args .ok) (c .before .loop .i) (search needs) ∙ c .before .loop .inv .1 .1 .1)
+returns c = of-attempted (chipOf 0 _ _) (chipOf 0 _ _) _ _ _ (end _ (getD (c .before .before .args .t2) 0 0 - 5) (c .before .before .args .n) (c .before .before .args .t2) (c .before .before .args .ok) (c .before .loop .i) (search needs) ∙ c .before .loop .inv .1 .1 .1)
 
 pub attempt-spec : {M : Type 1} → statement M
 attempt-spec =
@@ -71,10 +70,10 @@ attempt-spec =
     sub-first
     loop-holds
     add-loop
-    add-attempted
-    array-read-attempted
-    add-attempted-2
-    element-write-attempted
+    add-shadow
+    array-read-shadow
+    add-shadow-2
+    element-write-shadow
     add-doubtful
     element-write-doubtful
     add-i

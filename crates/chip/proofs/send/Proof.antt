@@ -15,7 +15,7 @@ enum-told-2 : tie.Need-enum-told-2
 enum-told-2 c = search needs
 
 returns : tie.Need-returns
-returns c = (λ shadow. idle inRoom _ (Send _ _) _ (ap goes (c .enum-told2 .given .1)), search needs)
+returns c = (idle inRoom _ (Send _ _) _ (ap goes (c .enum-told2 .given .1)), search needs)
 
 shared-slice-read-ok : tie.Need-shared-slice-read-ok
 shared-slice-read-ok c = search needs
@@ -33,7 +33,7 @@ same-length : tie.Need-same-length
 same-length c = search needs
 
 returns-2 : tie.Need-returns-2
-returns-2 c = (λ shadow. c .before .before .log-entry .ensures .0 _ ∙ made inRoom _ (Send _ _) _ _ _ (stored _ shadow _ _ _ _ _ _ _ (c .before .before .before .before .before .attempt .ensures .0) (c .before .before .before .before .before .attempt .ensures .1)) (c .before .before .before .before .told .ensures) (ap goes (c .before .before .before .before .before .before .before .before .before .enum-told .given .1)), search needs)
+returns-2 c = (c .before .before .log-entry .ensures .0 _ ∙ made inRoom _ (Send _ _) _ _ _ (stored _ _ _ _ _ _ _ _ (c .before .before .before .before .before .attempt .ensures .0) (c .before .before .before .before .before .attempt .ensures .1)) (c .before .before .before .before .told .ensures) (ap goes (c .before .before .before .before .before .before .before .before .before .enum-told .given .1)), search needs)
 
 pub send-spec : {M : Type 1} → statement M
 send-spec =

@@ -27,7 +27,7 @@ same-length : tie.Need-same-length
 same-length c = search needs
 
 returns : tie.Need-returns
-returns c = (λ shadow. by-bytes inRoom _ _ _ _ _ _ (c .before .before .before .before .before .before .chunk-bytes .ensures) (c .before .before .send .ensures .0 shadow), search needs)
+returns c = (by-bytes inRoom _ _ _ _ _ _ (c .before .before .before .before .before .before .chunk-bytes .ensures) (c .before .before .send .ensures .0), search needs)
 
 pub send-chunk-spec : {M : Type 1} → statement M
 send-chunk-spec =

@@ -5,17 +5,18 @@ use native.Mathlib.Omega.{arith}
 use Prim.Native.Nat.{_≤_, _+_, _-_}
 use mathlib.Core.Bool.{true}
 use lib.ListN.{length, length-map, take, drop}
-use Rattle.chip.specs.Steps.{due, goes, inRange, inRoom, meantOf, onLists, run, updates, updateStep}
+use Rattle.chip.specs.Chips.{chipOf}
+use Rattle.chip.specs.Steps.{due, goes, inRange, inRoom, meantOf, onLog, run, updates, updateStep}
 use Rattle.chip.proofs.Lists.{every-take, every-inner, inner-update, turn, end}
 use borrow.Author.Needs.{needs}
 use Rattle.chip.proofs.write_list.Statement.{statement}
 use Rattle.chip.proofs.write_list.Tie as tie
 
 abbrev Inv-loop : tie.InvT-loop
-Inv-loop address shadow₀ attempted₀ doubtful₀ outcomes room₀ list n l₀ i₀ shadow attempted doubtful room l i = (i ≤ n) × ((length room ≡ length room₀) × ((length list ≡ 16) × ((l .count + due (l .held) ≤ l₀ .count + i + due (l₀ .held)) × ((goes (l .went) ≡ true) × (run inRoom outcomes (updates (drop i (take n list))) (onLists address shadow attempted doubtful l room) ≡ run inRoom outcomes (updates (take n list)) (onLists address shadow₀ attempted₀ doubtful₀ l₀ room₀))))))
+Inv-loop address shadow₀ doubtful₀ outcomes room₀ list n l₀ i₀ shadow doubtful room l i = (i ≤ n) × ((length room ≡ length room₀) × ((length list ≡ 16) × ((l .count + due (l .held) ≤ l₀ .count + i + due (l₀ .held)) × ((goes (l .went) ≡ true) × (run inRoom outcomes (updates (drop i (take n list))) (onLog (chipOf address shadow doubtful) l room) ≡ run inRoom outcomes (updates (take n list)) (onLog (chipOf address shadow₀ doubtful₀) l₀ room₀))))))
 
 abbrev μ-loop : tie.MeasureT-loop
-μ-loop address shadow₀ attempted₀ doubtful₀ outcomes room₀ list n l₀ i₀ shadow attempted doubtful room l i = n - i
+μ-loop address shadow₀ doubtful₀ outcomes room₀ list n l₀ i₀ shadow doubtful room l i = n - i
 
 enum-told : tie.Need-enum-told Inv-loop μ-loop
 enum-told c = search needs
@@ -41,8 +42,8 @@ mul-u c = search needs
 array-copy-out-u : tie.Need-array-copy-out-u Inv-loop μ-loop
 array-copy-out-u c = search needs
 
-write-update-requires : tie.Need-write-update-requires Inv-loop μ-loop
-write-update-requires c κs = (every-take inRange (c .before .before .before .before .before .before .before .before .before .before .before .before .args .us .list) (c .before .before .before .before .before .before .before .before .before .before .before .before .args .us .n) (c .before .before .before .before .before .before .loop .i) _ (search needs) (search needs) (c .before .before .before .before .before .before .before .before .before .before .before .before .pre .1), search needs, search needs)
+write-reg-mask-raw-requires : tie.Need-write-reg-mask-raw-requires Inv-loop μ-loop
+write-reg-mask-raw-requires c κs = (every-take inRange (c .before .before .before .before .before .before .before .before .before .before .before .args .us .list) (c .before .before .before .before .before .before .before .before .before .before .before .args .us .n) (c .before .before .before .before .before .loop .i) _ (search needs) (search needs) (c .before .before .before .before .before .before .before .before .before .before .before .pre .1), search needs, search needs)
 
 enum-told-3 : tie.Need-enum-told-3 Inv-loop μ-loop
 enum-told-3 c = search needs
@@ -57,7 +58,7 @@ same-length-2 : tie.Need-same-length-2 Inv-loop μ-loop
 same-length-2 c = search needs
 
 returns-2 : tie.Need-returns-2 Inv-loop μ-loop
-returns-2 c = (c .before .before .log-close2 .ensures .0 _ ∙ stop inRoom _ (updates (drop (c .before .before .before .before .before .before .before .before .before .before .before .before .before .before .before .loop .i + 1) (meantOf (c .before .before .before .before .before .before .before .before .before .before .before .before .before .before .before .before .before .before .before .before .before .args .us)))) _ _ (ap goes (c .before .before .before .before .enum-told4 .given .1)) (every-inner updateStep inner-update (drop (c .before .before .before .before .before .before .before .before .before .before .before .before .before .before .before .loop .i + 1) (meantOf (c .before .before .before .before .before .before .before .before .before .before .before .before .before .before .before .before .before .before .before .before .before .args .us)))) (ap (run inRoom _ (updates (drop (c .before .before .before .before .before .before .before .before .before .before .before .before .before .before .before .loop .i + 1) (meantOf (c .before .before .before .before .before .before .before .before .before .before .before .before .before .before .before .before .before .before .before .before .before .args .us))))) (c .before .before .before .before .before .before .before .before .write-update .ensures .0) ∙ turn inRoom _ updateStep (c .before .before .before .before .before .before .before .before .before .before .before .before .before .before .before .before .before .before .before .before .before .args .us .list) (c .before .before .before .before .before .before .before .before .before .before .before .before .before .before .before .before .before .before .before .before .before .args .us .n) (c .before .before .before .before .before .before .before .before .before .before .before .before .before .before .before .loop .i) _ _ (search needs) (omega (arith, c .before .before .before .before .before .before .before .before .before .before .before .before .before .before .before .loop .inv, c .before .before .before .before .before .before .before .before .before .before .before .before .before .before .before .before .before .before .before .before .before .pre .0)) ∙ c .before .before .before .before .before .before .before .before .before .before .before .before .before .before .before .loop .inv .1 .1 .1 .1 .1), omega (arith, c .before .before .log-close2 .ensures .1, c .before .before .before .before .before .before .before .before .write-update .ensures .1, c .before .before .before .before .before .before .before .before .before .before .before .before .before .before .before .loop .inv, c .before .before .before .before .before .before .before .before .before .before .before .before .before .before .loop-test .taken))
+returns-2 c = (c .before .before .log-close2 .ensures .0 _ ∙ stop inRoom _ (updates (drop (c .before .before .before .before .before .before .before .before .before .before .before .before .before .before .loop .i + 1) (meantOf (c .before .before .before .before .before .before .before .before .before .before .before .before .before .before .before .before .before .before .before .before .args .us)))) _ _ (ap goes (c .before .before .before .before .enum-told4 .given .1)) (every-inner updateStep inner-update (drop (c .before .before .before .before .before .before .before .before .before .before .before .before .before .before .loop .i + 1) (meantOf (c .before .before .before .before .before .before .before .before .before .before .before .before .before .before .before .before .before .before .before .before .args .us)))) (ap (run inRoom _ (updates (drop (c .before .before .before .before .before .before .before .before .before .before .before .before .before .before .loop .i + 1) (meantOf (c .before .before .before .before .before .before .before .before .before .before .before .before .before .before .before .before .before .before .before .before .args .us))))) (c .before .before .before .before .before .before .before .before .write-reg-mask-raw .ensures .0) ∙ turn inRoom _ updateStep (c .before .before .before .before .before .before .before .before .before .before .before .before .before .before .before .before .before .before .before .before .args .us .list) (c .before .before .before .before .before .before .before .before .before .before .before .before .before .before .before .before .before .before .before .before .args .us .n) (c .before .before .before .before .before .before .before .before .before .before .before .before .before .before .loop .i) _ _ (search needs) (omega (arith, c .before .before .before .before .before .before .before .before .before .before .before .before .before .before .loop .inv, c .before .before .before .before .before .before .before .before .before .before .before .before .before .before .before .before .before .before .before .before .pre .0)) ∙ c .before .before .before .before .before .before .before .before .before .before .before .before .before .before .loop .inv .1 .1 .1 .1 .1), omega (arith, c .before .before .log-close2 .ensures .1, c .before .before .before .before .before .before .before .before .write-reg-mask-raw .ensures .1, c .before .before .before .before .before .before .before .before .before .before .before .before .before .before .loop .inv, c .before .before .before .before .before .before .before .before .before .before .before .before .before .loop-test .taken))
 
 add-i : tie.Need-add-i Inv-loop μ-loop
 add-i c = search needs
@@ -66,7 +67,7 @@ loop-less : tie.Need-loop-less Inv-loop μ-loop
 loop-less c = search needs
 
 loop-again : tie.Need-loop-again Inv-loop μ-loop
-loop-again c = (search needs, (search needs, (search needs, (search needs, (ap goes (c .enum-told3 .given .1), ap (run inRoom _ (updates (drop (c .before .before .before .before .before .before .before .before .before .before .before .loop .i + 1) (meantOf (c .before .before .before .before .before .before .before .before .before .before .before .before .before .before .before .before .before .args .us))))) (c .before .before .before .before .write-update .ensures .0) ∙ turn inRoom _ updateStep (c .before .before .before .before .before .before .before .before .before .before .before .before .before .before .before .before .before .args .us .list) (c .before .before .before .before .before .before .before .before .before .before .before .before .before .before .before .before .before .args .us .n) (c .before .before .before .before .before .before .before .before .before .before .before .loop .i) _ _ (search needs) (search needs) ∙ c .before .before .before .before .before .before .before .before .before .before .before .loop .inv .1 .1 .1 .1 .1)))))
+loop-again c = (search needs, (search needs, (search needs, (search needs, (ap goes (c .enum-told3 .given .1), ap (run inRoom _ (updates (drop (c .before .before .before .before .before .before .before .before .before .before .loop .i + 1) (meantOf (c .before .before .before .before .before .before .before .before .before .before .before .before .before .before .before .before .args .us))))) (c .before .before .before .before .write-reg-mask-raw .ensures .0) ∙ turn inRoom _ updateStep (c .before .before .before .before .before .before .before .before .before .before .before .before .before .before .before .before .args .us .list) (c .before .before .before .before .before .before .before .before .before .before .before .before .before .before .before .before .args .us .n) (c .before .before .before .before .before .before .before .before .before .before .loop .i) _ _ (search needs) (search needs) ∙ c .before .before .before .before .before .before .before .before .before .before .loop .inv .1 .1 .1 .1 .1)))))
 
 same-length-3 : tie.Need-same-length-3 Inv-loop μ-loop
 same-length-3 c = search needs
@@ -75,4 +76,4 @@ returns-3 : tie.Need-returns-3 Inv-loop μ-loop
 returns-3 c = (keep inRoom _ _ _ (end inRoom _ updateStep (c .before .before .before .before .before .before .before .args .us .list) (c .before .before .before .before .before .before .before .args .us .n) (c .before .loop .i) _ (search needs) ∙ c .before .loop .inv .1 .1 .1 .1 .1) (c .before .loop .inv .1 .1 .1 .1 .0), search needs)
 
 pub write-list-spec : {M : Type 1} → statement M
-write-list-spec = tie.close (tie.spec Inv-loop μ-loop enum-told enum-told-2 log-close-requires same-length returns loop-holds mul-u array-copy-out-u write-update-requires enum-told-3 enum-told-4 log-close-requires-2 same-length-2 returns-2 add-i loop-less loop-again same-length-3 returns-3)
+write-list-spec = tie.close (tie.spec Inv-loop μ-loop enum-told enum-told-2 log-close-requires same-length returns loop-holds mul-u array-copy-out-u write-reg-mask-raw-requires enum-told-3 enum-told-4 log-close-requires-2 same-length-2 returns-2 add-i loop-less loop-again same-length-3 returns-3)

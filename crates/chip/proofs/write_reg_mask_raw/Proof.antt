@@ -37,9 +37,6 @@ mask-into-requires c κs = search needs
 element-write-shadow : tie.Need-element-write-shadow
 element-write-shadow c = let l : 5 ≤ c .before .before .before .before .before .before .before .before .args .u .register = low (c .before .before .before .before .before .before .before .before .args .u) (c .before .before .before .before .before .before .before .before .pre .0) in let h : c .before .before .before .before .before .before .before .before .args .u .register ≤ 31 = high (c .before .before .before .before .before .before .before .before .args .u) (c .before .before .before .before .before .before .before .before .pre .0) in omega arith
 
-element-write-attempted : tie.Need-element-write-attempted
-element-write-attempted c = let l : 5 ≤ c .before .before .before .before .before .before .before .before .args .u .register = low (c .before .before .before .before .before .before .before .before .args .u) (c .before .before .before .before .before .before .before .before .pre .0) in let h : c .before .before .before .before .before .before .before .before .args .u .register ≤ 31 = high (c .before .before .before .before .before .before .before .before .args .u) (c .before .before .before .before .before .before .before .before .pre .0) in omega arith
-
 element-write-doubtful : tie.Need-element-write-doubtful
 element-write-doubtful c = let l : 5 ≤ c .before .before .before .before .before .before .before .before .args .u .register = low (c .before .before .before .before .before .before .before .before .args .u) (c .before .before .before .before .before .before .before .before .pre .0) in let h : c .before .before .before .before .before .before .before .before .args .u .register ≤ 31 = high (c .before .before .before .before .before .before .before .before .args .u) (c .before .before .before .before .before .before .before .before .pre .0) in omega arith
 
@@ -56,4 +53,4 @@ returns-2 : tie.Need-returns-2
 returns-2 c = (c .before .before .log-entry .ensures .0 _ ∙ made-mask inRoom _ _ _ _ _ _ _ _ (c .before .before .before .before .before .mask-into .ensures) refl (c .before .before .before .before .told .ensures) (ap goes (c .before .before .before .before .before .before .before .before .before .enum-told .given .1)), search needs)
 
 pub write-reg-mask-raw-spec : {M : Type 1} → statement M
-write-reg-mask-raw-spec = tie.close (tie.spec enum-told enum-told-2 returns shared-slice-read-ok sub-index cast-index element-copy-out-mask-into mask-into-requires element-write-shadow element-write-attempted element-write-doubtful told-requires log-entry-requires same-length returns-2)
+write-reg-mask-raw-spec = tie.close (tie.spec enum-told enum-told-2 returns shared-slice-read-ok sub-index cast-index element-copy-out-mask-into mask-into-requires element-write-shadow element-write-doubtful told-requires log-entry-requires same-length returns-2)

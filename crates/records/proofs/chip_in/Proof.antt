@@ -15,17 +15,14 @@ cast-t3 c = search needs
 bytes-at-requires : tie.Need-bytes-at-requires
 bytes-at-requires c κs = search needs
 
-bytes-at-requires-2 : tie.Need-bytes-at-requires-2
-bytes-at-requires-2 c κs = search needs
-
 flags-at-requires : tie.Need-flags-at-requires
 flags-at-requires c κs = search needs
 
 returns : tie.Need-returns
 returns c =
-    chip-made (now (c .before .before .before .before .before .args .b)) _ _ _ _ (c .before .before .before .get .ensures .0) (c .before .before .bytes-at .ensures) (c .before .bytes-at2 .ensures) (c .flags-at .ensures)
+    chip-made (now (c .before .before .before .before .args .b)) _ _ _ (c .before .before .get .ensures .0) (c .before .bytes-at .ensures) (c .flags-at .ensures)
 
 pub chip-in-spec : {M : Type 1} → statement M
 chip-in-spec =
     tie.close
-    (tie.spec get-requires cast-t3 bytes-at-requires bytes-at-requires-2 flags-at-requires returns)
+    (tie.spec get-requires cast-t3 bytes-at-requires flags-at-requires returns)

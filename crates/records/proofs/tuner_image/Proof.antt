@@ -1,4 +1,4 @@
--- `records::tuner_image` meets its contract: the parts, stored one after the other over 105 bytes, are the record's bytes.
+-- `records::tuner_image` meets its contract: the parts, stored one after the other over 78 bytes, are the record's bytes.
 -- Assumes nothing.
 use mathlib.Core.Path.{_≡_, refl, sym, ap, _∙_}
 use mathlib.Core.List.{map}
@@ -69,21 +69,18 @@ cast-number-7 c = search needs
 number-requires-8 : tie.Need-number-requires-8
 number-requires-8 c κs = search needs
 
-list-requires-2 : tie.Need-list-requires-2
-list-requires-2 c κs = search needs
-
 flag-bytes-requires : tie.Need-flag-bytes-requires
 flag-bytes-requires c κs = search needs
 
-list-requires-3 : tie.Need-list-requires-3
-list-requires-3 c κs = search needs
+list-requires-2 : tie.Need-list-requires-2
+list-requires-2 c κs = search needs
 
 returns : tie.Need-returns
 returns c =
-    let start = c .before .before .before .before .before .before .before .before .before .before .before .before .before .before .before .before .before .before .before .before .before .before .before .before .before .before .before .before .before .before .before .before .before .before in
-    let doubtful : length (map flagByte (start .args .t .chip .doubtful)) ≡ 27 = ap length (sym (c .before .flag-bytes .ensures)) ∙ c .list3 .ensures .1 in
-    rw (c .list3 .ensures .0, c .before .flag-bytes .ensures, c .before .before .before .list2 .ensures .0, c .before .before .before .before .before .number8 .ensures, c .before .before .before .before .before .before .flag-byte2 .ensures, c .before .before .before .before .before .before .before .before .number7 .ensures, c .before .before .before .before .before .before .before .before .before .before .number6 .ensures, c .before .before .before .before .before .before .before .before .before .before .before .bits-of .ensures, c .before .before .before .before .before .before .before .before .before .before .before .before .before .number5 .ensures, c .before .before .before .before .before .before .before .before .before .before .before .before .before .before .flag-byte .ensures, c .before .before .before .before .before .before .before .before .before .before .before .before .before .before .before .before .number4 .ensures, c .before .before .before .before .before .before .before .before .before .before .before .before .before .before .before .before .before .before .before .number3 .ensures, c .before .before .before .before .before .before .before .before .before .before .before .before .before .before .before .before .before .before .before .before .before .before .list .ensures .0, c .before .before .before .before .before .before .before .before .before .before .before .before .before .before .before .before .before .before .before .before .before .before .before .before .number2 .ensures, c .before .before .before .before .before .before .before .before .before .before .before .before .before .before .before .before .before .before .before .before .before .before .before .before .before .before .before .number .ensures, c .before .before .before .before .before .before .before .before .before .before .before .before .before .before .before .before .before .before .before .before .before .before .before .before .before .before .before .before .kind-number .ensures)
-    (image-whole (start .args .t) (replicate 105 0) (record { shadow = c .before .before .before .before .before .before .before .before .before .before .before .before .before .before .before .before .before .before .before .before .before .before .list .ensures .1; attempted = c .before .before .before .list2 .ensures .1; doubtful = sym (length-map (start .args .t .chip .doubtful) flagByte) ∙ doubtful }) refl)
+    let start = c .before .before .before .before .before .before .before .before .before .before .before .before .before .before .before .before .before .before .before .before .before .before .before .before .before .before .before .before .before .before .before in
+    let doubtful : length (map flagByte (start .args .t .chip .doubtful)) ≡ 27 = ap length (sym (c .before .flag-bytes .ensures)) ∙ c .list2 .ensures .1 in
+    rw (c .list2 .ensures .0, c .before .flag-bytes .ensures, c .before .before .before .number8 .ensures, c .before .before .before .before .flag-byte2 .ensures, c .before .before .before .before .before .before .number7 .ensures, c .before .before .before .before .before .before .before .before .number6 .ensures, c .before .before .before .before .before .before .before .before .before .bits-of .ensures, c .before .before .before .before .before .before .before .before .before .before .before .number5 .ensures, c .before .before .before .before .before .before .before .before .before .before .before .before .flag-byte .ensures, c .before .before .before .before .before .before .before .before .before .before .before .before .before .before .number4 .ensures, c .before .before .before .before .before .before .before .before .before .before .before .before .before .before .before .before .before .number3 .ensures, c .before .before .before .before .before .before .before .before .before .before .before .before .before .before .before .before .before .before .before .before .list .ensures .0, c .before .before .before .before .before .before .before .before .before .before .before .before .before .before .before .before .before .before .before .before .before .before .number2 .ensures, c .before .before .before .before .before .before .before .before .before .before .before .before .before .before .before .before .before .before .before .before .before .before .before .before .before .number .ensures, c .before .before .before .before .before .before .before .before .before .before .before .before .before .before .before .before .before .before .before .before .before .before .before .before .before .before .kind-number .ensures)
+    (image-whole (start .args .t) (replicate 78 0) (record { shadow = c .before .before .before .before .before .before .before .before .before .before .before .before .before .before .before .before .before .before .before .before .list .ensures .1; doubtful = sym (length-map (start .args .t .chip .doubtful) flagByte) ∙ doubtful }) refl)
 
 pub tuner-image-spec : {M : Type 1} → statement M
 tuner-image-spec =
@@ -109,7 +106,6 @@ tuner-image-spec =
     flag-byte-requires-2
     cast-number-7
     number-requires-8
-    list-requires-2
     flag-bytes-requires
-    list-requires-3
+    list-requires-2
     returns)

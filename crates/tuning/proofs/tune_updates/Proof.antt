@@ -59,20 +59,20 @@ mul-masked c = omega (arith, c .before .before .before .before .before .before .
 masked-requires-12 : tie.Need-masked-requires-12
 masked-requires-12 c κs = search needs
 
-past-requires : tie.Need-past-requires
-past-requires c κs = search needs
-
-past-requires-2 : tie.Need-past-requires-2
-past-requires-2 c κs = search needs
-
-past-requires-3 : tie.Need-past-requires-3
-past-requires-3 c κs = search needs
-
 masked-requires-13 : tie.Need-masked-requires-13
 masked-requires-13 c κs = search needs
 
+masked-requires-14 : tie.Need-masked-requires-14
+masked-requires-14 c κs = search needs
+
+masked-requires-15 : tie.Need-masked-requires-15
+masked-requires-15 c κs = search needs
+
+masked-requires-16 : tie.Need-masked-requires-16
+masked-requires-16 c κs = search needs
+
 returns : tie.Need-returns
-returns c = λ i. c .before .before .before .before .before .before .before .before .before .before .before .before .before .before .before .before .masked .ensures i ∷ (c .before .before .before .before .before .before .before .before .before .before .before .before .before .before .before .masked2 .ensures ∙ ap (λ (x : ℕ). masked 0x17 x 0x08) (c .before .before .before .before .before .before .before .before .before .before .before .before .before .before .before .before .before .before .before .before .drained .ensures)) i ∷ c .before .before .before .before .before .before .before .before .before .before .before .before .before .before .masked3 .ensures i ∷ c .before .before .before .before .before .before .before .before .before .before .before .before .before .masked4 .ensures i ∷ c .before .before .before .before .before .before .before .before .before .before .before .before .masked5 .ensures i ∷ c .before .before .before .before .before .before .before .before .before .before .before .masked6 .ensures i ∷ c .before .before .before .before .before .before .before .before .before .before .masked7 .ensures i ∷ c .before .before .before .before .before .before .before .before .before .masked8 .ensures i ∷ c .before .before .before .before .before .before .before .before .masked9 .ensures i ∷ c .before .before .before .before .before .before .before .masked10 .ensures i ∷ c .before .before .before .before .before .before .masked11 .ensures i ∷ c .before .before .before .before .masked12 .ensures i ∷ c .before .before .before .past .ensures i ∷ c .before .before .past2 .ensures i ∷ c .before .past3 .ensures i ∷ (c .masked13 .ensures ∙ ap (λ (x : ℕ). masked 0x12 x 0x08) (c .before .before .before .before .before .before .before .before .before .before .before .before .before .before .before .before .before .before .before .whole-only .ensures)) i ∷ []
+returns c = λ i. c .before .before .before .before .before .before .before .before .before .before .before .before .before .before .before .before .masked .ensures i ∷ (c .before .before .before .before .before .before .before .before .before .before .before .before .before .before .before .masked2 .ensures ∙ ap (λ (x : ℕ). masked 0x17 x 0x08) (c .before .before .before .before .before .before .before .before .before .before .before .before .before .before .before .before .before .before .before .before .drained .ensures)) i ∷ c .before .before .before .before .before .before .before .before .before .before .before .before .before .before .masked3 .ensures i ∷ c .before .before .before .before .before .before .before .before .before .before .before .before .before .masked4 .ensures i ∷ c .before .before .before .before .before .before .before .before .before .before .before .before .masked5 .ensures i ∷ c .before .before .before .before .before .before .before .before .before .before .before .masked6 .ensures i ∷ c .before .before .before .before .before .before .before .before .before .before .masked7 .ensures i ∷ c .before .before .before .before .before .before .before .before .before .masked8 .ensures i ∷ c .before .before .before .before .before .before .before .before .masked9 .ensures i ∷ c .before .before .before .before .before .before .before .masked10 .ensures i ∷ c .before .before .before .before .before .before .masked11 .ensures i ∷ c .before .before .before .before .masked12 .ensures i ∷ c .before .before .before .masked13 .ensures i ∷ c .before .before .masked14 .ensures i ∷ c .before .masked15 .ensures i ∷ (c .masked16 .ensures ∙ ap (λ (x : ℕ). masked 0x12 x 0x08) (c .before .before .before .before .before .before .before .before .before .before .before .before .before .before .before .before .before .before .before .whole-only .ensures)) i ∷ []
 
 pub tune-updates-spec : {M : Type 1} → statement M
-tune-updates-spec = tie.close (tie.spec drained-requires whole-only-requires cast-high cast-low masked-requires masked-requires-2 masked-requires-3 masked-requires-4 masked-requires-5 masked-requires-6 masked-requires-7 masked-requires-8 masked-requires-9 masked-requires-10 masked-requires-11 mul-masked masked-requires-12 past-requires past-requires-2 past-requires-3 masked-requires-13 returns)
+tune-updates-spec = tie.close (tie.spec drained-requires whole-only-requires cast-high cast-low masked-requires masked-requires-2 masked-requires-3 masked-requires-4 masked-requires-5 masked-requires-6 masked-requires-7 masked-requires-8 masked-requires-9 masked-requires-10 masked-requires-11 mul-masked masked-requires-12 masked-requires-13 masked-requires-14 masked-requires-15 masked-requires-16 returns)

@@ -28,16 +28,16 @@ returns : tie.Need-returns
 returns c = (unopened inRoom _ (updates (gainUpdates (c .before .before .before .before .before .before .before .before .before .before .before .before .before .args .k))) _ _ _ (c .before .before .before .before .before .before .before .before .log-open .ensures .0 _) (ap goes (c .before .before .before .before .enum-told2 .given .1)) (every-inner updateStep inner-update (gainUpdates (c .before .before .before .before .before .before .before .before .before .before .before .before .before .args .k))) (c .before .before .log-close .ensures .0 _), omega (arith, c .before .before .before .before .before .before .before .before .log-open .ensures .1, c .before .before .log-close .ensures .1))
 
 gain-writes-requires : tie.Need-gain-writes-requires
-gain-writes-requires c κs = (c .before .before .before .before .before .before .before .before .before .before .before .before .before .before .before .before .pre .0, omega (arith, c .before .before .before .before .before .before .before .before .before .before .before .log-open .ensures .1, c .before .before .before .before .before .before .before .before .before .before .before .before .before .before .before .before .pre .1), omega (arith, c .before .before .before .before .before .before .before .before .before .before .before .log-open .ensures .1, c .before .before .before .before .before .before .before .before .before .before .before .before .before .before .before .before .pre .2, c .before .before .before .before .before .before .before .before .before .before .before .log-open .kept))
+gain-writes-requires c κs = (c .before .before .before .before .before .before .before .before .before .before .before .before .before .before .pre .0, omega (arith, c .before .before .before .before .before .before .before .before .before .log-open .ensures .1, c .before .before .before .before .before .before .before .before .before .before .before .before .before .before .pre .1), omega (arith, c .before .before .before .before .before .before .before .before .before .log-open .ensures .1, c .before .before .before .before .before .before .before .before .before .before .before .before .before .before .pre .2, c .before .before .before .before .before .before .before .before .before .log-open .kept))
 
 log-close-requires-2 : tie.Need-log-close-requires-2
-log-close-requires-2 c κs = omega (arith, c .before .before .before .before .before .before .before .before .before .before .before .before .before .before .before .log-open .ensures .1, c .before .before .before .gain-writes .ensures .1, c .before .before .before .before .before .before .before .before .before .before .before .before .before .before .before .before .before .before .before .before .pre .1, c .before .before .before .before .before .before .before .before .before .before .before .before .before .before .before .before .before .before .before .before .pre .2, c .before .before .before .before .before .before .before .before .before .before .before .before .before .before .before .log-open .kept, c .before .before .before .gain-writes .kept)
+log-close-requires-2 c κs = omega (arith, c .before .before .before .before .before .before .before .before .before .before .before .before .before .log-open .ensures .1, c .before .before .before .gain-writes .ensures .1, c .before .before .before .before .before .before .before .before .before .before .before .before .before .before .before .before .before .before .pre .1, c .before .before .before .before .before .before .before .before .before .before .before .before .before .before .before .before .before .before .pre .2, c .before .before .before .before .before .before .before .before .before .before .before .before .before .log-open .kept, c .before .before .before .gain-writes .kept)
 
 same-length-2 : tie.Need-same-length-2
-same-length-2 c = omega (arith, c .before .before .before .before .before .before .before .before .before .before .before .before .before .before .before .before .before .before .log-open .kept, c .before .before .before .before .before .before .gain-writes .kept, c .before .before .log-close2 .kept)
+same-length-2 c = omega (arith, c .before .before .before .before .before .before .before .before .before .before .before .before .before .before .before .before .log-open .kept, c .before .before .before .before .before .before .gain-writes .kept, c .before .before .log-close2 .kept)
 
 returns-2 : tie.Need-returns-2
-returns-2 c = (c .before .before .log-close2 .ensures .0 _ ∙ bracketed inRoom _ _ _ _ _ (c .before .before .before .before .before .before .before .before .before .before .before .before .before .before .before .before .before .before .log-open .ensures .0 _) (c .before .before .before .before .before .before .gain-writes .ensures .0), omega (arith, c .before .before .before .before .before .before .before .before .before .before .before .before .before .before .before .before .before .before .log-open .ensures .1, c .before .before .before .before .before .before .gain-writes .ensures .1, c .before .before .log-close2 .ensures .1))
+returns-2 c = (c .before .before .log-close2 .ensures .0 _ ∙ bracketed inRoom _ _ _ _ _ (c .before .before .before .before .before .before .before .before .before .before .before .before .before .before .before .before .log-open .ensures .0 _) (c .before .before .before .before .before .before .gain-writes .ensures .0), omega (arith, c .before .before .before .before .before .before .before .before .before .before .before .before .before .before .before .before .log-open .ensures .1, c .before .before .before .before .before .before .gain-writes .ensures .1, c .before .before .log-close2 .ensures .1))
 
 pub gain-steps-spec : {M : Type 1} → statement M
 gain-steps-spec = tie.close (tie.spec log-open-requires enum-told enum-told-2 log-close-requires same-length returns gain-writes-requires log-close-requires-2 same-length-2 returns-2)

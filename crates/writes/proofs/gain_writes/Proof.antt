@@ -24,7 +24,7 @@ same-length c = search needs
 
 returns : tie.Need-returns
 unfolding every
-returns c = (parts inRoom _ (updates byHand) (updates (stepValues (entryAt (c .before .before .before .before .before .before .before .before .before .before .before .before .before .before .before .before .before .args .k)))) _ _ _ refl (c .before .before .before .before .before .before .before .before .before .gain-by-hand .ensures .0) (swap inRoom _ _ _ _ _ (ap (λ (g : GainEntry). updates (stepValues g)) (c .before .before .before .before .before .before .before .before .before .before .before .before .before .before .entry-at .ensures)) (c .before .before .gain-values .ensures .0)), omega (arith, c .before .before .before .before .before .before .before .before .before .gain-by-hand .ensures .1, c .before .before .gain-values .ensures .1))
+returns c = (parts inRoom _ (updates byHand) (updates (stepValues (entryAt (c .before .before .before .before .before .before .before .before .before .before .before .before .before .before .before .args .k)))) _ _ _ refl (c .before .before .before .before .before .before .before .before .gain-by-hand .ensures .0) (swap inRoom _ _ _ _ _ (ap (λ (g : GainEntry). updates (stepValues g)) (c .before .before .before .before .before .before .before .before .before .before .before .before .entry-at .ensures)) (c .before .before .gain-values .ensures .0)), omega (arith, c .before .before .before .before .before .before .before .before .gain-by-hand .ensures .1, c .before .before .gain-values .ensures .1))
 
 pub gain-writes-spec : {M : Type 1} → statement M
 gain-writes-spec =

@@ -1,22 +1,22 @@
 //! Chains of calls on a simulated chip (demand 3). A done write lands whole; a failed one leaves, in each register it
 //! named, the old byte, the new one, or any other. After every call:
 //! - a register is marked doubtful exactly if it was never attempted or its last attempt failed;
-//! - every register that is not doubtful holds on the chip the byte that the record says was attempted last;
-//! - the record handed from call to call says what one R82xx that lived all along says;
+//! - the record handed from call to call says what one R82xx that lived all along says; by document 02 but for the shadow;
+//! - by document 02 (#106), every register that is not doubtful holds on the chip the byte that the shadow has for it;
 //! - the entries are those of the uncut call up to the failing step, then at most a closing.
 //!
-//! A reload that is all done leaves nothing doubtful, and record, shadow and chip the same.
-use harness::answer::answer;
+//! A reload that is all done leaves nothing doubtful, and by document 02 shadow and chip the same.
+use harness::answer::reload;
 use harness::case::{By, Case};
 use harness::cases;
 use harness::dice::Dice;
-use harness::judge;
+use harness::judge::{self, Paper};
 use harness::records::{FIRST, Tuner};
+use harness::requests;
 use harness::run::{self, run};
 use harness::tally::Tally;
-use original::device::HardwareInterface;
 use original::tuner::Tuner as Calls;
-use original::tuners::r82xx::R82xx;
+use original::tuners::r82xx::{R82xx, Seen};
 use rusb::rec::Entry;
 
 /// What the chip holds, and how the last attempt at each register went (None: no attempt).
@@ -54,29 +54,18 @@ fn lived(chip: &R82xx, case: &Case, record: &Tuner) {
         6 => chip.set_bandwidth(case.a as u32),
         7 => chip.set_if_freq(case.a),
         8 => chip.set_input_path(path()),
-        9 => {
-            let usb = run::usb();
-            let sent = usb
-                .i2c_write_tuner(record.address, 0x05, &record.attempted[..16])
-                .and_then(|()| usb.i2c_write_tuner(record.address, 0x15, &record.attempted[16..]));
-            if sent.is_ok() {
-                let shadow = record.attempted;
-                chip.put(&original::tuners::r82xx::Seen { shadow, ..chip.see() });
-            }
-            sent
-        }
+        9 => reload(record).map(|_| ()),
         10 => chip.set_ppm(case.d as i32),
-        11 => chip.apply_notch(case.a != 0),
-        _ => chip.see_update_shadow(case.a as u8, case.b as u8, case.c as u8).map(|_| ()),
+        _ => chip.apply_notch(case.a != 0),
     });
 }
 
-fn chain(length: u64, dice: &mut Dice, tally: &mut Tally, seen: &mut [u64; 3]) {
+fn chain(paper: Paper, length: u64, dice: &mut Dice, tally: &mut Tally, seen: &mut [u64; 3]) {
     let mut record = Tuner::fresh(dice.below(2) as u8, 28_800_000, 0x74);
     let long = run::chip(&record);
     let mut chip = Chip { bytes: std::array::from_fn(|_| dice.byte()), done: [None; 27] };
     for _ in 0..length {
-        let call = dice.pick(&[2, 3, 3, 3, 4, 5, 6, 7, 8, 9, 9, 10, 11, 12]);
+        let call = dice.pick(&[2, 2, 3, 3, 3, 4, 5, 6, 7, 8, 9, 9, 10, 11]);
         let mut case = cases::random(call, dice);
         case.tuner = record.bytes();
         // The Rust's own state must stay inside document 01's domain: an IF that no tune can wrap.
@@ -86,31 +75,34 @@ fn chain(length: u64, dice: &mut Dice, tally: &mut Tally, seen: &mut [u64; 3]) {
         if call == 3 {
             case.a %= 2_000_000_000;
         }
-        let found = answer(&case);
+        let found = paper.answer(&case);
         let made = judge::entries(&found);
         seen[0] += 1;
         seen[1] += made.len() as u64;
         seen[2] += (found.refusal == 11) as u64;
         if let Some(bytes) = &found.tuner {
-            if call == 4 && found.by != By::Rust {
+            if call == 4 && found.by == By::PageOverRust {
                 case.a = (-100.0f32).to_bits() as u64; // a product that the Rust overflows on: the same step by document 01
             }
-            lived(&long, &case, &record);
+            // An N that document 02 refuses (#111) leaves all but the shadow as it was.
+            if paper == Paper::First || call != 3 || !requests::too_small(&case) {
+                lived(&long, &case, &record);
+            }
             record = Tuner::read(bytes).expect("a record handed back is a record");
         }
         chip.play(&made, dice);
-        tally.same(record.seen(), long.see(), || format!("record and long-lived chip after {case:?}"));
+        // By document 02 the shadow is not the long-lived chip's.
+        let shadow = if paper == Paper::First { long.see().shadow } else { record.shadow };
+        tally.same(record.seen(), Seen { shadow, ..long.see() }, || format!("record and long-lived chip after {case:?}"));
         for place in 0..27 {
             tally.same(record.doubtful[place], chip.done[place] != Some(true), || format!("doubtful mark {place} after {case:?}"));
-            tally.that(record.doubtful[place] || record.attempted[place] == chip.bytes[place], || {
-                format!("chip's byte {place} after {case:?}")
-            });
+            let held = paper == Paper::First || record.shadow[place] == chip.bytes[place];
+            tally.that(record.doubtful[place] || held, || format!("chip's byte {place} after {case:?}"));
         }
-        judge::all(&case, &found, tally);
+        judge::all(paper, &case, &found, tally);
         if call == 9 && found.refusal == 0 {
-            tally.that(record.doubtful == [false; 27] && record.shadow == record.attempted && record.attempted == chip.bytes, || {
-                format!("reload {case:?}")
-            });
+            let held = paper == Paper::First || record.shadow == chip.bytes;
+            tally.that(record.doubtful == [false; 27] && held, || format!("reload {case:?}"));
         }
     }
 }
@@ -118,8 +110,10 @@ fn chain(length: u64, dice: &mut Dice, tally: &mut Tally, seen: &mut [u64; 3]) {
 fn main() {
     let (mut dice, mut tally, mut seen) = (Dice(0x6368_6169_6e73), Tally::default(), [0; 3]);
     for _ in 0..3_000 {
-        let length = dice.within(1, 80);
-        chain(length, &mut dice, &mut tally, &mut seen);
+        for paper in [Paper::First, Paper::Second] {
+            let length = dice.within(1, 80);
+            chain(paper, length, &mut dice, &mut tally, &mut seen);
+        }
     }
     let [calls, entries, failed] = seen;
     tally.that(calls >= 100_000, || format!("only {calls} calls"));

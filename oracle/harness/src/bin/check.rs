@@ -4,6 +4,7 @@ use harness::answer::{answer, takes_driver, takes_tuner};
 use harness::case::{Answer, Case};
 use harness::cases::{self, plain, replies_for};
 use harness::dice::Dice;
+use harness::judge::Paper;
 use harness::records::{Driver, Tuner};
 use harness::tally::Tally;
 use harness::{judge, page, requests, run, steps};
@@ -39,7 +40,7 @@ fn most(tally: &mut Tally, dice: &mut Dice) {
                 }
                 let found = answer(&case);
                 tally.same(found.refusal, 0, || format!("all done: {case:?}"));
-                judge::all(&case, &found, tally);
+                judge::all(Paper::First, &case, &found, tally);
                 reached = reached.max(found.count);
                 taken = taken.max(run::taken());
             }
@@ -69,14 +70,14 @@ fn failures(tally: &mut Tally, dice: &mut Dice) {
                 case.replies = replies_for(round % 4, Some(round as usize).filter(|&at| at < 10), dice.byte());
             }
             let whole = answer(&case);
-            judge::all(&case, &whole, tally);
+            judge::all(Paper::First, &case, &whole, tally);
             for step in 0..whole.count {
                 let mut cut = case.clone();
                 cut.outcomes[step] = dice.within(1, 255) as u8;
                 failure(&cut, step, &whole, tally);
                 let second = dice.below(cut.outcomes.len() as u64) as usize;
                 cut.outcomes[second] = 1;
-                judge::all(&cut, &answer(&cut), tally);
+                judge::all(Paper::First, &cut, &answer(&cut), tally);
             }
         }
     }
@@ -84,7 +85,8 @@ fn failures(tally: &mut Tally, dice: &mut Dice) {
 
 fn failure(cut: &Case, step: usize, whole: &Answer, tally: &mut Tally) {
     let found = answer(cut);
-    judge::all(cut, &found, tally);
+    judge::all(Paper::First, cut, &found, tally);
+    judge::all(Paper::Second, cut, &requests::answer(cut), tally);
     let entry = judge::entries(whole)[step];
     if page::closes(&entry) || entry[0] == 9 {
         let same = (found.refusal, found.value, found.count, found.tuner.clone(), found.driver.clone());
@@ -198,6 +200,11 @@ fn order(tally: &mut Tally, dice: &mut Dice) {
         }
         let kept = |t: &Tuner| (t.intermediate, t.gain, t.lock, t.notch);
         tally.same(kept(&after), kept(&before), || "initialise leaves IF, gain, lock, notch".into());
+        // By document 02 (#106) its masked writes stand on INIT_ARRAY, whatever the shadow was.
+        let second = requests::answer(&Case { tuner: before.bytes(), ..plain(2) });
+        let masked: Vec<_> = judge::entries(&second).iter().filter(|entry| entry[3] == 2).map(|entry| (entry[8], entry[9])).collect();
+        let wanted = [(0x1a, 0x60), (0x12, 0x06), (0x0c, 0xf0), (0x13, 0x01), (0x0a, 0x86), (0x0b, 0x80)];
+        tally.same(masked, wanted.to_vec(), || format!("initialise by #106 over {:02x?}", before.shadow));
     }
     for byte in 0..=255u8 {
         tally.same(r82xx::see_bit_reverse(byte), byte.reverse_bits(), || format!("bits of {byte:#x} reversed"));
@@ -210,14 +217,14 @@ fn refusals(tally: &mut Tally) {
     let mut want = |case: Case, refusal: u8, what: &str| {
         let found = answer(&case);
         tally.same(found.refusal, refusal, || what.to_string());
-        judge::all(&case, &found, tally);
+        judge::all(Paper::First, &case, &found, tally);
     };
     let nothing = |call: u8| Case { room: 0, outcomes: vec![], replies: vec![], ..plain(call) };
     for call in 2..=35 {
         let (steps, bytes) = (page::most(call), page::answered(call));
         if takes_tuner(call) {
-            want(Case { tuner: vec![0; 104], a: 99, ..nothing(call) }, 1, "tuner record of 104 bytes first");
-            want(Case { tuner: [plain(call).tuner, vec![0]].concat(), ..nothing(call) }, 1, "tuner record of 106 bytes first");
+            want(Case { tuner: vec![0; 77], a: 99, ..nothing(call) }, 1, "tuner record of 77 bytes first");
+            want(Case { tuner: [plain(call).tuner, vec![0]].concat(), ..nothing(call) }, 1, "tuner record of 79 bytes first");
         }
         if takes_driver(call) {
             want(Case { driver: vec![1; 20], a: 0, d: i32::MIN as u32, ..nothing(call) }, 1, "driver record first");
@@ -249,8 +256,6 @@ fn refusals(tally: &mut Tally) {
     want(Case { a: 8, ..nothing(32) }, 6, "pin before room");
     want(Case { a: 3, ..nothing(8) }, 1, "path before room");
     want(Case { a: 3, ..nothing(20) }, 1, "path before room");
-    want(Case { a: 4, ..nothing(12) }, 5, "register 0x04");
-    want(Case { a: 0x20, ..nothing(12) }, 5, "register 0x20");
     let one = Tuner::fresh(0, 28_800_000, 0x34).bytes();
     want(Case { tuner: one.clone(), ..nothing(8) }, 0, "R820T's input path looks at no lent memory");
     want(Case { tuner: one, a: 3, ..nothing(8) }, 1, "but at the path");
@@ -272,7 +277,7 @@ fn listed(tally: &mut Tally) {
             let kept: Vec<_> = transfers.into_iter().map(|t| (t.kind, t.value, t.index, t.data, t.done)).collect();
             tally.same(kept, wanted, || format!("USB transfers of {case:?}"));
         }
-        judge::all(&case, &found, tally);
+        judge::all(Paper::Second, &case, &found, tally);
     }
     rusb::rec::with(|r| r.keep = false);
 }

@@ -1,10 +1,10 @@
-//! The evidence of docs/DIFFERENCES.md: each place where the Rust panics, wraps, cuts or leaves the repeater open, on its
-//! smallest input, as this build does it (run it in debug and in release), with document 01's answer beside it.
+//! The evidence of docs/DIFFERENCES.md: each place where the Rust panics, wraps, cuts, leaves the repeater open or does what document 02 changes, on its
+//! smallest input, as this build does it (run it in debug and in release), with the documents' answer beside it.
 use harness::answer::answer;
 use harness::case::Case;
 use harness::cases::{plain, replies_for};
 use harness::judge;
-use harness::records::{Driver, Tuner};
+use harness::records::{Driver, FIRST, Tuner, attempts};
 use harness::requests;
 use harness::run::{self, block_on};
 use original::device::HardwareInterface;
@@ -168,11 +168,6 @@ fn small() {
             page(Case { a: pin as u64, ..plain(32) }),
         );
     }
-    for (number, register) in [("13", 0), ("13a", 4), ("13b", 0x20), ("13c", 0xff)] {
-        let chip = run::chip(&record(0));
-        let found = rust(|| chip.see_update_shadow(register, 1, 1));
-        row(number, &format!("update_shadow({register:#x}, 1, 1)"), found, page(Case { a: register as u64, b: 1, c: 1, ..plain(12) }));
-    }
     row("14", "if_freq_regs(0, 0)", rust(|| registers::if_freq_regs(0, 0)), page(Case { a: 0, b: 0, ..plain(34) }));
     row("14a", "set_if_freq_xtal(0, 0)", rust(|| demod::set_if_freq_xtal(usb.as_hw(), 0, 0)), page(Case { a: 0, b: 0, ..plain(27) }));
     row("15", "resample_regs(0, 1)", rust(|| registers::resample_regs(0, 1)), page(Case { a: 0, b: 1, ..plain(35) }));
@@ -301,6 +296,93 @@ fn rates() {
     );
 }
 
+/// A register's byte as it was last sent, and as a shadow has it.
+fn sent_and_kept(made: &[Entry], shadow: &[u8; 27], register: usize) -> String {
+    let sent = attempts(made).filter(|&(place, _, _)| place + FIRST == register).last();
+    let sent = sent.map_or("not sent".into(), |(_, byte, done)| format!("{} {byte:#04x}", if done { "sent" } else { "tried" }));
+    format!("{register:#04x} {sent}, shadow {:#04x}", shadow[register - FIRST])
+}
+
+/// #106: what the Rust sends and keeps of some registers, and what document 02 makes of it. Document 01 does as the Rust.
+fn shadowed(number: &str, input: &str, case: &Case, registers: &[usize]) {
+    let given = Tuner::read(&case.tuner).expect("a record");
+    let told =
+        |made: &[Entry], shadow: &[u8; 27]| registers.iter().map(|&at| sent_and_kept(made, shadow, at)).collect::<Vec<_>>().join("; ");
+    let chip = run::chip(&given);
+    let (_, made) = run::run(&case.outcomes, &case.replies, || harness::answer::call(&chip, case, &given));
+    let then = requests::answer(case);
+    let shadow = Tuner::read(&then.tuner.clone().expect("a next record")).expect("a record").shadow;
+    row(number, input, told(&made, &chip.see().shadow), format!("the same; document 02: {}", told(&judge::entries(&then), &shadow)));
+}
+
+/// Initialise over a shadow in which this register has other bits.
+fn initialised(number: &str, register: usize, bits: u8) {
+    let mut given = record(2_300_000);
+    given.shadow[register - FIRST] ^= bits;
+    let input = format!("initialise, the shadow has {:#04x} for {register:#04x}, else INIT_ARRAY", given.shadow[register - FIRST]);
+    shadowed(number, &input, &Case { tuner: given.bytes(), ..plain(2) }, &[register]);
+}
+
+fn shadows() {
+    for (number, register, bits) in [
+        ("23", 0x0a, 0x01),
+        ("23a", 0x0b, 0x10),
+        ("23b", 0x0c, 0x10),
+        ("23c", 0x13, 0x40),
+        ("23d", 0x1a, 0x01),
+        ("24", 0x05, 0x01),
+        ("24a", 0x1f, 0x01),
+    ] {
+        initialised(number, register, bits);
+    }
+    let zeros = Case { tuner: Tuner { shadow: [0; 27], ..record(2_300_000) }.bytes(), ..plain(2) };
+    for (number, step, what) in [("24b", 1, "the first chunk's write fails"), ("24c", 0, "the opening fails")] {
+        let mut cut = zeros.clone();
+        cut.outcomes[step] = 1;
+        shadowed(number, &format!("initialise over a shadow of zeros, {what}"), &cut, &[0x05, 0x0b, 0x0c]);
+    }
+    let tune = Case { a: 25_356_250, tuner: record(2_300_000).bytes(), replies: replies_for(1, Some(0), 0), ..plain(3) };
+    shadowed("25", "tune hz 25356250, IF 2300000, a fresh record", &tune, &[0x14, 0x15, 0x16]);
+    let mut cut = tune.clone();
+    cut.outcomes[14] = 1;
+    shadowed("25a", "the same, the write of 0x16 fails", &cut, &[0x14, 0x15, 0x16]);
+}
+
+/// What #106 is about: the same calls by the Rust and by document 02, and each write in which they part, with what the chip held before it.
+fn second_initialise() {
+    println!("a second initialise, two hops and a gain behind it, all done: the writes in which the Rust and document 02 part");
+    let mut given = record(2_300_000);
+    let (chip, mut held) = (run::chip(&given), [0u8; 27]);
+    let hop = |mhz: u64| Case { a: mhz * MHZ, replies: replies_for(1, Some(0), 0), ..plain(3) };
+    let gain = |index: u64| Case { a: index, ..plain(5) };
+    let night = [
+        ("initialise", plain(2)),
+        ("tune 30 MHz", hop(30)),
+        ("gain index 28", gain(28)),
+        ("initialise", plain(2)),
+        ("tune 100 MHz", hop(100)),
+        ("tune 433 MHz", hop(433)),
+        ("gain index 3", gain(3)),
+    ];
+    for (name, call) in night {
+        let case = Case { tuner: given.bytes(), ..call };
+        let (_, made) = run::run(&case.outcomes, &case.replies, || harness::answer::call(&chip, &case, &given));
+        let then = requests::answer(&case);
+        println!("    {name}: {} entries", made.len());
+        for (rust, ours) in made.iter().zip(judge::entries(&then)).filter(|(rust, _)| rust[0] == 2 && rust[3] > 1) {
+            let place = rust[8] as usize - FIRST;
+            if *rust != ours {
+                println!(
+                    "        {:#04x}: the chip held {:#04x}; the Rust sends {:#04x}, document 02 {:#04x}",
+                    rust[8], held[place], rust[9], ours[9]
+                );
+            }
+            attempts(&[*rust]).for_each(|(place, byte, _)| held[place] = byte);
+        }
+        given = Tuner::read(&then.tuner.expect("a next record")).expect("a record");
+    }
+}
+
 /// Document 01 does as the Rust; what document 02 makes of it.
 fn later(case: &Case) -> String {
     let (first, then) = (answer(case), requests::answer(case));
@@ -367,5 +449,7 @@ fn main() {
     makings();
     aliases();
     rates();
+    shadows();
+    second_initialise();
     left_out();
 }

@@ -13,10 +13,11 @@ fn answered(name: &str, cases: Vec<Case>) -> Vec<u8> {
         .collect();
     let bytes = list(&all);
     println!(
-        "{name}: {} cases, {entries} entries, {} bytes; by the Rust {}, by the documents before it {}, over it {}; refusals {}",
+        "{name}: {} cases, {entries} entries, {} bytes; by the Rust {}, by it but for the shadow {}, by the documents before it {}, over it {}; refusals {}",
         all.len(),
         bytes.len(),
         by(By::Rust),
+        by(By::RustButShadow),
         by(By::Page),
         by(By::PageOverRust),
         refusals.join(" ")

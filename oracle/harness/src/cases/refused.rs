@@ -1,5 +1,5 @@
 //! Refused inputs: too little lent, damaged records, and which refusal stands first.
-use super::{MHZ, TUNED, plain};
+use super::{MHZ, TUNED, numbers, plain};
 use crate::answer::{takes_driver, takes_tuner};
 use crate::case::Case;
 use crate::page;
@@ -54,12 +54,12 @@ fn damaged_tuners() -> Vec<Vec<u8>> {
         with(&[(38, b[0]), (39, b[1]), (40, b[2]), (41, b[3])]);
     }
     with(&[(50, 2)]); // notch
-    for place in [78, 91, 104] {
+    for place in [51, 64, 77] {
         with(&[(place, 2)]); // doubtful: the first, one between, the last
     }
     with(&[(38, 0), (39, 0), (40, 0xc0), (41, 0x7f)]);
     with(&[(38, 0), (39, 0), (40, 0x80), (41, 0x7f)]);
-    all.insert(0, good[..104].to_vec());
+    all.insert(0, good[..77].to_vec());
     all.insert(0, [good, vec![0]].concat());
     all
 }
@@ -87,7 +87,7 @@ fn damaged_drivers() -> Vec<Vec<u8>> {
 }
 
 pub fn refused_and_damaged(all: &mut Vec<Case>) {
-    for call in 2..=35 {
+    for call in numbers().skip(1) {
         let case = plain(call);
         if page::most(call).is_some() || page::answered(call).is_some() {
             all.extend(short(&case));
@@ -95,7 +95,7 @@ pub fn refused_and_damaged(all: &mut Vec<Case>) {
         // Every damage on some calls, a few on each.
         let (tuners, drivers) = (damaged_tuners(), damaged_drivers());
         for (i, tuner) in tuners.into_iter().enumerate() {
-            if takes_tuner(call) && (matches!(call, 3 | 12 | 13) || i % 6 == call as usize % 6) {
+            if takes_tuner(call) && (matches!(call, 3 | 13) || i % 6 == call as usize % 6) {
                 all.push(Case { tuner, ..case.clone() });
             }
         }

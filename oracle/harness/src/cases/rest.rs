@@ -100,15 +100,8 @@ pub fn thresholds(all: &mut Vec<Case>) {
     all.extend([2, 255].map(|c| Case { c, ..plain(33) }));
 }
 
-/// Registers and masks, ratios of two numbers, pins, and what calls without steps read and store.
+/// Ratios of two numbers, registers, pins, and what calls without steps read and store.
 pub fn small_calls(all: &mut Vec<Case>, dice: &mut Dice) {
-    for register in (0..0x22).chain([0x7f, 0x80, 0xff]) {
-        let tuner = random_tuner(dice).bytes();
-        all.push(Case { a: register, b: dice.byte() as u64, c: dice.byte() as u64, tuner, ..plain(12) });
-    }
-    for mask in [0, 0x0f, 0xf0, 0xff] {
-        all.push(Case { c: mask, ..plain(12) });
-    }
     ratios(all);
     for (page, register) in [(0, 0), (1, 0xff), (2, 0x100), (15, 0xffff), (16, 0), (255, 0x1234)] {
         all.push(Case { a: page, b: register, c: dice.byte() as u64, ..plain(26) });
@@ -276,7 +269,7 @@ pub fn steps_of_each(all: &mut Vec<Case>, dice: &mut Dice) {
 /// Every mask, seen on a shadow of zeros and on one of ones.
 pub fn masks(all: &mut Vec<Case>) {
     for byte in [0x00, 0xff] {
-        let tuner = |kind: u8| Tuner { shadow: [byte; 27], attempted: [byte; 27], ..Tuner::fresh(kind, 28_800_000, 0x74) }.bytes();
+        let tuner = |kind: u8| Tuner { shadow: [byte; 27], ..Tuner::fresh(kind, 28_800_000, 0x74) }.bytes();
         let quick = |fine: u8| replies_for(fine, Some(0), byte);
         all.extend([2, 4, 6, 9, 19].map(|call| Case { tuner: tuner(1), ..plain(call) }));
         all.extend([2_300_000, 3_570_000].map(|a| Case { a, tuner: tuner(0), ..plain(7) }));

@@ -16,12 +16,12 @@ use live::sabotage::{SPOILS, spoiled};
 use live::{document, ffi, numbers, port, raw, rules};
 use std::collections::BTreeMap;
 
-/// The version that the boundary is written against: 3.4.0.
-const VERSION: u32 = 0x0003_0400;
+/// The version that the boundary is written against: 4.0.0.
+const VERSION: u32 = 0x0004_0000;
 
 fn class(given: &Given, wanted: &Answer, tally: &mut Tally) -> Class {
     let row = rules::row(given);
-    if row.is_none() && wanted.by != By::PageOverRust {
+    if row.is_none() && matches!(wanted.by, By::Rust | By::Page) {
         return if wanted.by == By::Page { Class::Ours } else { Class::Same(None) };
     }
     // The harness has put document 01's answer in the original's place, so the original itself is asked.
@@ -86,8 +86,8 @@ fn self_test() -> ! {
     let (mut tally, mut found_by) = (Tally::default(), BTreeMap::new());
     let mut dice = Dice(0x7370_6f69_6c);
     let mut receiver = Receiver::fresh(&mut dice);
-    for turn in 0..40 * 40u32 {
-        let given = draw::draw((turn % 40) as u8 + 1, &receiver, &mut dice);
+    for call in (0..40).flat_map(|_| draw::calls()) {
+        let given = draw::draw(call, &receiver, &mut dice);
         let (wanted, found) = (document::wanted(&given), port::call(&given));
         for (name, bad) in (0..SPOILS).filter_map(|how| spoiled(&found, how)) {
             let seen = bad.against(&given, &wanted).is_some();

@@ -1,8 +1,8 @@
 -- `r82xx::Tuner::reload` meets its contract. Each return is one law of the definition, with what the calls before it ensure. Assumes nothing.
-use Rattle.r82xx.specs.Record.{reloaded, sound, withChip}
+use Rattle.r82xx.specs.Record.{sound, withChip}
 use Rattle.r82xx.proofs.Whole.{perform-by, refuse-by, send-eight}
 use Rattle.writes.specs.Programs.{sendAll}
-use mathlib.Core.Path.{refl, sym, ap, _∙_}
+use mathlib.Core.Path.{refl, sym, _∙_}
 use native.Mathlib.Omega.{arith}
 use Rattle.chip.proofs.Refusals.{taken-by}
 use denote.Ref.{now}
@@ -30,15 +30,12 @@ send-all-requires c κs = let z = taken-by (sound (c .before .before .before .be
 finish-requires : tie.Need-finish-requires
 finish-requires c κs = let z = taken-by (sound (c .before .before .before .before .before .before .before .before .before .before .before .args .self)) 0 9 0 (length (now (c .before .before .before .before .before .before .before .before .before .before .before .args .room))) (length (now (c .before .before .before .before .before .before .before .before .before .before .before .args .outcomes))) 0 (sym (c .before .before .before .before .before .before .before .before .refusal .ensures) ∙ c .before .before .before .before .before .before .before .if1 .left) in let one = z .lent .rooms in let two = z .lent .outs in (omega (arith, c .before .before .before .send-all .ensures .1), omega (arith, c .before .before .before .send-all .ensures .1, c .before .before .before .send-all .kept))
 
-reload-chip-requires : tie.Need-reload-chip-requires
-reload-chip-requires c κs = search needs
-
 same-length : tie.Need-same-length
 same-length c = search needs
 
 returns-2 : tie.Need-returns-2
 unfolding resultOf leftBy
-returns-2 c = perform-by _ _ _ _ (sendAll (c .before .before .before .before .before .before .before .before .before .before .before .before .before .before .before .before .before .args .self .chip .attempted)) _ _ (λ (w : Line Logged). withChip (c .before .before .before .before .before .before .before .before .before .before .before .before .before .before .before .before .before .args .self) (reloaded (w .went) (w .chip))) _ _ _ (c .before .before .before .before .before .before .before .before .before .send-all .result) _ _ _ (c .before .before .before .before .before .before .before .before .before .before .before .before .before .before .refusal .ensures) (c .before .before .before .before .before .before .before .before .before .before .before .before .before .if1 .left) (send-eight (c .before .before .before .before .before .before .before .before .before .before .before .before .before .before .before .before .before .args .self .chip .attempted)) (c .before .before .before .before .before .before .before .before .before .send-all .ensures .0) (c .before .before .before .before .before .finish .ensures .1) (c .before .before .before .before .before .finish .ensures .0) (ap (withChip (c .before .before .before .before .before .before .before .before .before .before .before .before .before .before .before .before .before .args .self)) (c .reload-chip .ensures)) refl
+returns-2 c = perform-by _ _ _ _ (sendAll (c .before .before .before .before .before .before .before .before .before .before .before .before .before .before .before .args .self .chip .shadow)) _ _ (λ (w : Line Logged). withChip (c .before .before .before .before .before .before .before .before .before .before .before .before .before .before .before .args .self) (w .chip)) _ _ _ (c .before .before .before .before .before .before .before .send-all .result) _ _ _ (c .before .before .before .before .before .before .before .before .before .before .before .before .refusal .ensures) (c .before .before .before .before .before .before .before .before .before .before .before .if1 .left) (send-eight (c .before .before .before .before .before .before .before .before .before .before .before .before .before .before .before .args .self .chip .shadow)) (c .before .before .before .before .before .before .before .send-all .ensures .0) (c .before .before .before .finish .ensures .1) (c .before .before .before .finish .ensures .0) refl refl
 
 pub reload-spec : {M : Type 1} → statement M
-reload-spec = tie.close (tie.spec refusal-requires refused-requires returns send-all-requires finish-requires reload-chip-requires same-length returns-2)
+reload-spec = tie.close (tie.spec refusal-requires refused-requires returns send-all-requires finish-requires same-length returns-2)
