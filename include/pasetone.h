@@ -541,6 +541,22 @@ pasetone_reply pasetone_expand(const uint8_t *section, size_t section_len, uint8
  */
 pasetone_reply pasetone_read_packets(const uint8_t *packets, size_t packets_len, uint8_t *out, size_t out_len);
 
+/* ---- Restore lists ---- */
+
+/* 14 writes and the trailer: a slice of this size holds every restore list. */
+#define PASETONE_RESTORE_ROOM PASETONE_ROOM_FOR(14)
+
+/*
+ * From sections end to end, oldest first, where they left the registers 0x05..0x1f of the chip at `address`: a section of I2C writes with outcome 0 that
+ * names each register whose last write was done, once, with its byte, in ascending runs of at most seven, the long ones filled from the left; no list has
+ * fewer writes. A register whose last write failed, or that no write names, is doubtful, and in none of them. Writes to other chips and bytes for other
+ * registers count for nothing; numbers past 0xff do not wrap. Repeater entries are not looked at. Sent behind an open repeater, with every write done, the
+ * list leaves on any chip those registers as the sections left them. All of `sections` has to be sections, of which no bytes have none: they give the
+ * section of no entries. Value: how many bytes were written at the start of `out`, 16 for each write and 8, which are asked for exactly; the others stay.
+ * Refuses 12 (any section, or bytes before them that are none), 8.
+ */
+pasetone_reply pasetone_restore(const uint8_t *sections, size_t sections_len, uint8_t address, uint8_t *out, size_t out_len);
+
 #ifdef __cplusplus
 }
 #endif

@@ -82,7 +82,7 @@ static void looked(const char *what, pasetone_tune_reply reply, uint32_t tries, 
 static void check_making(void)
 {
     uint8_t old[105] = {0};
-    same("version", pasetone_version(), 0x00040000);
+    same("version", pasetone_version(), 0x00040100);
     done("fresh tuner", pasetone_tuner_new(PASETONE_R828D, 0x74, 28800000, TUNER), 0, 0);
     same("fresh kind", tuner[PASETONE_TUNER_KIND], PASETONE_R828D);
     same("fresh address", tuner[PASETONE_TUNER_ADDRESS], 0x74);
@@ -102,7 +102,7 @@ static void check_making(void)
     refused("short next", pasetone_tuner_new(PASETONE_R828D, 0x74, 28800000, next, 77), PASETONE_ROOM);
     refused("no record", pasetone_get_gain(tuner, 77), PASETONE_SETUP);
     memcpy(old, tuner, sizeof tuner);
-    refused("a record as long as before 4.0.0", pasetone_get_gain(old, sizeof old), PASETONE_SETUP);
+    refused("a record as long as before 4.1.0", pasetone_get_gain(old, sizeof old), PASETONE_SETUP);
 }
 
 /* Document 01: bandwidth 2,048,000, a fresh R828D at 0x74, all done. */
@@ -393,6 +393,32 @@ static void check_packets(void)
     same("page 16", pasetone_expand(section, sizeof section, out, sizeof out).refusal, PASETONE_EXPANSION);
 }
 
+/* The list of a bandwidth call, of one whose write failed, and of no bytes; each refusal. */
+static void check_restore(void)
+{
+    static const uint8_t none[8] = {0};
+    uint8_t fresh[PASETONE_TUNER_SIZE], day[2 * PASETONE_BANDWIDTH_ROOM], list[PASETONE_RESTORE_ROOM], outcomes[3] = {0};
+    pasetone_reply r = pasetone_tuner_new(PASETONE_R828D, 0x74, 28800000, fresh, sizeof fresh);
+    same("a tuner for a list", r.refusal, 0);
+    r = pasetone_set_bandwidth(fresh, sizeof fresh, 2048000, outcomes, 3, day, PASETONE_BANDWIDTH_ROOM, next, sizeof next);
+    same("a call for a list", r.refusal, 0);
+    r = pasetone_restore(day, PASETONE_BANDWIDTH_ROOM, 0x74, list, sizeof list);
+    same("a list, refusal", r.refusal, 0);
+    same("a list, length", r.value, 24);
+    same("a list is the call's write", memcmp(list, day + 16, 16), 0);
+    same("a list is a section", pasetone_read_section(list, 24).count, 1);
+    same("a list, room", pasetone_restore(day, PASETONE_BANDWIDTH_ROOM, 0x74, list, 23).refusal, PASETONE_ROOM);
+    same("the list of another chip", pasetone_restore(day, PASETONE_BANDWIDTH_ROOM, 0x34, list, sizeof list).value, 8);
+    outcomes[1] = 1;
+    r = pasetone_set_bandwidth(fresh, sizeof fresh, 2048000, outcomes, 3, day + PASETONE_BANDWIDTH_ROOM, PASETONE_BANDWIDTH_ROOM, next, sizeof next);
+    same("a failed call for a list", r.refusal, PASETONE_STEP);
+    r = pasetone_restore(day, sizeof day, 0x74, list, sizeof list);
+    same("a doubtful register is in no list", r.value, 8);
+    same("no writes", memcmp(list, none, 8), 0);
+    same("no bytes", pasetone_restore(day, 0, 0x74, list, sizeof list).value, 8);
+    same("bytes before the sections", pasetone_restore(day + 1, sizeof day - 1, 0x74, list, sizeof list).refusal, PASETONE_SECTION);
+}
+
 /* Both engines, at document 01's worked numbers and at the least N. */
 static void check_pll(void)
 {
@@ -417,6 +443,7 @@ static void check_numbers(void)
     uint8_t out[4];
     check_pll();
     check_packets();
+    check_restore();
     done("V4, 28,799,999", pasetone_plan_tuning(PASETONE_V4, 28799999, out, 3), 57599999, 0);
     same("inverted, HF, no notch", out[0] << 16 | out[1] << 8 | out[2], 0x010000);
     done("V4, 28,800,000", pasetone_plan_tuning(PASETONE_V4, 28800000, out, 3), 28800000, 0);

@@ -124,6 +124,7 @@ RUN(run_pack, pasetone_pack_fir(S(INPUT), S(OUT)))
 RUN(run_unpack, pasetone_unpack_fir(S(INPUT), S(OUT)))
 RUN(run_expand, pasetone_expand(S(INPUT), S(OUT)))
 RUN(run_hear, pasetone_read_packets(S(INPUT), S(OUT)))
+RUN(run_restore, pasetone_restore(S(INPUT), (uint8_t)a->arg[0], S(OUT)))
 
 /* Arguments. A record has been judged before these are asked. */
 
@@ -199,11 +200,11 @@ static uint32_t fields_args(const struct attempt *a)
     return fields_model(a->arg);
 }
 
-static uint32_t packets_args(const struct attempt *a)
+static uint32_t measured_args(const struct attempt *a)
 {
     const uint8_t *bytes;
     size_t length;
-    return packets_model(a, &bytes, &length);
+    return measured_model(a, &bytes, &length);
 }
 
 /* Values of done calls. */
@@ -212,7 +213,7 @@ static uint32_t packets_args(const struct attempt *a)
     static uint64_t name(const struct attempt *a) { return (void)a, (expression); }
 
 VALUE(nothing, 0)
-VALUE(version_value, 0x00040000)
+VALUE(version_value, 0x00040100)
 VALUE(asked, a->arg[0])
 VALUE(gain_set, number_at(a->at[NEXT] + PASETONE_TUNER_GAIN, 4))
 VALUE(gain_held, number_at(a->before[TUNER] + PASETONE_TUNER_GAIN, 4))
@@ -257,11 +258,11 @@ static uint64_t either_value(const struct attempt *a)
 
 VALUE(written_value, a->call->out)
 
-static uint64_t packets_value(const struct attempt *a)
+static uint64_t measured_value(const struct attempt *a)
 {
     const uint8_t *bytes;
     size_t length;
-    packets_model(a, &bytes, &length);
+    measured_model(a, &bytes, &length);
     return length;
 }
 
@@ -316,7 +317,8 @@ const struct call calls[] = {
     {"write_settings_2", SETTINGS_WRITE, HAS(OUT), 0, 0, 27, "17 8", run_write_settings_2, fields_args, written_value},
     {"move_settings_1_to_2", SETTINGS_MOVE, HAS(INPUT) | HAS(OUT), 0, 0, 27, "16 17 8", run_move_1_to_2, move_args, written_value},
     {"move_settings_2_to_1", SETTINGS_MOVE, HAS(INPUT) | HAS(OUT), 0, 0, 23, "16 17 18 8", run_move_2_to_1, move_args, written_value},
-    {"expand", EXPANDING, HAS(INPUT) | HAS(OUT), 0, 0, 0, "12 15 8", run_expand, packets_args, packets_value},
-    {"read_packets", HEARING, HAS(INPUT) | HAS(OUT), 0, 0, 0, "15 8", run_hear, packets_args, packets_value},
+    {"expand", EXPANDING, HAS(INPUT) | HAS(OUT), 0, 0, 0, "12 15 8", run_expand, measured_args, measured_value},
+    {"read_packets", HEARING, HAS(INPUT) | HAS(OUT), 0, 0, 0, "15 8", run_hear, measured_args, measured_value},
+    {"restore", RESTORING, HAS(INPUT) | HAS(OUT), 0, 0, 0, "12 8", run_restore, measured_args, measured_value},
 };
 const unsigned call_count = sizeof calls / sizeof *calls;

@@ -29,8 +29,9 @@ enum way {
     SETTINGS_READ, /* reads settings at the end of INPUT */
     SETTINGS_WRITE, /* writes an image of the arguments into OUT */
     SETTINGS_MOVE,  /* writes the image at the end of INPUT in the other edition into OUT */
-    EXPANDING, /* answers as many bytes as its input asks for, as does HEARING */
-    HEARING
+    EXPANDING, /* answers as many bytes as its input asks for, as do those behind it */
+    HEARING,
+    RESTORING
 };
 
 struct attempt;
@@ -122,9 +123,15 @@ int entry_fits(const uint8_t *e);
 /* packets.c: the same from document 02 */
 uint32_t expand_model(const uint8_t *bytes, size_t n, uint8_t *to, size_t *length);
 uint32_t hear_model(const uint8_t *bytes, size_t n, uint8_t *to, size_t *length);
-uint32_t packets_model(const struct attempt *a, const uint8_t **bytes, size_t *length);
 void tame(uint8_t *e);
 void make_packets(struct attempt *a);
+
+/* restore.c: the same from document 02 */
+uint32_t restore_model(const uint8_t *bytes, size_t n, uint8_t chip, uint8_t *to, size_t *length);
+void make_sections(struct attempt *a);
+/* What a call that answers as many bytes as its input asks for must leave in OUT: its refusal, bytes, and how many. */
+int is_measured(const struct call *call);
+uint32_t measured_model(const struct attempt *a, const uint8_t **bytes, size_t *length);
 
 /* judge.c: what is wrong, or a null pointer */
 const char *judge(const struct attempt *a);

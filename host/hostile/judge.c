@@ -209,10 +209,10 @@ static const char *judge_stepless(const struct attempt *a)
     uint64_t start, count = 0;
     const uint8_t *bytes;
     size_t length;
-    if (a->call->way == EXPANDING || a->call->way == HEARING) {
-        packets_model(a, &bytes, &length);
+    if (is_measured(a->call)) {
+        measured_model(a, &bytes, &length);
         if (memcmp(a->at[OUT], bytes, length) != 0) {
-            return "the packets or entries are others";
+            return "the packets, entries or writes are others";
         }
     }
     if (a->call->way == READER) {

@@ -172,6 +172,10 @@ static void make_input(struct attempt *a)
         make_settings(a);
         return;
     }
+    if (a->call->way == RESTORING) {
+        make_sections(a);
+        return;
+    }
     if (a->call->way == READER || a->call->way == PARTING || a->call->way == EXPANDING || a->call->way == HEARING) {
         make_section(a);
         if (a->call->way == HEARING) {

@@ -167,10 +167,10 @@ size_t needed(const struct attempt *a, enum slot slot)
     case NEXT_DRIVER:
         return PASETONE_DRIVER_SIZE;
     case OUT:
-        if (call->way != EXPANDING && call->way != HEARING) {
+        if (!is_measured(call)) {
             return call->out;
         }
-        packets_model(a, &bytes, &length);
+        measured_model(a, &bytes, &length);
         return length;
     default:
         return 0;

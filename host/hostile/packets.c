@@ -137,14 +137,6 @@ void tame(uint8_t *e)
     }
 }
 
-/* What the call must leave in OUT: its refusal, bytes, and how many. */
-uint32_t packets_model(const struct attempt *a, const uint8_t **bytes, size_t *length)
-{
-    static uint8_t made[LONGEST];
-    *bytes = made;
-    return (a->call->way == EXPANDING ? expand_model : hear_model)(a->before[INPUT], a->n[INPUT], made, length);
-}
-
 /* Packets of some entries, often damaged. */
 void make_packets(struct attempt *a)
 {

@@ -18,6 +18,7 @@ ghost use Rattle.expansion.specs.Expansion.{expandInto, readInto};
 ghost use Rattle.r82xx.specs.Orders.{courseOf};
 ghost use Rattle.r82xx.specs.Orders.Order.{Initialize, Reload, Bandwidth, IfFreq, Gain, GainIndex, InputPath, Tune, Ppm, Notch, GainTold, IfTold};
 ghost use Rattle.parting.specs.Parting.{partingOf};
+ghost use Rattle.restoring.specs.Standing.{restoreInto};
 ghost use Rattle.replies.specs.Replies.{partsOf, replyOf};
 ghost use Rattle.settings.specs.Image.{wider};
 ghost use Rattle.settings.specs.Reading.{movedTo1, movedTo2, readOf1, readOf2, settings, toldOf1, toldOf2, writtenTo1, writtenTo2};
@@ -35,12 +36,12 @@ use settings::Reply2;
 use settings::Settings;
 use settings::Settings2;
 
-// 4.0.0: the major number times 65,536, the minor times 256, the patch.
+// 4.1.0: the major number times 65,536, the minor times 256, the patch.
 #[no_mangle]
 pub extern "C" fn pasetone_version() -> u32
-    ensures { λ r. ⌜ r ≡ 262144 ⌝ }
+    ensures { λ r. ⌜ r ≡ 262400 ⌝ }
 {
-    0x0004_0000
+    0x0004_0100
 }
 
 // The tuner: src/tuners/r82xx.rs.
@@ -585,5 +586,14 @@ pub extern "C" fn pasetone_read_packets(packets: &[u8], out: &mut [u8]) -> Reply
     ensures { λ r. ⌜ lent r (now (out .exit)) ≡ lentBy (readInto (now (packets .entry)) (now (out .entry))) ⌝ }
 {
     let answer = expansion::read_packets(packets, out);
+    replies::numbers(answer, 0)
+}
+
+// Restore lists: document 02, #110.
+#[no_mangle]
+pub extern "C" fn pasetone_restore(sections: &[u8], address: u8, out: &mut [u8]) -> Reply
+    ensures { λ r. ⌜ lent r (now (out .exit)) ≡ lentBy (restoreInto (now (sections .entry)) address (now (out .entry))) ⌝ }
+{
+    let answer = restoring::restore(sections, address, out);
     replies::numbers(answer, 0)
 }

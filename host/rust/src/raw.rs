@@ -259,6 +259,7 @@ unsafe extern "C" {
     ) -> Reply;
     pub fn pasetone_expand(section: Bytes, s: usize, out: BytesMut, n: usize) -> Reply;
     pub fn pasetone_read_packets(packets: Bytes, p: usize, out: BytesMut, n: usize) -> Reply;
+    pub fn pasetone_restore(sections: Bytes, s: usize, address: u8, out: BytesMut, n: usize) -> Reply;
 }
 
 impl Reply {

@@ -15,6 +15,9 @@ pub(crate) const fn room_for(entries: usize) -> usize {
 const MOST_PACKET_BYTES: usize = 18;
 const LEAST_PACKET: usize = 8;
 
+/// Most writes of a restore list.
+const MOST_RESTORED: usize = 14;
+
 /// The bytes that a call wrote at the start of a slice of this length: its value says how many.
 fn lent(most: usize, call: impl FnOnce(raw::BytesMut, usize) -> raw::Reply) -> Result<Vec<u8>, Error> {
     let mut out = alloc::vec![0; most];
@@ -254,6 +257,32 @@ impl Transcript {
         let section = lent(room_for(packets.len() / LEAST_PACKET), |out, n| unsafe {
             raw::pasetone_read_packets(packets.as_ptr(), packets.len(), out, n)
         })?;
+        Ok(Transcript { section })
+    }
+
+    /// Where sections end to end, oldest first, left the registers 0x05..0x1f of the chip at `address`: the fewest I2C writes of at most seven registers
+    /// that name each one whose last write was done, with its byte, and no other. Sent behind an open repeater with every write done, they leave those registers
+    /// of any chip as the sections did. No bytes have no sections: the list of no writes.
+    ///
+    /// ```
+    /// use pasetone::{Script, Transcript, Tuner, TunerKind};
+    /// let mut tuner = Tuner::new(TunerKind::R828d, 0x74, 28_800_000)?;
+    /// let mut day = Vec::new();
+    /// for hz in [2_048_000, 900_001, 2_400_000] {
+    ///     day.extend_from_slice(tuner.set_bandwidth(hz, &Script::all_done()).transcript.bytes());
+    /// }
+    /// let list = Transcript::restore(&day, 0x74)?;
+    /// assert_eq!(list.iter().map(|entry| entry.words()).collect::<Vec<_>>(), ["I2C write 0x74: 0x0a <- d8"]);
+    /// # Ok::<(), pasetone::Error>(())
+    /// ```
+    ///
+    /// # Errors
+    ///
+    /// - [`Error::Section`] (12): some of the bytes are no section.
+    pub fn restore(sections: &[u8], address: u8) -> Result<Transcript, Error> {
+        // SAFETY: see raw.rs; the sections are only read, and `out` is another slice.
+        let section =
+            lent(room_for(MOST_RESTORED), |out, n| unsafe { raw::pasetone_restore(sections.as_ptr(), sections.len(), address, out, n) })?;
         Ok(Transcript { section })
     }
 

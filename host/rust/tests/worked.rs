@@ -280,6 +280,26 @@ fn setup_packets() {
     assert_eq!(words, ["demod write, page 1: 0x0001 <- 18", "I2C write 0x74: 0x0a <- d8", "demod write, page 1: 0x0001 <- 10"]);
 }
 
+/// A day ends where its list says: initialise, a call whose write fails, and each chip's own writes.
+#[test]
+fn restore_lists() {
+    let words = |list: &Transcript| list.iter().map(|entry| entry.words()).collect::<Vec<String>>();
+    let mut tuner = r828d();
+    let mut day = tuner.initialize(&done()).transcript.bytes().to_vec();
+    let list = Transcript::restore(&day, 0x74).unwrap();
+    let firsts: Vec<_> = list.iter().map(|entry| entry.bytes[0]).collect();
+    assert_eq!((list.len(), firsts), (4, vec![0x05, 0x0c, 0x13, 0x1a]));
+    assert_eq!(Transcript::restore(list.bytes(), 0x74).as_ref(), Ok(&list));
+    day.extend_from_slice(tuner.set_bandwidth(2_048_000, &done().failing(1).unwrap()).transcript.bytes());
+    let after = Transcript::restore(&day, 0x74).unwrap();
+    let firsts: Vec<_> = after.iter().map(|entry| entry.bytes[0]).collect();
+    assert_eq!(firsts, [0x05, 0x0b, 0x12, 0x19]);
+    assert_eq!(words(&Transcript::restore(&day, 0x34).unwrap()), Vec::<String>::new());
+    assert_eq!(Transcript::restore(&[], 0x74).map(|none| none.len()), Ok(0));
+    assert_eq!(Transcript::restore(&day[1..], 0x74), Err(Error::Section));
+    assert_eq!(Transcript::restore(&day[..day.len() - 1], 0x74), Err(Error::Section));
+}
+
 #[test]
 fn demodulator_and_gpio() {
     let counts = [

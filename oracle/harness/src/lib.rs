@@ -11,6 +11,7 @@ pub mod page;
 pub mod plain;
 pub mod records;
 pub mod requests;
+pub mod restore;
 pub mod run;
 pub mod speed;
 pub mod steps;

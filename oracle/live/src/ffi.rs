@@ -126,4 +126,5 @@ unsafe extern "C" {
     pub fn pasetone_write_settings_1(kind: u64, board: u64, correction: i32, rate: u32, frequency: u64, gain: u64, out: Out, mn: N) -> Reply;
     pub fn pasetone_expand(section: In, sn: N, out: Out, mn: N) -> Reply;
     pub fn pasetone_read_packets(packets: In, pn: N, out: Out, mn: N) -> Reply;
+    pub fn pasetone_restore(sections: In, sn: N, address: u8, out: Out, mn: N) -> Reply;
 }
