@@ -40,8 +40,9 @@
  * Refusals. The reply's `refusal` is 0 or one of the numbers below, in this order: a given record that is none (1); an argument (1 to 4, 6 and 7; 13
  * after 3 and 4, 15 after 12); lent slices too short: room, and the slices for records and bytes that come back (8), outcomes (9), replies (10); then the
  * steps (11, or 2 in the PLL of a tuning). Settings on file are refused by their edition (16), then for the rest (17), then for an IF that a move
- * cannot say (18), then 8. Refused before any step: value, index and count are 0, and every lent byte is as it was. Refused by a step: value 0,
- * and the section and the next records are written, since the steps taken stand. `pasetone_stands` tells the two apart.
+ * cannot say (18), then 8. A malformed table of bands is refused (19) before a frequency that it has no plan for (2), then 8. Refused before any step:
+ * value, index and count are 0, and every lent byte is as it was. Refused by a step: value 0, and the section and the next records are written, since
+ * the steps taken stand. `pasetone_stands` tells the two apart.
  */
 #ifndef PASETONE_H
 #define PASETONE_H
@@ -56,7 +57,8 @@ extern "C" {
 /* Refusal numbers. */
 #define PASETONE_DONE 0         /* not refused */
 #define PASETONE_SETUP 1        /* a kind, board or path that is none, a nominal reference out of 1..4,294,967,295, bytes that are no record */
-#define PASETONE_FREQUENCY 2    /* 0 Hz; Hz plus IF over 64 bits; or no divider in the PLL, or N below 13 or above its cap, when the mux is set already */
+#define PASETONE_FREQUENCY 2    /* 0 Hz; Hz plus IF over 64 bits; or no divider in the PLL, or N below 13 or above its cap, when the mux is set already; by a
+                                   table: in no band, or shifted below 0 or past 64 bits */
 #define PASETONE_RATE 3         /* rate 0 */
 #define PASETONE_CORRECTION 4   /* a corrected reference out of 1..4,294,967,295, or a given reference of 0 */
 /* 5 is not used: it was a register out of 0x05..0x1f, for a call that is gone since 4.0.0. */
@@ -72,6 +74,7 @@ extern "C" {
 #define PASETONE_EDITION 16     /* settings of another edition */
 #define PASETONE_SETTINGS 17    /* bytes that do not end in settings of that edition, or a kind, board or gain index that settings do not have */
 #define PASETONE_NOT_EXPRESSIBLE 18 /* settings of edition 2 whose IF edition 1 cannot say */
+#define PASETONE_TABLE 19       /* bytes that are no well-formed table of bands */
 
 /* Cases as numbers. */
 #define PASETONE_R820T 0
@@ -81,7 +84,7 @@ extern "C" {
 #define PASETONE_HF 0
 #define PASETONE_VHF 1
 #define PASETONE_UHF 2
-#define PASETONE_NO_PATH 3 /* in a plan only */
+#define PASETONE_NO_PATH 3 /* in a plan or a table's band only */
 
 /*
  * The tuner's record: its size, and the place of each field. Bytes that are a record: exactly this long, kind 0 or 1, both references 1 or
@@ -159,6 +162,8 @@ extern "C" {
 /* Sizes of answered bytes. */
 #define PASETONE_GAIN_TABLE_SIZE 116
 #define PASETONE_PLAN_SIZE 3
+#define PASETONE_GENERIC_TABLE_SIZE 27 /* of the generic board's table, one band */
+#define PASETONE_V4_TABLE_SIZE 216     /* of the V4's, eight */
 #define PASETONE_PLL_SIZE 5
 #define PASETONE_IF_REGS_SIZE 3
 #define PASETONE_RESAMPLE_REGS_SIZE 4
@@ -343,25 +348,22 @@ pasetone_reply pasetone_get_if_freq(const uint8_t *tuner, size_t tuner_len);
 /* The 29 gain steps in tenths of a dB, i32 each, into `out` (116 bytes). Value 0. Refuses 1, 8. */
 pasetone_reply pasetone_get_gain_table(const uint8_t *tuner, size_t tuner_len, uint8_t *out, size_t out_len);
 
-/*
- * The tuner's corrected reference, nominal + nominal * ppm / 1,000,000 with the quotient cut toward zero. CHANGES the given record where it
- * lies, in its four bytes at 33, unless refused. Value 0. Refuses 1, 4.
- */
-pasetone_reply pasetone_set_ppm(uint8_t *tuner, size_t tuner_len, int32_t ppm);
-
 /* The notch, for the next tuning: 0 off, else on. CHANGES the given record where it lies, in its byte at 50. Value 0. Refuses 1. */
 pasetone_reply pasetone_apply_notch(uint8_t *tuner, size_t tuner_len, uint8_t on);
 
-/* ---- The driver's calls. `driver` is a record of 29 bytes and stays as it is. ---- */
-
-/*
- * The driver with another correction; the tuner keeps its own. Rate and true rate stay, so the true rate is that of the old correction until a rate is
- * set again. `next`: 29 bytes. Value 0. Refuses 1, 4, 8.
- */
-pasetone_reply pasetone_driver_set_ppm(const uint8_t *driver, size_t driver_len, int32_t ppm, uint8_t *next, size_t next_len);
+/* ---- The driver's calls. `driver` is a record of 29 bytes and stays as it is, but in `set_ppm`. ---- */
 
 /* Value: the driver's corrected reference in Hz. Refuses 1. */
 pasetone_reply pasetone_corrected_xtal_hz(const uint8_t *driver, size_t driver_len);
+
+/*
+ * The correction, of tuner and driver at once: each one's reference is nominal + nominal * ppm / 1,000,000 of its own nominal, the quotient cut toward
+ * zero. CHANGES both given records where they lie, or neither: the tuner's corrected reference in its four bytes at 33, the driver's ppm in its four at 5.
+ * The two slices must not overlap. It takes no step: the next tuning and the next rate go by it, and rate and true rate stay, so the true rate is that of
+ * the old correction until a rate is set again. Before 5.0.0 there were two calls, and a host that made only one of them had two references. Value 0.
+ * Refuses 1 (either record), 4 (either reference).
+ */
+pasetone_reply pasetone_set_ppm(uint8_t *tuner, size_t tuner_len, uint8_t *driver, size_t driver_len, int32_t ppm);
 
 /*
  * The sample rate: IF and filter of the tuner, reset, rate and IF of the demodulator, spectrum by the board's plan for the driver's frequency.
@@ -432,6 +434,32 @@ pasetone_reply pasetone_set_gpio_bit(uint8_t gpio, uint8_t value, const uint8_t 
  * a notch. Value: the Hz for the tuner. Refuses 1, 8.
  */
 pasetone_reply pasetone_plan_tuning(uint64_t board, uint64_t hz, uint8_t *out, size_t out_len);
+
+/*
+ * A board from a table: up to 16 bands, end to end in 27 bytes each. Numbers stand low byte first. A table is well formed if its length is a multiple of 27 up
+ * to 432 and each band has a first Hz not above its last and above the last of the band before, flags of 0 or 1 and a path up to 3; one of no bands is.
+ */
+#define PASETONE_BAND_SIZE 27
+#define PASETONE_BAND_FIRST 0     /* u64, the first Hz that it holds */
+#define PASETONE_BAND_LAST 8      /* u64, the last */
+#define PASETONE_BAND_SHIFT 16    /* i64, added to the Hz for the tuner */
+#define PASETONE_BAND_INVERTED 24 /* 1 if the spectrum is inverted, else 0 */
+#define PASETONE_BAND_PATH 25     /* the path, or 3 for none */
+#define PASETONE_BAND_NOTCH 26    /* 1 if it lies in a notch, else 0 */
+#define PASETONE_TABLE_BANDS 16   /* at most */
+#define PASETONE_TABLE_FOR(n) ((size_t)27 * (n))
+
+/*
+ * The table of a built-in board (0 generic, 1 V4), at the start of `out` (27 or 216 bytes); bytes past it stay. By it the plan is that of `plan_tuning` at
+ * every hz. Value: how many bytes were written. Refuses 1, 8.
+ */
+pasetone_reply pasetone_board_table(uint64_t board, uint8_t *out, size_t out_len);
+
+/*
+ * How the board of a table is to be tuned to `hz`: by the one band that holds it. `out`, 3 bytes, and value as in `plan_tuning`; the value may be 0.
+ * Refuses 19 (not well formed), 2 (in no band, or shifted below 0 or past 64 bits), 8.
+ */
+pasetone_reply pasetone_plan_by_table(const uint8_t *table, size_t table_len, uint64_t hz, uint8_t *out, size_t out_len);
 
 /*
  * The PLL's numbers for an oscillator at `lo` Hz (hz + IF of a tuning) and a reference in Hz, as a tuning of that kind sends them. `out`, 5 bytes:

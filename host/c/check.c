@@ -82,7 +82,7 @@ static void looked(const char *what, pasetone_tune_reply reply, uint32_t tries, 
 static void check_making(void)
 {
     uint8_t old[105] = {0};
-    same("version", pasetone_version(), 0x00040100);
+    same("version", pasetone_version(), 0x00050000);
     done("fresh tuner", pasetone_tuner_new(PASETONE_R828D, 0x74, 28800000, TUNER), 0, 0);
     same("fresh kind", tuner[PASETONE_TUNER_KIND], PASETONE_R828D);
     same("fresh address", tuner[PASETONE_TUNER_ADDRESS], 0x74);
@@ -102,7 +102,7 @@ static void check_making(void)
     refused("short next", pasetone_tuner_new(PASETONE_R828D, 0x74, 28800000, next, 77), PASETONE_ROOM);
     refused("no record", pasetone_get_gain(tuner, 77), PASETONE_SETUP);
     memcpy(old, tuner, sizeof tuner);
-    refused("a record as long as before 4.1.0", pasetone_get_gain(old, sizeof old), PASETONE_SETUP);
+    refused("a record as long as before 5.0.0", pasetone_get_gain(old, sizeof old), PASETONE_SETUP);
 }
 
 /* Document 01: bandwidth 2,048,000, a fresh R828D at 0x74, all done. */
@@ -318,18 +318,32 @@ static void check_tuner(void)
     done("gain table", pasetone_get_gain_table(TUNER, table, sizeof table), 0, 0);
     same("gain 28", table[112] | table[113] << 8, 496);
     memcpy(next, tuner, sizeof next);
-    done("ppm -1", pasetone_set_ppm(NEXT, -1), 0, 0);
-    same("28,799,972", next[33] | next[34] << 8 | next[35] << 16 | (uint32_t)next[36] << 24, 28799972);
-    refused("ppm -1,000,000", pasetone_set_ppm(NEXT, -1000000), PASETONE_CORRECTION);
     done("notch", pasetone_apply_notch(NEXT, 2), 0, 0);
     same("notch", next[PASETONE_TUNER_NOTCH], 1);
 }
 
+/* Document 02, #109: both records or neither; 1 before 4. */
+static void check_correction(void)
+{
+    uint8_t kept[PASETONE_TUNER_SIZE], kept_driver[PASETONE_DRIVER_SIZE];
+    memcpy(next, tuner, sizeof next);
+    memcpy(next_driver, driver, sizeof next_driver);
+    done("ppm -1", pasetone_set_ppm(NEXT, next_driver, sizeof next_driver, -1), 0, 0);
+    same("the tuner's 28,799,972", next[33] | next[34] << 8 | next[35] << 16 | (uint32_t)next[36] << 24, 28799972);
+    done("the driver's reference", pasetone_corrected_xtal_hz(next_driver, sizeof next_driver), 28799972, 0);
+    memcpy(kept, next, sizeof kept);
+    memcpy(kept_driver, next_driver, sizeof kept_driver);
+    refused("ppm -1,000,000", pasetone_set_ppm(NEXT, next_driver, sizeof next_driver, -1000000), PASETONE_CORRECTION);
+    next[PASETONE_TUNER_NOMINAL + 3] = kept[PASETONE_TUNER_NOMINAL + 3] = 0x7f; /* 2,142,729,216 Hz: its corrected one is past 32 bits */
+    refused("ppm 1,100,000 for the tuner's alone", pasetone_set_ppm(NEXT, next_driver, sizeof next_driver, 1100000), PASETONE_CORRECTION);
+    refused("a short driver record", pasetone_set_ppm(NEXT, next_driver, sizeof next_driver - 1, -1000000), PASETONE_SETUP);
+    refused("a short tuner record", pasetone_set_ppm(next, sizeof next - 1, next_driver, sizeof next_driver, -1000000), PASETONE_SETUP);
+    same_bytes("the refused tuner record", next, kept, sizeof kept);
+    same_bytes("the refused driver record", next_driver, kept_driver, sizeof kept_driver);
+}
+
 static void check_driver(void)
 {
-    done("driver's ppm", pasetone_driver_set_ppm(DRIVER, -1, next_driver, sizeof next_driver), 0, 0);
-    done("driver's reference", pasetone_corrected_xtal_hz(next_driver, sizeof next_driver), 28799972, 0);
-    refused("driver's ppm", pasetone_driver_set_ppm(DRIVER, -1000000, next_driver, sizeof next_driver), PASETONE_CORRECTION);
     done("sample rate", pasetone_set_sample_rate(DRIVER, TUNER, 3200000, OUTCOMES, ROOM, next_driver, sizeof next_driver, NEXT), 0, 17);
     done("its IF", pasetone_get_if_freq(NEXT), 3570000, 0);
     same("its rate", next_driver[PASETONE_DRIVER_RATE] | next_driver[PASETONE_DRIVER_RATE + 1] << 8, 3200000 & 0xffff);
@@ -419,6 +433,29 @@ static void check_restore(void)
     same("bytes before the sections", pasetone_restore(day + 1, sizeof day - 1, 0x74, list, sizeof list).refusal, PASETONE_SECTION);
 }
 
+/* Both built-in tables, the plan by one, and each refusal. */
+static void check_tables(void)
+{
+    uint8_t table[PASETONE_TABLE_FOR(PASETONE_TABLE_BANDS)], out[PASETONE_PLAN_SIZE];
+    done("the V4's table", pasetone_board_table(PASETONE_V4, table, PASETONE_V4_TABLE_SIZE), PASETONE_V4_TABLE_SIZE, 0);
+    done("by it, 28,799,999", pasetone_plan_by_table(table, PASETONE_V4_TABLE_SIZE, 28799999, out, 3), 57599999, 0);
+    same("inverted, HF, no notch", out[0] << 16 | out[1] << 8 | out[2], 0x010000);
+    done("by it, 85,000,000", pasetone_plan_by_table(table, PASETONE_V4_TABLE_SIZE, 85000000, out, 3), 85000000, 0);
+    same("VHF, notch", out[0] << 16 | out[1] << 8 | out[2], 0x000101);
+    refused("a cut table", pasetone_plan_by_table(table, PASETONE_V4_TABLE_SIZE - 1, 1, out, 3), PASETONE_TABLE);
+    refused("in no band", pasetone_plan_by_table(table + PASETONE_BAND_SIZE, PASETONE_BAND_SIZE, 1, out, 3), PASETONE_FREQUENCY);
+    refused("no bands", pasetone_plan_by_table(table, 0, 1, out, 3), PASETONE_FREQUENCY);
+    refused("a plan's room", pasetone_plan_by_table(table, PASETONE_V4_TABLE_SIZE, 1, out, 2), PASETONE_ROOM);
+    memset(table + PASETONE_BAND_SHIFT, 0xff, 8);
+    done("shifted by -1", pasetone_plan_by_table(table, PASETONE_BAND_SIZE, 1, out, 3), 0, 0);
+    refused("shifted below 0", pasetone_plan_by_table(table, PASETONE_BAND_SIZE, 0, out, 3), PASETONE_FREQUENCY);
+    table[PASETONE_BAND_PATH] = 4;
+    refused("path 4", pasetone_plan_by_table(table, PASETONE_BAND_SIZE, 1, out, 3), PASETONE_TABLE);
+    done("the generic table", pasetone_board_table(PASETONE_GENERIC, table, sizeof table), PASETONE_GENERIC_TABLE_SIZE, 0);
+    refused("a table's room", pasetone_board_table(PASETONE_GENERIC, table, 26), PASETONE_ROOM);
+    refused("the table of board 2", pasetone_board_table(2, table, sizeof table), PASETONE_SETUP);
+}
+
 /* Both engines, at document 01's worked numbers and at the least N. */
 static void check_pll(void)
 {
@@ -444,6 +481,7 @@ static void check_numbers(void)
     check_pll();
     check_packets();
     check_restore();
+    check_tables();
     done("V4, 28,799,999", pasetone_plan_tuning(PASETONE_V4, 28799999, out, 3), 57599999, 0);
     same("inverted, HF, no notch", out[0] << 16 | out[1] << 8 | out[2], 0x010000);
     done("V4, 28,800,000", pasetone_plan_tuning(PASETONE_V4, 28800000, out, 3), 28800000, 0);
@@ -561,6 +599,7 @@ int main(void)
     check_receivers();
     check_stands();
     check_tuner();
+    check_correction();
     check_driver();
     check_demod();
     check_numbers();

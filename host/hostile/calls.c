@@ -97,9 +97,8 @@ RUN(run_reload, pasetone_reload(S(TUNER), S(OUTCOMES), S(ROOM), S(NEXT)))
 RUN(run_get_gain, pasetone_get_gain(S(TUNER)))
 RUN(run_get_if, pasetone_get_if_freq(S(TUNER)))
 RUN(run_table, pasetone_get_gain_table(S(TUNER), S(OUT)))
-RUN(run_ppm, pasetone_set_ppm(S(TUNER), (int32_t)(uint32_t)a->arg[0]))
+RUN(run_ppm, pasetone_set_ppm(S(TUNER), S(DRIVER), (int32_t)(uint32_t)a->arg[0]))
 RUN(run_notch, pasetone_apply_notch(S(TUNER), (uint8_t)a->arg[0]))
-RUN(run_driver_ppm, pasetone_driver_set_ppm(S(DRIVER), (int32_t)(uint32_t)a->arg[0], S(NEXT_DRIVER)))
 RUN(run_xtal, pasetone_corrected_xtal_hz(S(DRIVER)))
 RUN(run_rate, pasetone_set_sample_rate(S(DRIVER), S(TUNER), (uint32_t)a->arg[0], S(OUTCOMES), S(ROOM), S(NEXT_DRIVER), S(NEXT)))
 RUN(run_board_path, pasetone_apply_input_path(S(TUNER), a->arg[0], S(OUTCOMES), S(REPLIES), S(ROOM), S(NEXT)))
@@ -125,6 +124,8 @@ RUN(run_unpack, pasetone_unpack_fir(S(INPUT), S(OUT)))
 RUN(run_expand, pasetone_expand(S(INPUT), S(OUT)))
 RUN(run_hear, pasetone_read_packets(S(INPUT), S(OUT)))
 RUN(run_restore, pasetone_restore(S(INPUT), (uint8_t)a->arg[0], S(OUT)))
+RUN(run_board_table, pasetone_board_table(a->arg[0], S(OUT)))
+RUN(run_plan_by_table, pasetone_plan_by_table(S(INPUT), a->arg[0], S(OUT)))
 
 /* Arguments. A record has been judged before these are asked. */
 
@@ -138,8 +139,8 @@ ARGUMENT(tuner_args, REFUSE(a->arg[0] > 1 || NO_REFERENCE(a->arg[2]), 1))
 ARGUMENT(driver_args, a->arg[0] > 1 || NO_REFERENCE(a->arg[1]) ? 1 : REFUSE(corrected(a->arg[1], (int32_t)(uint32_t)a->arg[2]) == 0, 4))
 ARGUMENT(hz_args, REFUSE(a->arg[0] == 0 || a->arg[0] > UINT64_MAX - number_at(a->before[TUNER] + PASETONE_TUNER_IF, 8), 2))
 ARGUMENT(path_args, REFUSE(a->arg[0] > 2, 1))
-ARGUMENT(ppm_args, REFUSE(corrected(number_at(a->before[TUNER] + PASETONE_TUNER_NOMINAL, 4), (int32_t)(uint32_t)a->arg[0]) == 0, 4))
-ARGUMENT(driver_ppm_args, REFUSE(corrected(number_at(a->before[DRIVER] + PASETONE_DRIVER_NOMINAL, 4), (int32_t)(uint32_t)a->arg[0]) == 0, 4))
+#define OUT_OF_RANGE(slot, field) (corrected(number_at(a->before[slot] + (field), 4), (int32_t)(uint32_t)a->arg[0]) == 0)
+ARGUMENT(ppm_args, REFUSE(OUT_OF_RANGE(TUNER, PASETONE_TUNER_NOMINAL) || OUT_OF_RANGE(DRIVER, PASETONE_DRIVER_NOMINAL), 4))
 ARGUMENT(rate_args, rate_model((uint32_t)a->arg[0], driver_xtal(a->before[DRIVER])))
 ARGUMENT(xtal_args, REFUSE((uint32_t)a->arg[1] == 0, 4))
 ARGUMENT(rate_xtal_args, rate_model((uint32_t)a->arg[0], (uint32_t)a->arg[1]))
@@ -207,13 +208,20 @@ static uint32_t measured_args(const struct attempt *a)
     return measured_model(a, &bytes, &length);
 }
 
+static uint32_t table_args(const struct attempt *a)
+{
+    uint64_t tuned;
+    uint8_t plan[3];
+    return table_model(a->before[INPUT], a->n[INPUT], a->arg[0], &tuned, plan);
+}
+
 /* Values of done calls. */
 
 #define VALUE(name, expression) \
     static uint64_t name(const struct attempt *a) { return (void)a, (expression); }
 
 VALUE(nothing, 0)
-VALUE(version_value, 0x00040100)
+VALUE(version_value, 0x00050000)
 VALUE(asked, a->arg[0])
 VALUE(gain_set, number_at(a->at[NEXT] + PASETONE_TUNER_GAIN, 4))
 VALUE(gain_held, number_at(a->before[TUNER] + PASETONE_TUNER_GAIN, 4))
@@ -266,6 +274,16 @@ static uint64_t measured_value(const struct attempt *a)
     return length;
 }
 
+VALUE(board_table_value, needed(a, OUT))
+
+static uint64_t tuned_value(const struct attempt *a)
+{
+    uint64_t tuned;
+    uint8_t plan[3];
+    table_model(a->before[INPUT], a->n[INPUT], a->arg[0], &tuned, plan);
+    return tuned;
+}
+
 #define FREE (HAS(OUTCOMES) | HAS(ROOM))
 #define STEPS (HAS(TUNER) | FREE | HAS(NEXT))
 
@@ -284,10 +302,9 @@ const struct call calls[] = {
     {"get_gain", COMMON, HAS(TUNER), 0, 0, 0, "1", run_get_gain, any, gain_held},
     {"get_if_freq", COMMON, HAS(TUNER), 0, 0, 0, "1", run_get_if, any, if_held},
     {"get_gain_table", COMMON, HAS(TUNER) | HAS(OUT), 0, 0, 116, "1 8", run_table, any, nothing},
-    {"set_ppm", PPM, HAS(TUNER), 0, 0, 0, "1 4", run_ppm, ppm_args, nothing},
     {"apply_notch", NOTCH, HAS(TUNER), 0, 0, 0, "1", run_notch, any, nothing},
-    {"driver_set_ppm", COMMON, HAS(DRIVER) | HAS(NEXT_DRIVER), 0, 0, 0, "1 4 8", run_driver_ppm, driver_ppm_args, nothing},
     {"corrected_xtal_hz", COMMON, HAS(DRIVER), 0, 0, 0, "1", run_xtal, any, xtal_value},
+    {"set_ppm", PPM, HAS(TUNER) | HAS(DRIVER), 0, 0, 0, "1 4", run_ppm, ppm_args, nothing},
     {"set_sample_rate", COMMON, STEPS | HAS(DRIVER) | HAS(NEXT_DRIVER), 17, 0, 0, "1 3 13 8 9 11", run_rate, rate_args, nothing},
     {"apply_input_path", COMMON, STEPS | HAS(REPLIES), 10, 3, 0, "1 8 9 10 11", run_board_path, path_args, nothing},
     {"init_baseband", COMMON, FREE, 45, 0, 0, "8 9 11", run_baseband, any, nothing},
@@ -303,6 +320,8 @@ const struct call calls[] = {
     {"set_gpio_output", COMMON, FREE | HAS(REPLIES), 4, 2, 0, "6 8 9 10 11", run_output, pin_args, nothing},
     {"set_gpio_bit", COMMON, FREE | HAS(REPLIES), 2, 1, 0, "6 8 9 10 11", run_bit, pin_args, nothing},
     {"plan_tuning", COMMON, HAS(OUT), 0, 0, 3, "1 8", run_plan, board_args, plan_value},
+    {"board_table", BUILT_IN, HAS(OUT), 0, 0, 0, "1 8", run_board_table, board_args, board_table_value},
+    {"plan_by_table", BANDS, HAS(INPUT) | HAS(OUT), 0, 0, 3, "19 2 8", run_plan_by_table, table_args, tuned_value},
     {"plan_pll", COMMON, HAS(OUT), 0, 0, 5, "1 4 2 8", run_pll, pll_args, rest_value},
     {"plan_pll_by_worksheet", COMMON, HAS(OUT), 0, 0, 5, "1 4 2 8", run_worksheet, pll_args, rest_value},
     {"if_freq_regs", COMMON, HAS(OUT), 0, 0, 3, "4 8", run_if_regs, xtal_args, nothing},

@@ -80,6 +80,8 @@ static void spoil(void)
         now.at[NEXT][PASETONE_TUNER_SHADOW + 0x14 - PASETONE_FIRST_REGISTER] ^= 1;
     } else if (testing("mark") && now.reply.count > 0 && (now.call->slots & HAS(NEXT))) {
         now.at[NEXT][PASETONE_TUNER_DOUBTFUL] ^= 1;
+    } else if (testing("correction") && now.call->way == PPM && now.reply.refusal == 0) {
+        memcpy(now.at[DRIVER], now.before[DRIVER], PASETONE_DRIVER_SIZE);
     } else if (testing("index") && now.reply.refusal == 11) {
         now.reply.index++;
     } else if (testing("number") && now.reply.refusal == 9) {

@@ -22,13 +22,15 @@ enum way {
     COMMON,
     TUNING,    /* may be refused 2 by the PLL */
     CHIP_PATH, /* takes no step on an R820T */
-    PPM,       /* changes the record where it lies, as does NOTCH */
-    NOTCH,
+    PPM,       /* changes the tuner's record and the driver's where they lie */
+    NOTCH,     /* changes the tuner's */
     READER,
     PARTING,       /* compares the sections of INPUT and SECOND */
     SETTINGS_READ, /* reads settings at the end of INPUT */
     SETTINGS_WRITE, /* writes an image of the arguments into OUT */
     SETTINGS_MOVE,  /* writes the image at the end of INPUT in the other edition into OUT */
+    BANDS,     /* plans by the table in INPUT */
+    BUILT_IN,  /* answers a board's table */
     EXPANDING, /* answers as many bytes as its input asks for, as do those behind it */
     HEARING,
     RESTORING
@@ -132,6 +134,12 @@ void make_sections(struct attempt *a);
 /* What a call that answers as many bytes as its input asks for must leave in OUT: its refusal, bytes, and how many. */
 int is_measured(const struct call *call);
 uint32_t measured_model(const struct attempt *a, const uint8_t **bytes, size_t *length);
+/* bands.c: boards from a table as document 02 has them. 0 with the tuner's Hz and the plan's three bytes, or 19 or 2. */
+uint32_t table_model(const uint8_t *table, size_t n, uint64_t hz, uint64_t *tuned, uint8_t *plan);
+size_t built_in_model(uint64_t board, uint8_t *table);
+void make_table(struct attempt *a);
+/* the plan or the table that a done call must have left at the start of OUT */
+const char *judge_bands(const struct attempt *a);
 
 /* judge.c: what is wrong, or a null pointer */
 const char *judge(const struct attempt *a);

@@ -23,36 +23,44 @@ static size_t written(const struct attempt *a, int slot)
     }
 }
 
-static int in_place(const struct call *call)
+/* `set_ppm` changes both given records, `apply_notch` the tuner's. */
+static int in_place(const struct call *call, int slot)
 {
-    return call->way == PPM || call->way == NOTCH;
+    return (slot == TUNER && (call->way == PPM || call->way == NOTCH)) || (slot == DRIVER && call->way == PPM);
 }
 
-/* `set_ppm` and `apply_notch` change the given record: these bytes of it, and no others. */
-static const char *judge_in_place(const struct attempt *a)
+/* This field of a given record has changed, and no other byte of it. */
+static const char *judge_field(const struct attempt *a, int slot, size_t at, unsigned width, uint64_t must)
 {
-    size_t at = a->call->way == PPM ? PASETONE_TUNER_CORRECTED : PASETONE_TUNER_NOTCH;
-    unsigned width = a->call->way == PPM ? 4 : 1;
-    uint64_t nominal = number_at(a->before[TUNER] + PASETONE_TUNER_NOMINAL, 4);
-    uint64_t must = a->call->way == PPM ? corrected(nominal, (int32_t)(uint32_t)a->arg[0]) : (uint8_t)a->arg[0] != 0;
-    if (memcmp(a->at[TUNER], a->before[TUNER], at) != 0 || !same_from(a, TUNER, at + width)) {
+    if (memcmp(a->at[slot], a->before[slot], at) != 0 || !same_from(a, slot, at + width)) {
         return "the record has changed past its field";
     }
-    return number_at(a->at[TUNER] + at, width) == must ? NULL : "the record's field is wrong";
+    return number_at(a->at[slot] + at, width) == must ? NULL : "the record's field is wrong";
+}
+
+static const char *judge_in_place(const struct attempt *a)
+{
+    uint64_t nominal = number_at(a->before[TUNER] + PASETONE_TUNER_NOMINAL, 4);
+    const char *wrong;
+    if (a->call->way == NOTCH) {
+        return judge_field(a, TUNER, PASETONE_TUNER_NOTCH, 1, (uint8_t)a->arg[0] != 0);
+    }
+    wrong = judge_field(a, TUNER, PASETONE_TUNER_CORRECTED, 4, corrected(nominal, (int32_t)(uint32_t)a->arg[0]));
+    return wrong != NULL ? wrong : judge_field(a, DRIVER, PASETONE_DRIVER_PPM, 4, (uint32_t)a->arg[0]);
 }
 
 static const char *judge_bytes(const struct attempt *a, int stands)
 {
     int slot;
     for (slot = 0; slot < SLOTS; slot++) {
-        if (!(a->call->slots & HAS(slot)) || (stands && slot == TUNER && in_place(a->call))) {
+        if (!(a->call->slots & HAS(slot)) || (stands && in_place(a->call, slot))) {
             continue;
         }
         if (!same_from(a, slot, stands ? written(a, slot) : 0)) {
             return "a byte has changed that should have stayed";
         }
     }
-    return stands && in_place(a->call) ? judge_in_place(a) : NULL;
+    return stands && in_place(a->call, TUNER) ? judge_in_place(a) : NULL;
 }
 
 /* A driver's rates: of a fresh one as given and 0; after a call that has set one as asked and the true one; else as they were. */
@@ -250,6 +258,9 @@ const char *judge(const struct attempt *a)
     wrong = judge_bytes(a, 1);
     if (wrong == NULL && (a->call->way == SETTINGS_WRITE || a->call->way == SETTINGS_MOVE)) {
         wrong = judge_image(a);
+    }
+    if (wrong == NULL && (a->call->way == BANDS || a->call->way == BUILT_IN)) {
+        wrong = judge_bands(a);
     }
     return wrong != NULL ? wrong : judge_next(a);
 }

@@ -34,6 +34,8 @@ void keep_records(const struct attempt *a)
     }
     if (a->call->slots & HAS(NEXT_DRIVER)) {
         memcpy(drivers[i], a->at[NEXT_DRIVER], PASETONE_DRIVER_SIZE);
+    } else if (a->call->way == PPM) {
+        memcpy(drivers[i], a->at[DRIVER], PASETONE_DRIVER_SIZE);
     }
 }
 
@@ -174,6 +176,10 @@ static void make_input(struct attempt *a)
     }
     if (a->call->way == RESTORING) {
         make_sections(a);
+        return;
+    }
+    if (a->call->way == BANDS) {
+        make_table(a);
         return;
     }
     if (a->call->way == READER || a->call->way == PARTING || a->call->way == EXPANDING || a->call->way == HEARING) {

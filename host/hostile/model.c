@@ -154,6 +154,7 @@ size_t needed(const struct attempt *a, enum slot slot)
 {
     const struct call *call = a->call;
     const uint8_t *bytes;
+    uint8_t table[PASETONE_TABLE_FOR(PASETONE_TABLE_BANDS)];
     size_t length;
     switch (slot) {
     case OUTCOMES:
@@ -167,6 +168,9 @@ size_t needed(const struct attempt *a, enum slot slot)
     case NEXT_DRIVER:
         return PASETONE_DRIVER_SIZE;
     case OUT:
+        if (call->way == BUILT_IN) {
+            return built_in_model(a->arg[0], table);
+        }
         if (!is_measured(call)) {
             return call->out;
         }

@@ -8,6 +8,7 @@ use lib.IntN.{ℤ, pos}
 use lib.ListN.{length, take, drop}
 use mir.Syntax.{w32}
 use mir.Val.{ofZ, toZ}
+use Rattle.bands.specs.Tables.{planBy}
 use Rattle.board.specs.declared.BoardRead.{BoardRead}
 use Rattle.board.specs.declared.BoardRead.the-variants as board-read
 use Rattle.board.specs.declared.Plan.{Plan}
@@ -40,6 +41,10 @@ planBytes p = bitOf (p .inverted) ∷ routeNumber (p .path) ∷ bitOf (p .notch)
 unfoldable pub planInto : BoardRead → ℕ → List ℕ → Given
 planInto board-read.Refused hz out = given (Refused 1) out
 planInto (board-read.Is b) hz out = lentTo 0 (planOf b hz .hz) (planBytes (planOf b hz)) out
+
+-- the same by a table. Document 02, #113: "new 19 table, for a malformed table; then 2 for a frequency in no band or shifted below 0 or past u64"; then 8
+abbrev pub planByInto : List ℕ → ℕ → List ℕ → Given
+planByInto table hz out = lentTo (planBy table hz .refusal) (planBy table hz .plan .hz) (planBytes (planBy table hz .plan)) out
 
 -- signed numbers of 32 bits as bytes, low byte first, and the first n numbers of such bytes
 unfoldable pub wordBytes : List ℤ → List ℕ

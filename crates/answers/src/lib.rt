@@ -5,12 +5,13 @@ ghost use mathlib.Core.Path.{_≡_};
 ghost use Prim.Native.Nat.{_+_, _*_, _<_, _≤_};
 ghost use lib.ListN.{length, take, drop};
 ghost use lib.Seq.{sets};
-ghost use Rattle.answers.specs.Lent.{bitOf, ifInto, packInto, planInto, resampleInto, tableInto, unpackInto, wordBytes, wordsIn};
+ghost use Rattle.answers.specs.Lent.{bitOf, ifInto, packInto, planBytes, planByInto, planInto, resampleInto, tableInto, unpackInto, wordBytes, wordsIn};
 ghost use Rattle.answers.specs.Sheets.{kindNamed, laidOf, pllInto, worksheetInto};
 ghost use Rattle.lending.specs.Lent.{given, lentTo};
 ghost use Rattle.board.specs.Numbers.{boardOf};
 ghost use Rattle.wire.specs.Bytes.{leValue};
 use board::BoardRead;
+use board::Plan;
 use chip::Answer;
 use pll::Kind;
 use r82xx::Tuner;
@@ -64,6 +65,19 @@ fn bit(b: bool) -> u8
     if b { 1 } else { 0 }
 }
 
+// A plan as it is lent: the tuner's frequency as value, and three bytes.
+fn lend_plan(refusal: u8, plan: Plan, out: &mut [u8]) -> Answer
+    ensures { λ r. ⌜ given r (now (out .exit)) ≡ lentTo refusal (plan .hz) (planBytes plan) (now (out .entry)) ⌝ }
+{
+    let path = plan.path;
+    let bytes = [
+        bit(plan.inverted),
+        board::route_number(path),
+        bit(plan.notch),
+    ];
+    lending::lend(refusal, plan.hz, &bytes, out)
+}
+
 // A number that names no board is refused 1, one past a byte too.
 pub fn plan_tuning(board: u64, hz: u64, out: &mut [u8]) -> Answer
     ensures { λ r. ⌜ given r (now (out .exit)) ≡ planInto (boardOf board) hz (now (out .entry)) ⌝ }
@@ -74,14 +88,15 @@ pub fn plan_tuning(board: u64, hz: u64, out: &mut [u8]) -> Answer
     let BoardRead::Is(b) = board::board_of(board as u8) else {
         return Answer::Refused(chip::SETUP);
     };
-    let plan = board::plan_tuning(b, hz);
-    let path = plan.path;
-    let bytes = [
-        bit(plan.inverted),
-        board::route_number(path),
-        bit(plan.notch),
-    ];
-    lending::lend(0, plan.hz, &bytes, out)
+    lend_plan(0, board::plan_tuning(b, hz), out)
+}
+
+// The same by a table: 19, then 2, then 8.
+pub fn plan_by_table(table: &[u8], hz: u64, out: &mut [u8]) -> Answer
+    ensures { λ r. ⌜ given r (now (out .exit)) ≡ planByInto (now (table .entry)) hz (now (out .entry)) ⌝ }
+{
+    let planned = bands::plan_by_table(table, hz);
+    lend_plan(planned.refusal, planned.plan, out)
 }
 
 fn word(s: &[u8], at: usize) -> u32

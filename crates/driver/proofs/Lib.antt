@@ -5,3 +5,5 @@ pub mod Paths
 pub mod Rates
 pub mod Trues
 pub mod Lengths
+pub mod Corrections
+pub mod Lent

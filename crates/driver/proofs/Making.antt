@@ -1,8 +1,7 @@
--- The driver's record made, asked for its reference, and given another ppm: case by case, from references that were worked out apart.
+-- The driver's record made, and asked for its reference: case by case, from references that were worked out apart.
 -- Assumes nothing.
 use Prim.Native.Nat.{ℕ, _≤_, _<_}
 use mathlib.Core.Path.{_≡_, sym, ap, _∙_}
-use mathlib.Core.List.{[]}
 use borrow.Author.Tests.{le-leb, lt-leb}
 use lib.IntN.{ℤ}
 use Rattle.board.specs.declared.Board.{Board}
@@ -10,10 +9,8 @@ use Rattle.board.specs.declared.BoardRead.{BoardRead}
 use Rattle.board.specs.declared.BoardRead.the-variants as board-read
 use Rattle.board.specs.Numbers.{boardOf}
 use Rattle.chip.specs.declared.Answer.the-variants.{Done, Refused}
-use Rattle.chip.specs.Calls.{called}
-use Rattle.driver.specs.declared.Driver.{Driver}
-use Rattle.driver.specs.Record.{driver, driverOf, made, madeOn, nothingMade, withPpm, xtalBy, xtalOf}
-use Rattle.driver.specs.Calls.{driverPpmCall, xtalAnswer}
+use Rattle.driver.specs.Record.{driver, driverOf, made, madeOn, nothingMade, xtalBy}
+use Rattle.driver.specs.Calls.{xtalAnswer}
 
 -- `new`: the board's number was read as b
 module _ (board nominal : ℕ) (ppm : ℤ) (frequency rate : ℕ) (b : BoardRead) (read : b ≡ boardOf board) where
@@ -48,18 +45,3 @@ xtal-refused xtal y e h = rw (← e, lt-leb 1 xtal h)
 pub xtal-told : (xtal y : ℕ) → xtal ≡ y → 1 ≤ xtal → Done xtal ≡ xtalAnswer y
 unfolding xtalAnswer
 xtal-told xtal y e h = rw (← e, le-leb 1 xtal h)
-
--- the ppm call: the reference that the record has, and the one that it would have
-module _ (d : Driver) (ppm : ℤ) (old : ℕ) (had : old ≡ xtalOf d) where
-  pub ppm-unsound : old < 1 → called d [] 0 (Refused 1) ≡ driverPpmCall ppm d
-  unfolding driverPpmCall
-  ppm-unsound h = rw (← had, lt-leb 1 old h)
-
-  module _ (whole : 1 ≤ old) (new : ℕ) (worked : new ≡ xtalBy (d .nominal) ppm) where
-    pub ppm-bad : new < 1 → called d [] 0 (Refused 4) ≡ driverPpmCall ppm d
-    unfolding driverPpmCall
-    ppm-bad h = rw (← had, le-leb 1 old whole, ← worked, lt-leb 1 new h)
-
-    pub ppm-good : 1 ≤ new → called (withPpm d ppm) [] 0 (Done 0) ≡ driverPpmCall ppm d
-    unfolding driverPpmCall
-    ppm-good h = rw (← had, le-leb 1 old whole, ← worked, le-leb 1 new h)

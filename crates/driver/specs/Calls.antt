@@ -4,7 +4,7 @@
 use Prim.Native.Nat.{ℕ}
 use mathlib.Core.Bool.{Bool, _&&_, cond}
 use mathlib.Core.List.{List, []}
-use lib.Dec.{leb}
+use lib.Dec.{eqb, leb}
 use lib.IntN.{ℤ}
 use Rattle.board.specs.declared.PathRead.{PathRead}
 use Rattle.board.specs.declared.PathRead.the-variants as path-read
@@ -20,7 +20,7 @@ use Rattle.chip.specs.Courses.Course.{Still, Taken}
 use Rattle.chip.specs.Steps.{goes}
 use Rattle.registers.specs.Rates.{rateNumber, trueOf}
 use Rattle.r82xx.specs.declared.Tuner.{Tuner}
-use Rattle.r82xx.specs.Record.{sound, withChip, withIf}
+use Rattle.r82xx.specs.Record.{sound, soundBy, withChip, withCorrected, withIf}
 use Rattle.driver.specs.declared.Driver.{Driver}
 use Rattle.driver.specs.Record.{soundDriver, withPpm, withRate, xtalBy, xtalOf}
 use Rattle.driver.specs.Programs.{boardPathSteps, ifFor, sampleRateSteps}
@@ -29,13 +29,6 @@ use Rattle.driver.specs.Programs.{boardPathSteps, ifFor, sampleRateSteps
 unfoldable pub xtalAnswer : ℕ → Answer
 xtalAnswer xtal = cond (leb 1 xtal) (Done xtal) (Refused 1)
 
--- "Its ppm call, our addition, refuses 4 likewise": the ppm alone is stored
-unfoldable pub driverPpmCall : ℤ → Driver → Called Driver
-driverPpmCall ppm d =
-    cond (soundDriver d)
-    (cond (leb 1 (xtalBy (d .nominal) ppm)) (called (withPpm d ppm) [] 0 (Done 0)) (called d [] 0 (Refused 4)))
-    (called d [] 0 (Refused 1))
-
 -- both records
 pub record Both : Type 0 where
   pub tuner : Tuner
@@ -43,6 +36,38 @@ pub record Both : Type 0 where
 
 abbrev pub both : Tuner → Driver → Both
 both t d = record { tuner = t; driver = d }
+
+-- Document 02, #109: "one call works out both corrected references from their own nominals and sets both, or refuses and sets neither"; "4 if either is out of
+-- its range". The tuner keeps its corrected reference, the driver its ppm
+abbrev pub correctionRow : ℤ → Tuner → Driver → Course Both
+correctionRow ppm t d =
+    cond (leb 1 (xtalBy (t .nominal) ppm) && leb 1 (xtalBy (d .nominal) ppm))
+    (Still (both (withCorrected t (xtalBy (t .nominal) ppm)) (withPpm d ppm)) (Done 0))
+    (Still (both t d) (Refused 4))
+
+-- 1 for either record stands before it
+unfoldable pub correctionResult : ℤ → List ℕ → Tuner → Driver → List ℕ → Called Both
+correctionResult ppm os t d room = leftBy (sound t && soundDriver d) (correctionRow ppm t d) os (t .chip) (both t d) room
+
+-- nothing is lent to it
+abbrev pub correctionCall : ℤ → Tuner → Driver → Called Both
+correctionCall ppm t d = correctionResult ppm [] t d []
+
+-- on numbers, the tuner's nominal and corrected reference, the driver's nominal and ppm, and the ppm asked: what refuses it, 0 for nothing, what is stored
+-- where the records lie, and what is answered
+unfoldable pub correctionRefusal : ℕ → ℕ → ℕ → ℤ → ℤ → ℕ
+correctionRefusal nominal corrected other had ppm =
+    cond (soundBy nominal corrected && leb 1 (xtalBy other had)) (cond (leb 1 (xtalBy nominal ppm) && leb 1 (xtalBy other ppm)) 0 4) 1
+
+unfoldable pub keptReference : ℕ → ℕ → ℕ → ℤ → ℤ → ℕ
+keptReference nominal corrected other had ppm = cond (eqb (correctionRefusal nominal corrected other had ppm) 0) (xtalBy nominal ppm) corrected
+
+unfoldable pub keptPpm : ℕ → ℕ → ℕ → ℤ → ℤ → ℤ
+keptPpm nominal corrected other had ppm = cond (eqb (correctionRefusal nominal corrected other had ppm) 0) ppm had
+
+unfoldable pub correctionAnswer : ℕ → ℕ → ℕ → ℤ → ℤ → Answer
+correctionAnswer nominal corrected other had ppm =
+    cond (eqb (correctionRefusal nominal corrected other had ppm) 0) (Done 0) (Refused (correctionRefusal nominal corrected other had ppm))
 
 -- Document 02, #103: "Both the demod call and `set_sample_rate` refuse", here with the corrected reference
 abbrev pub rateRefusal : ℕ → Driver → ℕ

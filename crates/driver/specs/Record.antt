@@ -12,14 +12,19 @@ use Rattle.board.specs.declared.BoardRead.the-variants as board-read
 use Rattle.board.specs.Numbers.{boardOf}
 use Rattle.chip.specs.declared.Answer.{Answer}
 use Rattle.chip.specs.declared.Answer.the-variants.{Done, Refused}
+use Rattle.reference.specs.declared.Corrected.{Corrected}
+use Rattle.reference.specs.declared.Corrected.the-variants as corrected-variants
 use Rattle.reference.specs.Correct.{correctedOf}
-use Rattle.r82xx.specs.Calls.{keptBy}
 use Rattle.driver.specs.declared.Driver.{Driver}
 use Rattle.driver.specs.declared.Made.{Made}
 
 -- "The tuner and the driver each keep their own": the driver's corrected reference is no field, but worked out; 0 where it is out of its range
+abbrev pub valueOf : Corrected → ℕ
+valueOf (corrected-variants.Is v) = v
+valueOf corrected-variants.Refused = 0
+
 unfoldable pub xtalBy : ℕ → ℤ → ℕ
-xtalBy nominal ppm = keptBy (correctedOf nominal ppm) 0
+xtalBy nominal ppm = valueOf (correctedOf nominal ppm)
 
 abbrev pub xtalOf : Driver → ℕ
 xtalOf d = xtalBy (d .nominal) (d .ppm)

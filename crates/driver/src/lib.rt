@@ -1,6 +1,6 @@
-// The driver's record and its calls: `corrected_xtal_hz`, `set_sample_rate` and `apply_input_path` of src/lib.rs, with our making and ppm call.
+// The driver's record and its calls: `corrected_xtal_hz`, `set_sample_rate` and `apply_input_path` of src/lib.rs, with our making and the one correction.
 // Document 01, "The record": "The driver's record holds board, nominal .., ppm, frequency and rate, all given at its making"; "`set_sample_rate` takes
-// both records". Document 02, #104: the true rate beside the rate asked. `sample_rate_steps` and `path_steps` are what a larger call holds: they look at no board.
+// both records". Document 02, #104: the true rate beside the rate asked; #109: one correction of both records. `sample_rate_steps` and `path_steps` are what a larger call holds: they look at no board.
 ghost use mathlib.Core.Path.{_≡_};
 ghost use mathlib.Core.List.{[]};
 ghost use Prim.Native.Nat.{_+_, _*_, _≤_, _<_};
@@ -11,7 +11,7 @@ ghost use Rattle.chip.specs.Steps.{due, inRoom, onRoom, run};
 ghost use Rattle.registers.specs.Rates.{rateNumber};
 ghost use Rattle.driver.specs.Record.{driverOf, nothingMade, xtalBy, xtalOf};
 ghost use Rattle.driver.specs.Programs.{anewSteps, boardPathSteps, filterSteps, ifFor, levelFor, sampleRateSteps, tunerPath};
-ghost use Rattle.driver.specs.Calls.{both, boardResult, driverPpmCall, rateRefusal, rateResult, ratedBy, retuned, xtalAnswer};
+ghost use Rattle.driver.specs.Calls.{both, boardResult, correctionAnswer, correctionCall, correctionRefusal, keptPpm, keptReference, rateRefusal, rateResult, ratedBy, retuned, xtalAnswer};
 use board::Board;
 use board::BoardRead;
 use board::Path;
@@ -40,11 +40,11 @@ pub struct Made {
     pub driver: Driver,
 }
 
-// What the ppm call hands back: the next record, its answer, and that it made no entries.
+// What a correction hands back: both next records and its answer. It makes no entries.
 pub struct Told {
+    pub tuner: Tuner,
     pub driver: Driver,
     pub answer: Answer,
-    pub count: usize,
 }
 
 // What `set_sample_rate` hands back: both next records, its answer, how many entries it made.
@@ -214,6 +214,80 @@ fn with_rate(d: Driver, rate: u32, xtal: u32, went: Went) -> Driver
     next
 }
 
+// The number that a correction is refused by: 1 for either record, then 4 for either reference, 0 for none. Given are the tuner's nominal and corrected
+// reference, the driver's nominal and ppm, and the ppm asked.
+fn correction_refusal(nominal: u32, corrected: u32, other: u32, had: i32, ppm: i32) -> u8
+    ensures { λ r. ⌜ r ≡ correctionRefusal nominal corrected other had ppm ⌝ }
+{
+    let whole = r82xx::sound(nominal, corrected) & (1 <= xtal_by(other, had));
+    if !whole {
+        return chip::SETUP;
+    }
+    let taken = (1 <= xtal_by(nominal, ppm)) & (1 <= xtal_by(other, ppm));
+    if !taken {
+        return chip::CORRECTION;
+    }
+    0
+}
+
+// The tuner's corrected reference behind it: the old one where it is refused.
+fn kept_reference(nominal: u32, corrected: u32, other: u32, had: i32, ppm: i32) -> u32
+    ensures { λ r. ⌜ r ≡ keptReference nominal corrected other had ppm ⌝ }
+{
+    if correction_refusal(nominal, corrected, other, had, ppm) != 0 {
+        return corrected;
+    }
+    xtal_by(nominal, ppm)
+}
+
+// The driver's ppm behind it, likewise.
+fn kept_ppm(nominal: u32, corrected: u32, other: u32, had: i32, ppm: i32) -> i32
+    ensures { λ r. ⌜ r ≡ keptPpm nominal corrected other had ppm ⌝ }
+{
+    if correction_refusal(nominal, corrected, other, had, ppm) != 0 {
+        return had;
+    }
+    ppm
+}
+
+fn correction_answer(nominal: u32, corrected: u32, other: u32, had: i32, ppm: i32) -> Answer
+    ensures { λ r. ⌜ r ≡ correctionAnswer nominal corrected other had ppm ⌝ }
+{
+    let number = correction_refusal(nominal, corrected, other, had, ppm);
+    if number != 0 {
+        return Answer::Refused(number);
+    }
+    Answer::Done(0)
+}
+
+// Both records are changed where they lie, or neither. It calls covered functions on numbers and stores a field of each record, with no branch: a refusal
+// stores what was there.
+pub fn set_ppm(t: &mut Tuner, d: &mut Driver, ppm: i32) -> Answer
+    ensures { λ r. ⌜ called (both (now (t .exit)) (now (d .exit))) [] 0 r ≡ correctionCall ppm (now (t .entry)) (now (d .entry)) ⌝ }
+{
+    let nominal = t.nominal;
+    let corrected = t.corrected;
+    let other = d.nominal;
+    let had = d.ppm;
+    t.corrected = kept_reference(nominal, corrected, other, had, ppm);
+    d.ppm = kept_ppm(nominal, corrected, other, had, ppm);
+    correction_answer(nominal, corrected, other, had, ppm)
+}
+
+// `set_ppm` for callers that hold the records by value: they are lent from here, and whoever calls this needs no walk by hand.
+pub fn corrected(t: Tuner, d: Driver, ppm: i32) -> Told
+    ensures { λ r. ⌜ called (both (r .tuner) (r .driver)) [] 0 (r .answer) ≡ correctionCall ppm t d ⌝ }
+{
+    let mut tuner = t;
+    let mut driver = d;
+    let answer = set_ppm(&mut tuner, &mut driver, ppm);
+    Told {
+        tuner: tuner,
+        driver: driver,
+        answer: answer,
+    }
+}
+
 impl Driver {
     // board: 0 generic, 1 V4.
     pub fn new(board: u64, nominal: u64, ppm: i32, frequency: u64, rate: u32) -> Made
@@ -253,33 +327,6 @@ impl Driver {
             return Answer::Refused(chip::SETUP);
         }
         Answer::Done(xtal as u64)
-    }
-
-    // The ppm alone is stored; the tuner's record and the demodulator are the caller's to bring along.
-    pub fn set_ppm(self, ppm: i32) -> Told
-        ensures { λ r. ⌜ called (r .driver) [] (r .count) (r .answer) ≡ driverPpmCall ppm self ⌝ }
-    {
-        if xtal_by(self.nominal, self.ppm) < 1 {
-            return Told {
-                driver: self,
-                answer: Answer::Refused(chip::SETUP),
-                count: 0,
-            };
-        }
-        if xtal_by(self.nominal, ppm) < 1 {
-            return Told {
-                driver: self,
-                answer: Answer::Refused(chip::CORRECTION),
-                count: 0,
-            };
-        }
-        let mut next = self;
-        next.ppm = ppm;
-        Told {
-            driver: next,
-            answer: Answer::Done(0),
-            count: 0,
-        }
     }
 
     // The number that a rate is refused by with this record's reference, 0 where it is taken.

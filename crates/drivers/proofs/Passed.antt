@@ -2,32 +2,35 @@
 -- Assumes nothing.
 use Prim.Native.Nat.{ℕ, _<_, _≤_}
 use mathlib.Core.Path.{_≡_, refl, sym, ap, _∙_}
-use mathlib.Core.Bool.{Bool, true, false, _&&_, _||_, cond}
-use mathlib.Core.List.{List}
+use mathlib.Core.Bool.{Bool, true, false, _&&_, _||_, cond, false≢true}
+use mathlib.Core.List.{List, []}
 use native.Mathlib.Omega.{arith}
-use borrow.Author.Tests.{eq-eqb, eqb-false, ne-eqb, lt-ltb, le-ltb, ltb-false}
+use borrow.Author.Tests.{eq-eqb, eqb-false, eqb-true, ne-eqb, lt-ltb, le-ltb, ltb-false}
 use lib.Dec.{eqb, ltb}
+use lib.IntN.{ℤ}
 use lib.ListN.{length}
 use Rattle.chip.specs.declared.Answer.{Answer}
 use Rattle.chip.specs.declared.Answer.the-variants.{Refused}
 use Rattle.chip.specs.Calls.{Called, called}
+use Rattle.chip.proofs.Laws.{and-left, and-right}
+use Rattle.wire.specs.Parts.{partsFrom}
 use Rattle.driver.specs.declared.Driver.{Driver}
 use Rattle.board.specs.declared.PathRead.{PathRead}
 use Rattle.board.specs.Numbers.{pathOf}
 use Rattle.chip.specs.Courses.{argumentOf}
 use Rattle.tuners.specs.Over.{pathRefusal}
 use Rattle.tuners.proofs.Passed.{path-argued}
-use Rattle.driver.specs.Calls.{boardRow, Both, both, rateRefusal, rateResult}
+use Rattle.driver.specs.Calls.{boardRow, Both, both, correctionCall, rateRefusal, rateResult}
 use Rattle.r82xx.specs.declared.Tuner.{Tuner}
 use Rattle.records.specs.declared.DriverRead.{DriverRead}
 use Rattle.records.specs.declared.TunerRead.{TunerRead}
-use Rattle.records.specs.Drivers.{driverBytes, driverOf}
-use Rattle.records.specs.Tuners.{tunerBytes, tunerOf}
+use Rattle.records.specs.Drivers.{driverBytes, driverFits, driverFrom, driverOf, driverWidths, isDriver, pickDriver}
+use Rattle.records.specs.Tuners.{isTuner, pickTuner, tunerBytes, tunerFits, tunerFrom, tunerOf, tunerWidths}
 use Rattle.replies.specs.declared.Reply.{Reply}
 use Rattle.replies.specs.Replies.{replyOf}
 use Rattle.tuners.specs.Over.{nextOf}
 use Rattle.tuners.proofs.Passed.{not-refused, refused}
-use Rattle.drivers.specs.Drivers.{Rates, bothReady, rateOver, rates, ratesMade, ratesRefused}
+use Rattle.drivers.specs.Drivers.{Rates, bothReady, correctOver, corrects, correctsMade, rateOver, rates, ratesMade, ratesRefused}
 
 -- the five ways of `ready`
 module _ (ok : Bool) (argument driver tuner : ℕ) where
@@ -103,6 +106,45 @@ module _ (os : List ℕ) (rate : ℕ) (d t room driver tuner : List ℕ) where
         ∙ ap (λ (x : DriverRead). ratesMade (rateResult rate os (tr .tuner) (x .driver) room) driver tuner) is-driver
         ∙ ap (λ (x : TunerRead). ratesMade (rateResult rate os (x .tuner) (driverOf d .driver) room) driver tuner) is-tuner
         ∙ not-refused number (λ n. ratesRefused n room driver tuner) made (sym number-is ∙ z)
+
+-- a record that was read has its exact length
+tuner-long : (b : List ℕ) → tunerOf b .ok ≡ true → 78 ≤ length b
+unfolding tunerOf isTuner
+tuner-long b h = go (isTuner b) refl h
+  where
+    go : (x : Bool) → isTuner b ≡ x → pickTuner x (tunerFrom (partsFrom 0 tunerWidths b)) .ok ≡ true → 78 ≤ length b
+    go true e k = let exact = eqb-true (length b) 78 (and-left (eqb (length b) 78) (tunerFits (partsFrom 0 tunerWidths b)) e) in omega arith
+    go false e k = absurd (false≢true k)
+
+driver-long : (b : List ℕ) → driverOf b .ok ≡ true → 29 ≤ length b
+unfolding driverOf isDriver
+driver-long b h = go (isDriver b) refl h
+  where
+    go : (x : Bool) → isDriver b ≡ x → pickDriver x (driverFrom (partsFrom 0 driverWidths b)) .ok ≡ true → 29 ≤ length b
+    go true e k = let exact = eqb-true (length b) 29 (and-left (eqb (length b) 29) (driverFits (partsFrom 0 driverWidths b)) e) in omega arith
+    go false e k = absurd (false≢true k)
+
+-- a correction of both records, as the code has read them
+module _ (ppm : ℤ) (t d : List ℕ) (tr : TunerRead) (dr : DriverRead) (is-tuner : tr ≡ tunerOf t) (is-driver : dr ≡ driverOf d) where
+  read-is : (tr .ok && dr .ok) ≡ (tunerOf t .ok && driverOf d .ok)
+  read-is = λ i. is-tuner i .ok && is-driver i .ok
+
+  pub no-records : (tr .ok && dr .ok) ≡ false → (r : Reply) → r ≡ replyOf (Refused 1) 0 → corrects r t d ≡ correctOver ppm t d
+  unfolding correctOver
+  no-records h r e = ap (λ (x : Reply). corrects x t d) e ∙ rw (sym read-is ∙ h)
+
+  pub lengths : (tr .ok && dr .ok) ≡ true → (78 ≤ length t) × (29 ≤ length d)
+  lengths h =
+      (tuner-long t (and-left (tunerOf t .ok) (driverOf d .ok) (sym read-is ∙ h)), driver-long d (and-right (tunerOf t .ok) (driverOf d .ok) (sym read-is ∙ h)))
+
+  pub corrected-back : (tr .ok && dr .ok) ≡ true → (t′ : Tuner) (d′ : Driver) (a : Answer) → called (both t′ d′) [] 0 a ≡ correctionCall ppm (tr .tuner) (dr .driver)
+      → (r : Reply) (wrote-tuner wrote-driver : List ℕ) → r ≡ replyOf a 0 → wrote-tuner ≡ nextOf tunerBytes a 0 t′ t → wrote-driver ≡ nextOf driverBytes a 0 d′ d
+      → corrects r wrote-tuner wrote-driver ≡ correctOver ppm t d
+  unfolding correctOver
+  corrected-back h t′ d′ a e r wt wd by-reply by-tuner by-driver =
+      (λ i. corrects (by-reply i) (by-tuner i) (by-driver i))
+      ∙ ap (λ (x : Called Both). correctsMade x t d) (e ∙ (λ i. correctionCall ppm (is-tuner i .tuner) (is-driver i .driver)))
+      ∙ rw (sym read-is ∙ h)
 
 -- the board's path
 pub board-path-argued : (rs : List ℕ) (t : Tuner) (path : ℕ) → pathRefusal path ≡ argumentOf (boardRow (pathOf path) rs t)

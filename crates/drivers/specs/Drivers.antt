@@ -1,4 +1,4 @@
--- The driver's calls over bytes. Document 01, "The record": "`set_sample_rate` takes both records"; "with 4 for a bad correction".
+-- The driver's calls over bytes. Document 01, "The record": "`set_sample_rate` takes both records". Document 02, #109: so does the correction.
 -- Assumes nothing.
 use Prim.Native.Nat.{ℕ}
 use mathlib.Core.Bool.{Bool, _&&_, _||_, cond}
@@ -6,29 +6,25 @@ use mathlib.Core.List.{List}
 use lib.Dec.{eqb, ltb}
 use lib.IntN.{ℤ}
 use lib.ListN.{length}
-use Rattle.lending.specs.Lent.{Given, answeredTo, given}
+use Rattle.lending.specs.Lent.{Given, answeredTo}
 use Rattle.chip.specs.declared.Answer.{Answer}
 use Rattle.chip.specs.declared.Answer.the-variants.{Refused}
 use Rattle.chip.specs.Calls.{Called}
 use Rattle.chip.specs.Courses.{argumentOf}
 use Rattle.driver.specs.declared.Driver.{Driver}
-use Rattle.driver.specs.Calls.{Both, driverPpmCall, rateResult, rateRow, xtalAnswer}
+use Rattle.driver.specs.Calls.{Both, correctionCall, rateResult, rateRow, xtalAnswer}
 use Rattle.driver.specs.Record.{driverOf as madeDriver, xtalOf}
 use Rattle.records.specs.Drivers.{driverBytes, driverOf}
 use Rattle.records.specs.Tuners.{tunerBytes, tunerOf}
 use Rattle.replies.specs.declared.Reply.{Reply}
 use Rattle.replies.specs.Replies.{callReply, replyOf}
 use Rattle.tuners.specs.Over.{nextOf, unlessRefused}
-use Rattle.tuners.specs.Still.{changedTo, ofRecord}
+use Rattle.tuners.specs.Still.{ofRecord}
 
--- a fresh one, and its correction
+-- a fresh one
 abbrev pub freshInto : ℕ → ℕ → ℤ → ℕ → ℕ → List ℕ → Given
 freshInto board nominal ppm frequency rate out =
     answeredTo (madeDriver board nominal ppm frequency rate .answer) (driverBytes (madeDriver board nominal ppm frequency rate .driver)) out
-
-abbrev pub ppmInto : ℤ → List ℕ → List ℕ → Given
-ppmInto ppm b out =
-    ofRecord (driverOf b .ok) (driverOf b .driver) (changedTo driverBytes (driverPpmCall ppm) out) (given (Refused 1) out)
 
 abbrev pub xtalOver : List ℕ → Answer
 xtalOver b = ofRecord (driverOf b .ok) (driverOf b .driver) (λ d. xtalAnswer (xtalOf d)) (Refused 1)
@@ -61,3 +57,23 @@ rateOver os rate d t room driver tuner =
     unlessRefused (bothReady (driverOf d .ok && tunerOf t .ok) (argumentOf (rateRow rate (tunerOf t .tuner) (driverOf d .driver))) (length driver) (length tuner))
     (λ n. ratesRefused n room driver tuner)
     (ratesMade (rateResult rate os (tunerOf t .tuner) (driverOf d .driver) room) driver tuner)
+
+-- what a correction leaves: its answer, and both records' bytes where they lie
+pub record Corrects : Type 0 where
+  pub answer : Reply
+  pub tuner : List ℕ
+  pub driver : List ℕ
+
+abbrev pub corrects : Reply → List ℕ → List ℕ → Corrects
+corrects answer tuner driver = record { answer = answer; tuner = tuner; driver = driver }
+
+abbrev pub correctsMade : Called Both → List ℕ → List ℕ → Corrects
+correctsMade c tuner driver =
+    corrects (callReply c) (nextOf tunerBytes (c .answer) (c .count) (c .next .tuner) tuner) (nextOf driverBytes (c .answer) (c .count) (c .next .driver) driver)
+
+-- #109, on the records that the bytes are, 1 where either's are none; refused, it leaves the bytes of both as they were
+unfoldable pub correctOver : ℤ → List ℕ → List ℕ → Corrects
+correctOver ppm tuner driver =
+    cond (tunerOf tuner .ok && driverOf driver .ok)
+    (correctsMade (correctionCall ppm (tunerOf tuner .tuner) (driverOf driver .driver)) tuner driver)
+    (corrects (replyOf (Refused 1) 0) tuner driver)

@@ -1,5 +1,5 @@
 // The driver's calls over bytes: as crate tuners, with the driver's record. Ours: src/lib.rs has them over its own fields.
-// Document 01, "The record": "`set_sample_rate` takes both records; the rate is recorded only when all steps are done."
+// Document 01, "The record": "`set_sample_rate` takes both records; the rate is recorded only when all steps are done." Document 02, #109: one correction of both.
 ghost use mathlib.Core.Path.{_≡_};
 ghost use Prim.Native.Nat.{_≤_};
 ghost use lib.ListN.{length};
@@ -10,7 +10,7 @@ ghost use Rattle.records.specs.Drivers.{driverBytes};
 ghost use Rattle.records.specs.Tuners.{tunerBytes};
 ghost use Rattle.replies.specs.Replies.{replyOf};
 ghost use Rattle.tuners.specs.Over.{after, nextOf, overTuner};
-ghost use Rattle.drivers.specs.Drivers.{bothReady, freshInto, ppmInto, rateOver, rates, xtalOver};
+ghost use Rattle.drivers.specs.Drivers.{bothReady, correctOver, corrects, freshInto, rateOver, rates, xtalOver};
 use chip::Answer;
 use driver::Driver;
 use driver::Rated;
@@ -38,19 +38,6 @@ pub fn fresh(
     let made = Driver::new(board, nominal, ppm, frequency, rate);
     let answer = made.answer;
     lend(answer, made.driver, next)
-}
-
-pub fn set_ppm(driver: &[u8], ppm: i32, next: &mut [u8]) -> Answer
-    ensures { λ r. ⌜ given r (now (next .exit)) ≡ ppmInto ppm (now (driver .entry)) (now (next .entry)) ⌝ }
-{
-    let read = records::decode_driver(driver);
-    if !read.ok {
-        return Answer::Refused(chip::SETUP);
-    }
-    let given = read.driver;
-    let told = given.set_ppm(ppm);
-    let answer = told.answer;
-    lend(answer, told.driver, next)
 }
 
 pub fn corrected_xtal_hz(driver: &[u8]) -> Answer
@@ -103,6 +90,23 @@ fn hand(rated: Rated, driver: &mut [u8], tuner: &mut [u8]) -> Reply
     store(answer, rated.count, rated.driver, driver);
     tuners::store(answer, rated.count, rated.tuner, tuner);
     replies::numbers(answer, rated.count)
+}
+
+// Both records are changed where they lie, or neither: they are read and judged before either is stored.
+pub fn set_ppm(tuner: &mut [u8], driver: &mut [u8], ppm: i32) -> Reply
+    ensures { λ r. ⌜ corrects r (now (tuner .exit)) (now (driver .exit)) ≡ correctOver ppm (now (tuner .entry)) (now (driver .entry)) ⌝ }
+{
+    let t = records::decode_tuner(tuner);
+    let d = records::decode_driver(driver);
+    let whole = t.ok & d.ok;
+    if !whole {
+        return tuners::refuse(chip::SETUP);
+    }
+    let told = driver::corrected(t.tuner, d.driver, ppm);
+    let answer = told.answer;
+    tuners::store(answer, 0, told.tuner, tuner);
+    store(answer, 0, told.driver, driver);
+    replies::numbers(answer, 0)
 }
 
 pub fn set_sample_rate(

@@ -2,8 +2,9 @@
 // its answer told as numbers, so its must-fail edits stand below, but for two of arguments that it passes on.
 // Document 01, "Modules, leaves first": "The library is callable from a C or Rust host by numbers and byte slices".
 ghost use mathlib.Core.Path.{_≡_};
-ghost use Rattle.answers.specs.Lent.{ifInto, packInto, planInto, resampleInto, unpackInto};
+ghost use Rattle.answers.specs.Lent.{ifInto, packInto, planByInto, planInto, resampleInto, unpackInto};
 ghost use Rattle.answers.specs.Sheets.{pllInto, worksheetInto};
+ghost use Rattle.bands.specs.Tables.{tableInto};
 ghost use Rattle.board.specs.Numbers.{boardOf};
 ghost use Rattle.demod.specs.Calls.{demodCourse};
 ghost use Rattle.demod.specs.Calls.Order.{Baseband, LowIf, ZeroIf, Reset, Direct, Start, Stop, IfXtal, RateXtal};
@@ -13,10 +14,10 @@ ghost use Rattle.device.specs.Gpio.Order.{Output, Bit};
 ghost use Rattle.board.specs.Numbers.{pathOf};
 ghost use Rattle.driver.specs.Calls.{boardRow};
 ghost use Rattle.drivers.specs.Drivers as driver;
-ghost use Rattle.drivers.specs.Drivers.{ppmInto, rateOver, rates, xtalOver};
+ghost use Rattle.drivers.specs.Drivers.{correctOver, corrects, rateOver, rates, xtalOver};
 ghost use Rattle.expansion.specs.Expansion.{expandInto, readInto};
 ghost use Rattle.r82xx.specs.Orders.{courseOf};
-ghost use Rattle.r82xx.specs.Orders.Order.{Initialize, Reload, Bandwidth, IfFreq, Gain, GainIndex, InputPath, Tune, Ppm, Notch, GainTold, IfTold};
+ghost use Rattle.r82xx.specs.Orders.Order.{Initialize, Reload, Bandwidth, IfFreq, Gain, GainIndex, InputPath, Tune, Notch, GainTold, IfTold};
 ghost use Rattle.parting.specs.Parting.{partingOf};
 ghost use Rattle.restoring.specs.Standing.{restoreInto};
 ghost use Rattle.replies.specs.Replies.{partsOf, replyOf};
@@ -36,12 +37,12 @@ use settings::Reply2;
 use settings::Settings;
 use settings::Settings2;
 
-// 4.1.0: the major number times 65,536, the minor times 256, the patch.
+// 5.0.0: the major number times 65,536, the minor times 256, the patch.
 #[no_mangle]
 pub extern "C" fn pasetone_version() -> u32
-    ensures { λ r. ⌜ r ≡ 262400 ⌝ }
+    ensures { λ r. ⌜ r ≡ 327680 ⌝ }
 {
-    0x0004_0100
+    0x0005_0000
 }
 
 // The tuner: src/tuners/r82xx.rs.
@@ -188,15 +189,7 @@ pub extern "C" fn pasetone_get_gain_table(tuner: &[u8], out: &mut [u8]) -> Reply
     replies::numbers(answer, 0)
 }
 
-// These two change the caller's bytes where they lie.
-#[no_mangle]
-pub extern "C" fn pasetone_set_ppm(tuner: &mut [u8], ppm: i32) -> Reply
-    ensures { λ r. ⌜ lent r (now (tuner .exit)) ≡ lentBy (changedInto (Ppm ppm) (now (tuner .entry)) (now (tuner .entry))) ⌝ }
-{
-    let answer = tuners::set_ppm(tuner, ppm);
-    replies::numbers(answer, 0)
-}
-
+// This one and `pasetone_set_ppm` change the caller's bytes where they lie.
 #[no_mangle]
 pub extern "C" fn pasetone_apply_notch(tuner: &mut [u8], on: u8) -> Reply
     ensures { λ r. ⌜ lent r (now (tuner .exit)) ≡ lentBy (changedInto (Notch (yes on)) (now (tuner .entry)) (now (tuner .entry))) ⌝ }
@@ -222,19 +215,19 @@ pub extern "C" fn pasetone_driver_new(
 }
 
 #[no_mangle]
-pub extern "C" fn pasetone_driver_set_ppm(driver: &[u8], ppm: i32, next: &mut [u8]) -> Reply
-    ensures { λ r. ⌜ lent r (now (next .exit)) ≡ lentBy (ppmInto ppm (now (driver .entry)) (now (next .entry))) ⌝ }
-{
-    let answer = drivers::set_ppm(driver, ppm, next);
-    replies::numbers(answer, 0)
-}
-
-#[no_mangle]
 pub extern "C" fn pasetone_corrected_xtal_hz(driver: &[u8]) -> Reply
     ensures { λ r. ⌜ r ≡ replyOf (xtalOver (now (driver .entry))) 0 ⌝ }
 {
     let answer = drivers::corrected_xtal_hz(driver);
     replies::numbers(answer, 0)
+}
+
+// The one correction, of both records where they lie, or of neither.
+#[no_mangle]
+pub extern "C" fn pasetone_set_ppm(tuner: &mut [u8], driver: &mut [u8], ppm: i32) -> Reply
+    ensures { λ r. ⌜ corrects r (now (tuner .exit)) (now (driver .exit)) ≡ correctOver ppm (now (tuner .entry)) (now (driver .entry)) ⌝ }
+{
+    drivers::set_ppm(tuner, driver, ppm)
 }
 
 // `left` is for the driver's next record, `next` for the tuner's.
@@ -412,6 +405,23 @@ pub extern "C" fn pasetone_plan_tuning(board: u64, hz: u64, out: &mut [u8]) -> R
     ensures { λ r. ⌜ lent r (now (out .exit)) ≡ lentBy (planInto (boardOf board) hz (now (out .entry))) ⌝ }
 {
     let answer = answers::plan_tuning(board, hz, out);
+    replies::numbers(answer, 0)
+}
+
+// Boards from a table.
+#[no_mangle]
+pub extern "C" fn pasetone_board_table(board: u64, out: &mut [u8]) -> Reply
+    ensures { λ r. ⌜ lent r (now (out .exit)) ≡ lentBy (tableInto (boardOf board) (now (out .entry))) ⌝ }
+{
+    let answer = bands::board_table(board, out);
+    replies::numbers(answer, 0)
+}
+
+#[no_mangle]
+pub extern "C" fn pasetone_plan_by_table(table: &[u8], hz: u64, out: &mut [u8]) -> Reply
+    ensures { λ r. ⌜ lent r (now (out .exit)) ≡ lentBy (planByInto (now (table .entry)) hz (now (out .entry))) ⌝ }
+{
+    let answer = answers::plan_by_table(table, hz, out);
     replies::numbers(answer, 0)
 }
 

@@ -1,5 +1,5 @@
--- A tuner's record held by value is lent to a function over `&mut Tuner`, and what it left is handed back with its answer: the walk of `with_ppm` and
--- of `with_notch`, by hand, which differ in the callee, in the type of its second argument, and in the row that its contract cites.
+-- A tuner's record held by value is lent to a function over `&mut Tuner`, and what it left is handed back with its answer: the walk of `with_notch`, by hand,
+-- said for any callee, any second argument of plain data and any row that its contract cites.
 -- Assumes nothing.
 use mathlib.Core.Path.{_≡_, refl, ap, subst, _∙_}
 use Prim.Native.Nat.{ℕ}
@@ -45,13 +45,13 @@ use Rattle.chip.proofs.Answer as S
 use Rattle.chip.proofs.Answer.Laws as S′
 use Rattle.r82xx.specs.declared.Tuner.{Tuner}
 use Rattle.r82xx.specs.declared.Told.{Told}
-use Rattle.r82xx.proofs.Lent.{Lies, vals}
+use Rattle.r82xx.proofs.Lent.{Lies, lies-in, lies-out, vals}
 use Rattle.r82xx.proofs.Tuner as T
 use Rattle.r82xx.proofs.Tuner.Laws as T′
 use Rattle.r82xx.proofs.Told as R
 use Rattle.r82xx.proofs.Told.Laws as R′
 
--- the two functions' MIR, by the second argument's type and the callee's name
+-- the function's MIR, by the second argument's type and the callee's name
 abbrev function : Ty → Name → Fn
 function τ callee = record {
   lifetimes = 0;
@@ -89,22 +89,6 @@ lent t l δ = record { ptr = (l, 0); name = δ; now = t }
 module _ {M : Type 1} (𝓤 : URA M) (H : Heap 𝓤) (A : Atoms 𝓤) (W : Given 𝓤 H A) where
   typed : (t : Tuner) → Lies t → Holds (hasTy T′.mir (mach t)) × WT (mach t)
   typed t is = LL.lawful T.the-type T′.the-laws 𝓤 H A W .typed t _ is .0
-
-  -- a local's cell has the type's name, a lent one has not
-  lies-in : (t : Tuner) (l : ℕ) → Lies t → ent 𝓤 (sem 𝓤 H A (fat fullShare T′.mir l 0 (mach t))) (sem 𝓤 H A (partAt T.the-row fullShare t l 0))
-  unfolding partOf
-  lies-in t l is =
-      qed W (‵ (fat fullShare T′.mir l 0 (mach t)) ∷ []) ∵ use1 W (‵ (cellAt fullShare (T.the-row .mir) (vals t) l 0)) (W .laws .at-raw fullShare T′.mir l 0 (mach t)) $
-      owned ! T.the-row (Is T.the-row) (LL.makes T.the-type T′.the-plain 𝓤 H A) t _ is $ move ! (1 ∷ 0 ∷ []) $ fjoin ! $
-      fpack ! (List Val) (λ us. fsep (cellAt fullShare (T.the-row .mir) us l 0) (T.the-row .own t us)) (vals t) $ done !
-
-  lies-out : (t : Tuner) (l : ℕ) → ent 𝓤 (sem 𝓤 H A (partAt T.the-row fullShare t l 0)) (guard 𝓤 (Lies t) (sem 𝓤 H A (fat fullShare T′.mir l 0 (mach t))))
-  unfolding partOf
-  lies-out t l =
-      qed W (‵ (partAt T.the-row fullShare t l 0) ∷ []) ∵ fpick ! (λ vs. fsplit ! $
-      spelt ! T.the-row (Is T.the-row) (shows 𝓤 H A T.the-row) vals (LL.tells T.the-type T′.the-laws) fullShare t vs l 0 $
-      move ! (1 ∷ []) $ peeks ! T.the-row (Is T.the-row) (shows 𝓤 H A T.the-row) t (vals t) (λ is. drop ! $ check ! is $
-      use1 W (‵ (fat fullShare T′.mir l 0 (mach t))) (W .laws .raw-at fullShare T′.mir l 0 (mach t)) $ done !))
 
 -- a type of plain data: its value is at exit what it was
 abbrev still : RattleType → RattleType
@@ -188,7 +172,7 @@ module _ (P : RattleType) (τ : Ty) (value : P .Denot → Val) (tells : Tells P 
             assigns ! (of-opd ! (load ! (from ! (stop !)) (look ! 10 refl))) (from ! (stop !)) (init ! 6 refl (typed 𝓤 H A W h gh)) $
             assigns ! (addr ! (from ! (stop !))) (from ! (stop !)) (init ! 2 refl (tt, tt)) $
             -- _3 is lent for a new lifetime
-            move ! (6 ∷ []) $ use1 W (‵ (partAt T.the-row fullShare h l₃ 0)) (lies-in 𝓤 H A W h l₃ gh) $
+            move ! (6 ∷ []) $ use1 W (‵ (partAt T.the-row fullShare h l₃ 0)) (lies-in T.the-type T′.the-laws T′.the-plain 𝓤 H A W T′.mir h l₃ (W .laws .at-raw fullShare T′.mir l₃ 0 (mach h)) gh) $
             lft-new ! tt (λ α. move ! (1 ∷ []) $
             use1 W (later (some (λ (δ : GName). ‵ (MutRef (named 0) (α ∷ []) T.the-row .own (lent h l₃ δ) (vptr l₃ 0 ∷ [])) ⊛ ‵ (flent (α ∷ []) (Body (mem T.the-row) l₃ 0 δ))))) (lends-ref 𝓤 H A W T.the-row (named 0) (α ∷ []) h l₃ 0) $
             await ! tt $ pick ! (λ δ. split ! $ move ! (2 ∷ 0 ∷ []) $
@@ -204,7 +188,7 @@ module _ (P : RattleType) (τ : Ty) (value : P .Denot → Val) (tells : Tells P 
             land ! (from ! (stop !)) (init ! 9 refl (EL.lawful S.the-type S′.the-laws 𝓤 H A W tt .typed r _ is .0)) $ drop ! $
             -- the lifetime is ended, and _3 is taken back at the last value
             lft-end ! tt $ move ! (0 ∷ 3 ∷ 2 ∷ []) $ use3 W (later (‵ (partAt T.the-row fullShare (left h p) l₃ 0))) (ref-back 𝓤 H A W T.the-row (α ∷ []) δ (left h p) l₃ 0) $ await ! tt $
-            use1 W (given (Lies (left h p)) (‵ (fat fullShare T′.mir l₃ 0 (mach (left h p))))) (lies-out 𝓤 H A W (left h p) l₃) $ learn ! (λ lies.
+            use1 W (given (Lies (left h p)) (‵ (fat fullShare T′.mir l₃ 0 (mach (left h p))))) (lies-out T.the-type T′.the-laws T′.the-plain 𝓤 H A W T′.mir (left h p) l₃ (W .laws .raw-at fullShare T′.mir l₃ 0 (mach (left h p)))) $ learn ! (λ lies.
             -- [_3; true; _6; …; _5; …; _4; …; of _3 what frees it; _2; …; _1; …; room for _0; …]
             assigns ! (of-opd ! (load ! (from ! (stop !)) (look ! 0 refl))) (from ! (stop !)) (init ! 2 refl (typed 𝓤 H A W (left h p) lies)) $
             rewrite ! 6 (λ (u : Val). ‵ (fat fullShare S′.mir l₄ 0 u)) (ap only (EL.tells S.the-type S′.the-laws r _ is)) refl $

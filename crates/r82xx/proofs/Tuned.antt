@@ -31,21 +31,18 @@ use Rattle.pll.specs.declared.Pll.{Pll}
 use Rattle.pll.specs.declared.Pll.the-variants as pll-variants
 use Rattle.pll.specs.Plan.{planOf}
 use Rattle.pll.proofs.Plans.{known}
-use Rattle.reference.specs.declared.Corrected.{Corrected}
-use Rattle.reference.specs.declared.Corrected.the-variants as corrected-variants
-use Rattle.reference.specs.Correct.{correctedOf}
 use Rattle.tuning.specs.Program.{innerSteps, dividerNumber, wholeOf}
 use Rattle.tuning.specs.Tries.{lockBy}
 use Rattle.tuning.proofs.Programs.{eight-inner}
 use Rattle.writes.specs.Lists.{pathUpdates}
 use Rattle.writes.proofs.Lists.{path-two}
 use Rattle.r82xx.specs.declared.Tuner.{Tuner}
-use Rattle.r82xx.specs.Record.{sound, soundBy, withChip, withCorrected, withLock, withNotch}
+use Rattle.r82xx.specs.Record.{sound, soundBy, withChip, withLock, withNotch}
 use Rattle.chip.specs.Courses.{leftBy}
 use Rattle.chip.specs.Courses.Course.{Still}
-use Rattle.r82xx.specs.Calls.{hzRefusal, keptBy, keptNotch, keptPpm, planFor, ppmAnswer, refusalOf, soundAnswer, toldBy}
-use Rattle.r82xx.specs.Orders.{lockKept, pathRow, ppmRow, quietly, resultOf, seenOf, tableOf, tuneOf}
-use Rattle.r82xx.specs.Orders.Order.{Tune, Ppm, Notch, GainTold, IfTold, TableTold}
+use Rattle.r82xx.specs.Calls.{hzRefusal, keptNotch, planFor, refusalOf, soundAnswer}
+use Rattle.r82xx.specs.Orders.{lockKept, pathRow, quietly, resultOf, seenOf, tableOf, tuneOf}
+use Rattle.r82xx.specs.Orders.Order.{Tune, Notch, GainTold, IfTold, TableTold}
 use Rattle.r82xx.proofs.Whole.{behind-eight, bracket-by, bracketCall, refuse-by, stepCall}
 
 -- a plan's divider number
@@ -137,24 +134,6 @@ chosen-step db k e = ap clamped e ∙ within (chosenOf db) (chosen-lt db)
     within : (n : ℕ) → n < 29 → clamped n ≡ n
     within n h = omega arith
 
--- a correction that is refused, or taken
-module _ (n c : ℕ) (ppm : ℤ) (r : Corrected) (s : soundBy n c ≡ true) (e : r ≡ correctedOf n ppm) where
-  pub kept-old : r ≡ corrected-variants.Refused → c ≡ keptPpm n c ppm
-  unfolding keptPpm
-  kept-old k = sym (ap (λ (x : Corrected). keptBy x c) k) ∙ ap (λ (x : Corrected). keptBy x c) e ∙ rw s
-
-  pub kept-new : (v : ℕ) → r ≡ corrected-variants.Is v → v ≡ keptPpm n c ppm
-  unfolding keptPpm
-  kept-new v k = sym (ap (λ (x : Corrected). keptBy x c) k) ∙ ap (λ (x : Corrected). keptBy x c) e ∙ rw s
-
-  pub told-no : r ≡ corrected-variants.Refused → Refused 4 ≡ ppmAnswer n c ppm
-  unfolding ppmAnswer
-  told-no k = sym (ap toldBy k) ∙ ap toldBy e ∙ rw s
-
-  pub told-yes : (v : ℕ) → r ≡ corrected-variants.Is v → Done 0 ≡ ppmAnswer n c ppm
-  unfolding ppmAnswer
-  told-yes v k = sym (ap toldBy k) ∙ ap toldBy e ∙ rw s
-
 -- what is stored and answered on numbers is what the rows leave
 told-still : (b : Bool) (t : Tuner) (value : ℕ) → cond b (Done value) (Refused 1) ≡ cond b (called t [] 0 (Done value)) (called t [] 0 (Refused 1)) .answer
 told-still true t value = refl
@@ -172,17 +151,6 @@ pub table-told : (t : Tuner) → soundAnswer (t .nominal) (t .corrected) 0 ≡ q
 unfolding resultOf leftBy soundAnswer
 table-told t = told-still (sound t) t 0
 
-pub ppm-left : (t : Tuner) (ppm : ℤ) → called (withCorrected t (keptPpm (t .nominal) (t .corrected) ppm)) [] 0 (ppmAnswer (t .nominal) (t .corrected) ppm) ≡ quietly (Ppm ppm) t
-unfolding resultOf leftBy keptPpm ppmAnswer
-ppm-left t ppm = go (sound t) (correctedOf (t .nominal) ppm)
-  where
-    go : (b : Bool) (r : Corrected)
-        → called (withCorrected t (cond b (keptBy r (t .corrected)) (t .corrected))) [] 0 (cond b (toldBy r) (Refused 1)) ≡ leftBy b (ppmRow r t) [] (t .chip) t []
-    go true (corrected-variants.Is v) = refl
-    go true corrected-variants.Refused = refl
-    go false (corrected-variants.Is v) = refl
-    go false corrected-variants.Refused = refl
-
 pub notch-left : (t : Tuner) (on : Bool) → called (withNotch t (keptNotch (t .nominal) (t .corrected) (t .notch) on)) [] 0 (soundAnswer (t .nominal) (t .corrected) 0) ≡ quietly (Notch on) t
 unfolding resultOf leftBy keptNotch soundAnswer
 notch-left t on = go (sound t)
@@ -194,9 +162,6 @@ notch-left t on = go (sound t)
 -- a call without steps makes no entry, and leaves no room
 alone : (q x : Called Tuner) → called (x .next) [] 0 (x .answer) ≡ q → called (q .next) [] 0 (q .answer) ≡ q
 alone q x e = ap (λ (y : Called Tuner). called (y .next) [] 0 (y .answer)) (sym e) ∙ e
-
-pub ppm-alone : (t : Tuner) (ppm : ℤ) → called (quietly (Ppm ppm) t .next) [] 0 (quietly (Ppm ppm) t .answer) ≡ quietly (Ppm ppm) t
-ppm-alone t ppm = alone (quietly (Ppm ppm) t) (called (withCorrected t (keptPpm (t .nominal) (t .corrected) ppm)) [] 0 (ppmAnswer (t .nominal) (t .corrected) ppm)) (ppm-left t ppm)
 
 pub notch-alone : (t : Tuner) (on : Bool) → called (quietly (Notch on) t .next) [] 0 (quietly (Notch on) t .answer) ≡ quietly (Notch on) t
 notch-alone t on = alone (quietly (Notch on) t) (called (withNotch t (keptNotch (t .nominal) (t .corrected) (t .notch) on)) [] 0 (soundAnswer (t .nominal) (t .corrected) 0)) (notch-left t on)

@@ -5,7 +5,7 @@ use Prim.Native.Nat.{ℕ, _+_}
 use mathlib.Core.Bool.{Bool, cond}
 use mathlib.Core.List.{List, [], map}
 use lib.Ieee.{Float, binary32, toBits}
-use lib.IntN.{ℤ, pos}
+use lib.IntN.{pos}
 use lib.ListN.{length, replicate}
 use Rattle.board.specs.declared.PathRead.{PathRead}
 use Rattle.board.specs.declared.PathRead.the-variants as path-read
@@ -23,19 +23,16 @@ use Rattle.gain.specs.Steps.{chosenOf, clamped, stepAt, steps}
 use Rattle.pll.specs.declared.Kind.{Kind}
 use Rattle.pll.specs.declared.Kind.the-variants.{R820T, R828D}
 use Rattle.pll.specs.declared.Pll.{Pll}
-use Rattle.reference.specs.declared.Corrected.{Corrected}
-use Rattle.reference.specs.declared.Corrected.the-variants as corrected-variants
-use Rattle.reference.specs.Correct.{correctedOf}
 use Rattle.tuning.specs.Program.{tuneSteps, wholeOf}
 use Rattle.tuning.specs.Tries.{lockBy}
 use Rattle.writes.specs.Lists.{bandwidthUpdates, gainUpdates, ifUpdates, pathUpdates}
 use Rattle.writes.specs.Programs.{initSteps, sendAll}
 use Rattle.r82xx.specs.declared.Table.{Table}
 use Rattle.r82xx.specs.declared.Tuner.{Tuner}
-use Rattle.r82xx.specs.Record.{endedBy, sound, withChip, withCorrected, withGain, withIf, withLock, withNotch}
+use Rattle.r82xx.specs.Record.{endedBy, sound, withChip, withGain, withIf, withLock, withNotch}
 use Rattle.r82xx.specs.Calls.{hzRefusal, planFor}
 
--- rs are the replies. The last five take no step: "`set_ppm`, notch .. 0, 0", and the three that only tell
+-- rs are the replies. The last four take no step: "notch .. 0, 0", and the three that only tell
 pub data Order : Type 0 where
   Initialize : Order
   Reload : Order
@@ -45,7 +42,6 @@ pub data Order : Type 0 where
   GainIndex : (k : ℕ) → Order
   InputPath : (path : ℕ) → Order
   Tune : (hz : ℕ) (rs : List ℕ) → Order
-  Ppm : (ppm : ℤ) → Order
   Notch : (on : Bool) → Order
   GainTold : Order
   IfTold : Order
@@ -65,11 +61,6 @@ pathRow path-read.Refused kind t = Still t (Refused 1)
 pathRow (path-read.Is path) R820T t = Still t (Done 0)
 pathRow (path-read.Is path) R828D t = bracket 2 (pathUpdates path) (Done 0) t t
 
--- 4 where the corrected reference is out of its range
-abbrev pub ppmRow : Corrected → Tuner → Course Tuner
-ppmRow (corrected-variants.Is v) t = Still (withCorrected t v) (Done 0)
-ppmRow corrected-variants.Refused t = Still t (Refused 4)
-
 -- a tuning's program by its plan, and the record that its steps leave
 abbrev pub tuneOf : Tuner → Pll → ℕ → List ℕ → List Step
 tuneOf t plan hz rs = tuneSteps (t .chip .address) (t .kind) (t .notch) plan hz rs
@@ -88,7 +79,6 @@ courseOf (GainIndex k) t = gainRow (clamped k) t
 courseOf (InputPath path) t = pathRow (pathOf path) (t .kind) t
 courseOf (Tune hz rs) t =
     Taken (hzRefusal hz (t .ifreq)) 53 35 rs (wholeOf (planFor t hz) hz) (tuneOf t (planFor t hz) hz rs) (lockKept t)
-courseOf (Ppm ppm) t = ppmRow (correctedOf (t .nominal) ppm) t
 courseOf (Notch on) t = Still (withNotch t on) (Done 0)
 courseOf GainTold t = Still t (Done (toBits binary32 (t .gain)))
 courseOf IfTold t = Still t (Done (t .ifreq))

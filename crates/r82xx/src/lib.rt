@@ -14,9 +14,9 @@ ghost use Rattle.chip.specs.Steps.{allIn, goes, meantOf, trace};
 ghost use Rattle.chip.specs.Courses.{leftBy};
 ghost use Rattle.tuning.specs.Program.{dividerNumber, wholeOf};
 ghost use Rattle.r82xx.specs.Record.{freshTuner, madeOf, sound, soundBy};
-ghost use Rattle.r82xx.specs.Calls.{hzRefusal, keptNotch, keptPpm, ppmAnswer, refusalOf, soundAnswer};
+ghost use Rattle.r82xx.specs.Calls.{hzRefusal, keptNotch, refusalOf, soundAnswer};
 ghost use Rattle.r82xx.specs.Orders.{bracket, lockKept, quietly, resultOf, seenOf, tableOf, tuneOf};
-ghost use Rattle.r82xx.specs.Orders.Order.{Initialize, Reload, Bandwidth, IfFreq, Gain, GainIndex, InputPath, Tune, Ppm, Notch, GainTold, IfTold};
+ghost use Rattle.r82xx.specs.Orders.Order.{Initialize, Reload, Bandwidth, IfFreq, Gain, GainIndex, InputPath, Tune, Notch, GainTold, IfTold};
 use board::PathRead;
 use chip::Answer;
 use chip::Chip;
@@ -25,7 +25,6 @@ use chip::Updates;
 use chip::Went;
 use pll::Kind;
 use pll::Pll;
-use reference::Corrected;
 use tuning::Tuning;
 use writes::IF_FREQ_NARROW;
 use writes::INIT_ARRAY;
@@ -138,31 +137,6 @@ fn sound_answer(nominal: u32, corrected: u32, value: u64) -> Answer
     Answer::Done(value)
 }
 
-// The corrected reference that a correction leaves: the old one where it is refused.
-fn kept_ppm(nominal: u32, corrected: u32, ppm: i32) -> u32
-    ensures { λ r. ⌜ r ≡ keptPpm nominal corrected ppm ⌝ }
-{
-    if !sound(nominal, corrected) {
-        return corrected;
-    }
-    let Corrected::Is(v) = reference::correct(nominal, ppm) else {
-        return corrected;
-    };
-    v
-}
-
-fn ppm_answer(nominal: u32, corrected: u32, ppm: i32) -> Answer
-    ensures { λ r. ⌜ r ≡ ppmAnswer nominal corrected ppm ⌝ }
-{
-    if !sound(nominal, corrected) {
-        return Answer::Refused(chip::SETUP);
-    }
-    let Corrected::Is(_) = reference::correct(nominal, ppm) else {
-        return Answer::Refused(chip::CORRECTION);
-    };
-    Answer::Done(0)
-}
-
 fn kept_notch(nominal: u32, corrected: u32, old: bool, on: bool) -> bool
     ensures { λ r. ⌜ r ≡ keptNotch nominal corrected old on ⌝ }
 {
@@ -172,17 +146,8 @@ fn kept_notch(nominal: u32, corrected: u32, old: bool, on: bool) -> bool
     on
 }
 
-// Document 01: "only `set_ppm` and `apply_notch` change the caller's record where it lies". Each calls covered functions on numbers and stores one
-// field, with no branch: a refusal stores what was there.
-pub fn set_ppm(t: &mut Tuner, ppm: i32) -> Answer
-    ensures { λ r. ⌜ (r ≡ quietly (Ppm ppm) (now (t .entry)) .answer) × (now (t .exit) ≡ quietly (Ppm ppm) (now (t .entry)) .next) ⌝ }
-{
-    let n = t.nominal;
-    let c = t.corrected;
-    t.corrected = kept_ppm(n, c, ppm);
-    ppm_answer(n, c, ppm)
-}
-
+// Document 01: "only `set_ppm` and `apply_notch` change the caller's record where it lies"; the former is crate driver's since #109. It calls covered functions on
+// numbers and stores one field, with no branch: a refusal stores what was there.
 pub fn apply_notch(t: &mut Tuner, on: bool) -> Answer
     ensures { λ r. ⌜ (r ≡ quietly (Notch on) (now (t .entry)) .answer) × (now (t .exit) ≡ quietly (Notch on) (now (t .entry)) .next) ⌝ }
 {
@@ -523,20 +488,7 @@ impl Tuner {
         }
     }
 
-    // `set_ppm` for callers that hold the record by value: it is lent from here, and whoever calls this needs no walk by hand.
-    pub fn with_ppm(mut self, ppm: i32) -> Told
-        ensures { λ r. ⌜ called (r .tuner) [] (r .count) (r .answer)
-            ≡ quietly (Ppm ppm) self ⌝ }
-    {
-        let answer = set_ppm(&mut self, ppm);
-        Told {
-            tuner: self,
-            answer: answer,
-            count: 0,
-        }
-    }
-
-    // `apply_notch`, likewise.
+    // `apply_notch` for callers that hold the record by value: it is lent from here, and whoever calls this needs no walk by hand.
     pub fn with_notch(mut self, on: bool) -> Told
         ensures { λ r. ⌜ called (r .tuner) [] (r .count) (r .answer)
             ≡ quietly (Notch on) self ⌝ }

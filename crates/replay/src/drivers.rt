@@ -1,25 +1,18 @@
-// The driver's calls, over the records' bytes: fresh (16), its ppm (17), the corrected reference (18), sample rate on both records (19), the board path (20).
+// The driver's calls, over the records' bytes: fresh (16), the corrected reference (18), sample rate on both records (19), the board path (20), and the correction
+// of both records (41).
 ghost use Prim.Native.Nat.{_≤_};
 ghost use lib.ListN.{length};
 use crate::compare;
 use crate::handed;
 use crate::layout;
+use chip::Answer;
 use compare::Verdict;
 use driver::Driver;
 use driver::Rated;
-use driver::Told;
 use r82xx::Tuner;
 
 fn ppm_of(c: &[u8]) -> i32 {
     wire::to_signed(layout::four(c, layout::D) as u32)
-}
-
-fn judged(c: &[u8], told: Told) -> Verdict {
-    let answer = told.answer;
-    let driver = told.driver;
-    let told = handed::numbers(answer, told.count);
-    let next = handed::next_driver(told, driver);
-    compare::agrees(c, told, &[], &[], &next, &[])
 }
 
 pub fn fresh(c: &[u8]) -> Verdict {
@@ -32,21 +25,9 @@ pub fn fresh(c: &[u8]) -> Verdict {
     );
     let answer = made.answer;
     let driver = made.driver;
-    let told = Told {
-        driver: driver,
-        answer: answer,
-        count: 0,
-    };
-    judged(c, told)
-}
-
-pub fn set_ppm(c: &[u8]) -> Verdict {
-    let read = records::decode_driver(layout::part(c, layout::DRIVER));
-    if !read.ok {
-        return handed::refused(c, &[]);
-    }
-    let d = read.driver;
-    judged(c, d.set_ppm(ppm_of(c)))
+    let told = handed::numbers(answer, 0);
+    let next = handed::next_driver(told, driver);
+    compare::agrees(c, told, &[], &[], &next, &[])
 }
 
 pub fn corrected_xtal_hz(c: &[u8]) -> Verdict {
@@ -65,14 +46,32 @@ fn rate(c: &[u8], t: Tuner, d: Driver, n: usize, space: &mut [u8]) -> Rated
     d.set_sample_rate(t, hz, layout::part(c, layout::OUTCOMES), &mut space[0..n])
 }
 
-fn judged_both(c: &[u8], rated: Rated, room: &[u8]) -> Verdict {
-    let answer = rated.answer;
-    let tuner = rated.tuner;
-    let driver = rated.driver;
-    let told = handed::numbers(answer, rated.count);
+fn judged_both(
+    c: &[u8],
+    answer: Answer,
+    count: usize,
+    tuner: Tuner,
+    driver: Driver,
+    room: &[u8],
+) -> Verdict {
+    let told = handed::numbers(answer, count);
     let first = handed::next_tuner(told, tuner);
     let second = handed::next_driver(told, driver);
     compare::agrees(c, told, room, &first, &second, &[])
+}
+
+// The tuner's slice first, then the driver's, as the call takes them; the ppm where call 10 had it.
+pub fn set_ppm(c: &[u8]) -> Verdict {
+    let read = records::decode_tuner(layout::part(c, layout::TUNER));
+    let given = records::decode_driver(layout::part(c, layout::DRIVER));
+    if !(read.ok & given.ok) {
+        return handed::refused(c, &[]);
+    }
+    let t = read.tuner;
+    let d = given.driver;
+    let told = driver::corrected(t, d, ppm_of(c));
+    let answer = told.answer;
+    judged_both(c, answer, 0, told.tuner, told.driver, &[])
 }
 
 pub fn set_sample_rate(c: &[u8]) -> Verdict {
@@ -89,7 +88,9 @@ pub fn set_sample_rate(c: &[u8]) -> Verdict {
     let t = read.tuner;
     let d = given.driver;
     let rated = rate(c, t, d, n, &mut space);
-    judged_both(c, rated, handed::room(&space, n))
+    let answer = rated.answer;
+    let room = handed::room(&space, n);
+    judged_both(c, answer, rated.count, rated.tuner, rated.driver, room)
 }
 
 fn take_path(c: &[u8], t: Tuner, n: usize, space: &mut [u8]) -> r82xx::Told

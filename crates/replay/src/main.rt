@@ -21,12 +21,12 @@ fn judge(c: &[u8]) -> Verdict {
     match call {
         1 => tuners::fresh(c),
         3 => tuners::tuned(c),
-        2..=11 => tuners::changed(c),
+        2..=9 => tuners::changed(c),
+        11 => tuners::changed(c),
         13 => tuners::get_gain(c),
         14 => tuners::get_if_freq(c),
         15 => tuners::get_gain_table(c),
         16 => drivers::fresh(c),
-        17 => drivers::set_ppm(c),
         18 => drivers::corrected_xtal_hz(c),
         19 => drivers::set_sample_rate(c),
         20 => drivers::apply_input_path(c),
@@ -39,6 +39,7 @@ fn judge(c: &[u8]) -> Verdict {
         38 => leaves::read_section(c),
         39 => leaves::plan_pll(c),
         40 => leaves::plan_pll_by_worksheet(c),
+        41 => drivers::set_ppm(c),
         _ => Verdict::Later,
     }
 }

@@ -23,13 +23,11 @@ fn record_name(call: u64) {
         7 => text(b"IF"),
         8 => text(b"input path"),
         9 => text(b"reload"),
-        10 => text(b"set_ppm"),
         11 => text(b"notch"),
         13 => text(b"get gain"),
         14 => text(b"get IF"),
         15 => text(b"gain table"),
         16 => text(b"fresh driver"),
-        17 => text(b"driver's ppm"),
         18 => text(b"corrected reference"),
         19 => text(b"sample rate"),
         20 => text(b"board path"),
@@ -37,7 +35,7 @@ fn record_name(call: u64) {
     }
 }
 
-// Calls 21 to 40: the demodulator, GPIO, and what takes no record.
+// Calls 21 to 40: the demodulator, GPIO, and what takes no record. From 41 on: what document 02 added.
 fn other_name(call: u64) {
     match call {
         21 => text(b"init_baseband"),
@@ -60,6 +58,7 @@ fn other_name(call: u64) {
         38 => text(b"section reader"),
         39 => text(b"plan_pll"),
         40 => text(b"plan_pll_by_worksheet"),
+        41 => text(b"set_ppm of both"),
         _ => text(b"no such call"),
     }
 }
@@ -147,7 +146,7 @@ fn row(tally: &[u64; 192], call: usize)
 
 pub fn rows(tally: &[u64; 192]) {
     let mut call = 1;
-    while call < 41 {
+    while call < 42 {
         row(tally, call);
         call += 1;
     }

@@ -1,4 +1,4 @@
-// The tuner's calls, over the record's bytes: fresh (1), those that hand the next record back (2 to 11), those that only read (13 to 15).
+// The tuner's calls, over the record's bytes: fresh (1), those that hand the next record back (2 to 9, and 11), those that only read (13 to 15).
 ghost use Prim.Native.Nat.{_≤_};
 ghost use lib.ListN.{length};
 use crate::compare;
@@ -44,21 +44,13 @@ fn stepped(c: &[u8], t: Tuner, room: &mut [u8]) -> Told {
     }
 }
 
-// Those of none.
-fn plain(c: &[u8], t: Tuner) -> Told {
-    match layout::one(c, layout::CALL) {
-        10 => t.with_ppm(wire::to_signed(layout::four(c, layout::D) as u32)),
-        _ => t.with_notch(layout::one(c, layout::A) != 0),
-    }
-}
-
 fn asked(c: &[u8], t: Tuner, n: usize, space: &mut [u8]) -> Told
     requires { ⌜ n ≤ length (now space) ⌝ }
 {
     if layout::one(c, layout::CALL) < 10 {
         return stepped(c, t, &mut space[0..n]);
     }
-    plain(c, t)
+    t.with_notch(layout::one(c, layout::A) != 0)
 }
 
 pub fn changed(c: &[u8]) -> Verdict {

@@ -7,6 +7,7 @@ use mathlib.Core.List.{List, [], _∷_}
 use native.Mathlib.Omega.{arith}
 use borrow.Author.Tests.{eqb-false}
 use lib.Dec.{eqb, leb}
+use lib.IntN.{ℤ}
 use lib.ListN.{length, length-append, length-map}
 use Rattle.board.specs.declared.PathRead.{PathRead}
 use Rattle.board.specs.declared.PathRead.the-variants as path-read
@@ -29,28 +30,25 @@ use Rattle.pll.specs.declared.Kind.{Kind}
 use Rattle.pll.specs.declared.Kind.the-variants.{R820T, R828D}
 use Rattle.pll.specs.declared.Pll.{Pll}
 use Rattle.pll.specs.declared.Pll.the-variants as pll-variants
-use Rattle.reference.specs.declared.Corrected.{Corrected}
-use Rattle.reference.specs.declared.Corrected.the-variants as corrected-variants
-use Rattle.reference.specs.Correct.{correctedOf}
 use Rattle.writes.specs.Lists.{bandwidthUpdates, gainUpdates, ifUpdates, pathUpdates}
 use Rattle.r82xx.specs.declared.Tuner.{Tuner}
-use Rattle.r82xx.specs.Record.{sound, withGain, withIf}
+use Rattle.r82xx.specs.Record.{sound, withCorrected, withGain, withIf}
 use Rattle.tuning.specs.Program.{wholeOf}
 use Rattle.r82xx.specs.Calls.{planFor}
-use Rattle.r82xx.specs.Orders.{bracket, gainRow, pathRow, ppmRow}
+use Rattle.r82xx.specs.Orders.{bracket, gainRow, pathRow}
 use Rattle.r82xx.specs.Orders as tuner
-use Rattle.r82xx.specs.Orders.Order.{Initialize, Reload, Bandwidth, IfFreq, Gain, GainIndex, InputPath, Tune, Ppm, Notch, GainTold, IfTold, TableTold}
+use Rattle.r82xx.specs.Orders.Order.{Initialize, Reload, Bandwidth, IfFreq, Gain, GainIndex, InputPath, Tune, Notch, GainTold, IfTold, TableTold}
 use Rattle.driver.specs.declared.Driver.{Driver}
-use Rattle.driver.specs.Record.{soundDriver, xtalOf}
+use Rattle.driver.specs.Record.{soundDriver, withPpm, xtalBy, xtalOf}
 use Rattle.driver.specs.Programs.{boardPathSteps, ifFor}
-use Rattle.driver.specs.Calls.{Both, boardResult, boardRow, both, rateResult, rateRow}
+use Rattle.driver.specs.Calls.{Both, boardResult, boardRow, both, correctionResult, correctionRow, rateResult, rateRow}
 use Rattle.driver.proofs.Lengths.{sample-rate-length}
 use Rattle.history.specs.Programs.{fine}
 use Rattle.history.specs.Histories.{stops}
 use Rattle.history.proofs.Calls.{lent-room}
 use Rattle.history.proofs.Fine.{fine-reload}
 use Rattle.sequences.specs.Calls.{Call, Order, asked, call, given, most, resultOf, rowOf, soundFor, tunerOf, tunerPart}
-use Rattle.sequences.specs.Calls.Order.{Tuned, SampleRate, BoardPath}
+use Rattle.sequences.specs.Calls.Order.{Tuned, SampleRate, Correction, BoardPath}
 use Rattle.writes.proofs.Lists.{bandwidth-in, gain-in, if-in, path-in, path-two}
 use Rattle.sequences.proofs.Programs.{board-length, fine-board, fine-bracket, fine-init, fine-rate, fine-tune, path-length, tune-length}
 
@@ -146,13 +144,10 @@ board-long : (p : PathRead) (rs : List ℕ) (t : Tuner) → length (stepsOf (boa
 board-long path-read.Refused rs t = omega arith
 board-long (path-read.Is path) rs t = board-length (t .kind) path rs
 
-still-long : (b : Bool) (u v : Tuner) (x y : Answer) → length (stepsOf (cond b (Still u x) (Still v y))) ≤ mostOf (cond b (Still u x) (Still v y))
+-- both ways of a correction rest
+still-long : (b : Bool) (u v : Both) (x y : Answer) → length (stepsOf (tunerPart (cond b (Still u x) (Still v y)))) ≤ mostOf (tunerPart (cond b (Still u x) (Still v y)))
 still-long true u v x y = omega arith
 still-long false u v x y = omega arith
-
-ppm-long : (r : Corrected) (t : Tuner) → length (stepsOf (ppmRow r t)) ≤ mostOf (ppmRow r t)
-ppm-long (corrected-variants.Is v) t = omega arith
-ppm-long corrected-variants.Refused t = omega arith
 
 -- no more steps than its most entries
 pub row-long : (o : Order) (t : Tuner) → length (stepsOf (rowOf o t)) ≤ most o t
@@ -165,13 +160,13 @@ row-long (Tuned (Gain db)) t = omega (arith, bracket-steps (gainUpdates (chosenO
 row-long (Tuned (GainIndex k)) t = omega (arith, bracket-steps (gainUpdates (clamped k)))
 row-long (Tuned (InputPath path)) t = path-long (pathOf path) (t .kind) t
 row-long (Tuned (Tune hz rs)) t = tune-length (t .chip .address) (t .kind) (t .notch) (planFor t hz) hz rs
-row-long (Tuned (Ppm ppm)) t = ppm-long (correctedOf (t .nominal) ppm) t
 row-long (Tuned (Notch on)) t = omega arith
 row-long (Tuned GainTold) t = omega arith
 row-long (Tuned IfTold) t = omega arith
 row-long (Tuned TableTold) t = omega arith
 row-long (SampleRate rate d) t =
     omega (arith, sample-rate-length (ifFor (t .ifreq) rate) rate (xtalOf d) (planOf (d .board) (d .frequency) .inverted))
+row-long (Correction ppm d) t = still-long (leb 1 (xtalBy (t .nominal) ppm) && leb 1 (xtalBy (d .nominal) ppm)) _ _ _ _
 row-long (BoardPath path rs) t = board-long (pathOf path) rs t
 
 few-path : (p : PathRead) (kind : Kind) (t : Tuner) → mostOf (pathRow p kind t) ≤ 53
@@ -184,13 +179,9 @@ few-board : (p : PathRead) (rs : List ℕ) (t : Tuner) → mostOf (boardRow p rs
 few-board path-read.Refused rs t = omega arith
 few-board (path-read.Is path) rs t = omega arith
 
-few-still : (b : Bool) (u v : Tuner) (x y : Answer) → mostOf (cond b (Still u x) (Still v y)) ≤ 53
+few-still : (b : Bool) (u v : Both) (x y : Answer) → mostOf (tunerPart (cond b (Still u x) (Still v y))) ≤ 53
 few-still true u v x y = omega arith
 few-still false u v x y = omega arith
-
-few-ppm : (r : Corrected) (t : Tuner) → mostOf (ppmRow r t) ≤ 53
-few-ppm (corrected-variants.Is v) t = omega arith
-few-ppm corrected-variants.Refused t = omega arith
 
 -- 53 is the most of all
 pub row-few : (o : Order) (t : Tuner) → most o t ≤ 53
@@ -203,12 +194,12 @@ row-few (Tuned (Gain db)) t = omega arith
 row-few (Tuned (GainIndex k)) t = omega arith
 row-few (Tuned (InputPath path)) t = few-path (pathOf path) (t .kind) t
 row-few (Tuned (Tune hz rs)) t = omega arith
-row-few (Tuned (Ppm ppm)) t = few-ppm (correctedOf (t .nominal) ppm) t
 row-few (Tuned (Notch on)) t = omega arith
 row-few (Tuned GainTold) t = omega arith
 row-few (Tuned IfTold) t = omega arith
 row-few (Tuned TableTold) t = omega arith
 row-few (SampleRate rate d) t = omega arith
+row-few (Correction ppm d) t = few-still (leb 1 (xtalBy (t .nominal) ppm) && leb 1 (xtalBy (d .nominal) ppm)) _ _ _ _
 row-few (BoardPath path rs) t = few-board (pathOf path) rs t
 
 module _ (t : Tuner) where
@@ -229,9 +220,10 @@ module _ (t : Tuner) where
   board-proper path-read.Refused rs = resting t (Refused 1) refl refl
   board-proper (path-read.Is path) rs = stepping 0 10 3 rs (Done 0) (boardPathSteps (t .kind) path rs) _ refl (fine-board (t .kind) path rs) (λ tr. refl)
 
-  ppm-proper : (r : Corrected) → Proper t (ppmRow r t)
-  ppm-proper (corrected-variants.Is v) = resting _ (Done 0) refl refl
-  ppm-proper corrected-variants.Refused = resting t (Refused 4) refl refl
+  -- a correction leaves the chip's record as it was
+  correction-proper : (b : Bool) (v : ℕ) (ppm : ℤ) (d : Driver) → Proper t (tunerPart (cond b (Still (both (withCorrected t v) (withPpm d ppm)) (Done 0)) (Still (both t d) (Refused 4))))
+  correction-proper true v ppm d = resting (withCorrected t v) (Done 0) refl refl
+  correction-proper false v ppm d = resting t (Refused 4) refl refl
 
   unstopped : (plan : Pll) (hz : ℕ) → stops (wholeOf plan hz) ≡ false
   unstopped pll-variants.Refused hz = refl
@@ -248,13 +240,13 @@ module _ (t : Tuner) where
   proper (Tuned (Tune hz rs)) g small =
       stepping _ 53 35 rs (wholeOf (planFor t hz) hz) _ _ (unstopped (planFor t hz) hz)
       (fine-tune (t .chip .address) rs small g (t .kind) (t .notch) (planFor t hz) hz) (λ tr. refl)
-  proper (Tuned (Ppm ppm)) g small = ppm-proper (correctedOf (t .nominal) ppm)
   proper (Tuned (Notch on)) g small = resting _ (Done 0) refl refl
   proper (Tuned GainTold) g small = resting t _ refl refl
   proper (Tuned IfTold) g small = resting t _ refl refl
   proper (Tuned TableTold) g small = resting t (Done 0) refl refl
   proper (SampleRate rate d) g small =
       stepping _ 17 0 [] (Done 0) _ _ refl (fine-rate (ifFor (t .ifreq) rate) rate (xtalOf d) (planOf (d .board) (d .frequency) .inverted)) (λ tr. refl)
+  proper (Correction ppm d) g small = correction-proper (leb 1 (xtalBy (t .nominal) ppm) && leb 1 (xtalBy (d .nominal) ppm)) (xtalBy (t .nominal) ppm) ppm d
   proper (BoardPath path rs) g small = board-proper (pathOf path) rs
 
 -- ---- every call
@@ -272,11 +264,21 @@ module _ (t : Tuner) (os room : List ℕ) where
       go true = refl
       go false = refl
 
+  -- likewise of one without steps
+  still-part : (s b : Bool) (u v : Both) (x y : Answer) (d : Driver)
+      → tunerOf (leftBy s (cond b (Still u x) (Still v y)) os (t .chip) (both t d) room) ≡ leftBy s (tunerPart (cond b (Still u x) (Still v y))) os (t .chip) t room
+  unfolding leftBy
+  still-part true true u v x y d = refl
+  still-part true false u v x y d = refl
+  still-part false true u v x y d = refl
+  still-part false false u v x y d = refl
+
   -- what a contract's definition leaves is what its row leaves
   pub result-row : (o : Order) → resultOf o os room t ≡ leftBy (soundFor o t) (rowOf o t) os (t .chip) t room
-  unfolding tuner.resultOf rateResult boardResult leftBy
+  unfolding tuner.resultOf rateResult correctionResult boardResult leftBy
   result-row (Tuned o) = refl
   result-row (SampleRate rate d) = tuner-part (asked (call (SampleRate rate d) os room) t .number) (Done 0) (stepsOf (rateRow rate t d)) _ d
+  result-row (Correction ppm d) = still-part (sound t && soundDriver d) (leb 1 (xtalBy (t .nominal) ppm) && leb 1 (xtalBy (d .nominal) ppm)) _ _ _ _ d
   result-row (BoardPath path rs) = refl
 
   pub view : (o : Order) → given o t ≡ true → t .chip .address ≤ 255 → View t (resultOf o os room t) (asked (call o os room) t) os room

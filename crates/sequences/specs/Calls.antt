@@ -5,6 +5,7 @@ use Prim.Native.Nat.{ℕ}
 use mathlib.Core.Bool.{Bool, _&&_}
 use mathlib.Core.List.{List}
 use lib.Dec.{leb}
+use lib.IntN.{ℤ}
 use lib.ListN.{length, set}
 use Rattle.transcript.specs.declared.Entry.{Entry}
 use Rattle.board.specs.Numbers.{pathOf}
@@ -17,13 +18,14 @@ use Rattle.r82xx.specs.Orders as tuner
 use Rattle.r82xx.specs.Record.{sound}
 use Rattle.driver.specs.declared.Driver.{Driver}
 use Rattle.driver.specs.Record.{soundDriver}
-use Rattle.driver.specs.Calls.{Both, boardResult, boardRow, rateResult, rateRow}
+use Rattle.driver.specs.Calls.{Both, boardResult, boardRow, correctionResult, correctionRow, rateResult, rateRow}
 
--- what is called, with its arguments: a call of the tuner's table, or one of the driver's; rs are the replies. `set_sample_rate` takes a driver's record too:
--- any, so that nothing hangs on where it comes from
+-- what is called, with its arguments: a call of the tuner's table, or one of the driver's; rs are the replies. `set_sample_rate` and the correction take a
+-- driver's record too: any, so that nothing hangs on where it comes from
 pub data Order : Type 0 where
   Tuned : (o : tuner.Order) → Order
   SampleRate : (rate : ℕ) (d : Driver) → Order
+  Correction : (ppm : ℤ) (d : Driver) → Order
   BoardPath : (path : ℕ) (rs : List ℕ) → Order
 
 -- a call: what is called, and the outcomes and the room that are lent to it (one without steps looks at neither)
@@ -37,13 +39,14 @@ call order outcomes room = record { order = order; outcomes = outcomes; room = r
 
 -- ---- what a call leaves, by its contract
 
--- "`set_sample_rate` takes both records": what it leaves of the tuner's
+-- "`set_sample_rate` takes both records", and so does the correction (#109): what they leave of the tuner's
 abbrev pub tunerOf : Called Both → Called Tuner
 tunerOf x = called (x .next .tuner) (x .room) (x .count) (x .answer)
 
 abbrev pub resultOf : Order → List ℕ → List ℕ → Tuner → Called Tuner
 resultOf (Tuned o) os room t = tuner.resultOf o os t room
 resultOf (SampleRate rate d) os room t = tunerOf (rateResult rate os t d room)
+resultOf (Correction ppm d) os room t = tunerOf (correctionResult ppm os t d room)
 resultOf (BoardPath path rs) os room t = boardResult path rs os t room
 
 abbrev pub result : Call → Tuner → Called Tuner
@@ -63,12 +66,14 @@ tunerPart (Taken argument n m rs whole ss keep) = Taken argument n m rs whole ss
 abbrev pub rowOf : Order → Tuner → Course Tuner
 rowOf (Tuned o) t = tuner.courseOf o t
 rowOf (SampleRate rate d) t = tunerPart (rateRow rate t d)
+rowOf (Correction ppm d) t = tunerPart (correctionRow ppm t d)
 rowOf (BoardPath path rs) t = boardRow (pathOf path) rs t
 
 -- whether the records given are in their ranges
 abbrev pub soundFor : Order → Tuner → Bool
 soundFor (Tuned o) t = sound t
 soundFor (SampleRate rate d) t = sound t && soundDriver d
+soundFor (Correction ppm d) t = sound t && soundDriver d
 soundFor (BoardPath path rs) t = sound t
 
 abbrev pub asked : Call → Tuner → Asked

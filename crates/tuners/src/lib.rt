@@ -1,13 +1,13 @@
 // The tuner's calls over bytes: the given record is read, the call made on it, the next one written into a lent slice of its own.
 // Document 01, "Modules, leaves first": "Records cross there as bytes. A given record out of its ranges .., or bytes that no record is written to, is
 // refused 1 first, all unchanged"; "The record": "Each operation hands the record back with its answer; only `set_ppm` and `apply_notch` change the
-// caller's record where it lies."
+// caller's record where it lies." The former is crate drivers' since #109.
 ghost use mathlib.Core.Path.{_≡_};
 ghost use Prim.Native.Nat.{_≤_};
 ghost use lib.ListN.{length};
 ghost use Rattle.lending.specs.Lent.{answeredTo, given};
 ghost use Rattle.r82xx.specs.Orders.{courseOf};
-ghost use Rattle.r82xx.specs.Orders.Order.{Initialize, Reload, Bandwidth, IfFreq, Gain, GainIndex, InputPath, Tune, Ppm, Notch, GainTold, IfTold};
+ghost use Rattle.r82xx.specs.Orders.Order.{Initialize, Reload, Bandwidth, IfFreq, Gain, GainIndex, InputPath, Tune, Notch, GainTold, IfTold};
 ghost use Rattle.records.specs.Tuners.{tunerBytes};
 ghost use Rattle.replies.specs.Replies.{replyOf};
 ghost use Rattle.chip.specs.declared.Answer.the-variants.{Refused};
@@ -245,19 +245,6 @@ pub fn fresh(kind: u64, address: u8, nominal: u64, next: &mut [u8]) -> Answer
     let made = Tuner::new(kind, address, nominal);
     let answer = made.answer;
     lend(answer, made.tuner, next)
-}
-
-pub fn set_ppm(tuner: &mut [u8], ppm: i32) -> Answer
-    ensures { λ r. ⌜ given r (now (tuner .exit)) ≡ changedInto (Ppm ppm) (now (tuner .entry)) (now (tuner .entry)) ⌝ }
-{
-    let read = records::decode_tuner(tuner);
-    if !read.ok {
-        return Answer::Refused(chip::SETUP);
-    }
-    let given = read.tuner;
-    let told = given.with_ppm(ppm);
-    let answer = told.answer;
-    lend(answer, told.tuner, tuner)
 }
 
 pub fn apply_notch(tuner: &mut [u8], on: bool) -> Answer

@@ -132,8 +132,8 @@ fn rates(run: &Run, rate: u32) -> String {
 }
 
 fn corrections(run: &Run) -> String {
-    let Some((tuner, _)) = &run.records else { return String::new() };
-    let (low, high) = reach::corrections(tuner);
+    let Some((tuner, driver)) = &run.records else { return String::new() };
+    let (low, high) = reach::corrections(tuner, driver);
     format!("give --ppm from {low} to {high}")
 }
 

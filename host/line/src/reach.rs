@@ -82,9 +82,9 @@ pub fn rates(tuner: &Tuner, driver: &Driver) -> Vec<Stretch> {
     joined(between.filter_map(|border| stretch(border[0], border[1] - 1, is_taken)).collect())
 }
 
-/// The corrections that a tuner takes, by the library's own answers: no correction is one of them.
-pub fn corrections(tuner: &Tuner) -> (i32, i32) {
-    let is_taken = |ppm: i64| i32::try_from(ppm).is_ok_and(|ppm| tuner.clone().set_ppm(ppm).is_ok());
+/// The corrections that a tuner and its driver take, by the library's own answers: no correction is one of them.
+pub fn corrections(tuner: &Tuner, driver: &Driver) -> (i32, i32) {
+    let is_taken = |ppm: i64| i32::try_from(ppm).is_ok_and(|ppm| driver.clone().set_ppm(&mut tuner.clone(), ppm).is_ok());
     let last = |far: i64| {
         let (mut inside, mut outside) = (0, far);
         while (outside - inside).abs() > 1 {
@@ -207,8 +207,13 @@ mod tests {
 
     #[test]
     fn corrections_to_the_last() {
-        assert_eq!(corrections(&tuner(TunerKind::R828d, 28_800_000)), (-999_999, 148_130_808));
-        assert_eq!(corrections(&tuner(TunerKind::R828d, 1)), (-999_999, i32::MAX));
-        assert_eq!(corrections(&tuner(TunerKind::R828d, u32::MAX)), (-999_999, 0));
+        let taken =
+            |first: u32, second: u32| corrections(&tuner(TunerKind::R828d, first), &Driver::new(Board::V4, second, 0, 0, 0).unwrap());
+        assert_eq!(taken(28_800_000, 28_800_000), (-999_999, 148_130_808));
+        assert_eq!(taken(1, 1), (-999_999, i32::MAX));
+        // The larger nominal decides, whosever it is.
+        assert_eq!(taken(28_800_000, u32::MAX), (-999_999, 0));
+        assert_eq!(taken(u32::MAX, 28_800_000), (-999_999, 0));
+        assert_eq!(taken(1, 28_800_000), (-999_999, 148_130_808));
     }
 }

@@ -106,7 +106,7 @@ impl Report {
 
     /// The tuner's corrected reference, where a correction was taken now or before.
     fn corrected(&self) -> Option<u32> {
-        let taken = self.run.made.iter().any(|made| made.call == Call::TunerPpm && made.result.is_ok());
+        let taken = self.run.made.iter().any(|made| made.call == Call::Correction && made.result.is_ok());
         let (tuner, _) = self.run.records.as_ref()?;
         (taken || tuner.corrected() != tuner.nominal()).then(|| tuner.corrected())
     }

@@ -7,8 +7,7 @@ use pasetone::{Answer, Board, Driver, Error, InputPath, Lock, Need, Plan, Script
 pub enum Call {
     FreshTuner,
     FreshDriver,
-    TunerPpm,
-    DriverPpm,
+    Correction,
     Initialise,
     SampleRate,
     Gain,
@@ -22,8 +21,7 @@ impl Call {
         match self {
             Call::FreshTuner => "fresh tuner",
             Call::FreshDriver => "fresh driver",
-            Call::TunerPpm => "set_ppm",
-            Call::DriverPpm => "driver's ppm",
+            Call::Correction => "set_ppm",
             Call::Initialise => "initialise",
             Call::SampleRate => "sample rate",
             Call::Gain => "gain",
@@ -120,11 +118,8 @@ impl Run {
 
     fn sequence(&mut self, tuner: &mut Tuner, driver: &mut Driver, asked: &Asked, plan: &Plan) -> Option<()> {
         if let Some(ppm) = asked.ppm {
-            let corrected = tuner.set_ppm(ppm);
-            self.after(Call::TunerPpm, corrected, Transcript::default())?;
-            // Both records keep a reference of their own.
-            let corrected = driver.set_ppm(ppm);
-            self.after(Call::DriverPpm, corrected, Transcript::default())?;
+            let corrected = driver.set_ppm(tuner, ppm);
+            self.after(Call::Correction, corrected, Transcript::default())?;
         }
         if asked.initialise {
             let answer = tuner.initialize(&self.script());

@@ -29,13 +29,20 @@ impl Board {
         let mut out = [0; 3];
         // SAFETY: see raw.rs. Board and slice are as they must be, so this is not refused.
         let reply = unsafe { raw::pasetone_plan_tuning(self as u64, hz, out.as_mut_ptr(), out.len()) };
-        let path = match out[1] {
+        Plan::told(reply.value, out)
+    }
+}
+
+impl Plan {
+    /// By what the library tells: the tuner's Hz, and inverted, path (3 none) and notch as bytes.
+    pub(crate) fn told(hz: u64, [inverted, path, notch]: [u8; 3]) -> Plan {
+        let path = match path {
             0 => Some(InputPath::Hf),
             1 => Some(InputPath::Vhf),
             2 => Some(InputPath::Uhf),
             _ => None,
         };
-        Plan { hz: reply.value, inverted: out[0] != 0, path, notch: out[2] != 0 }
+        Plan { hz, inverted: inverted != 0, path, notch: notch != 0 }
     }
 }
 
@@ -80,16 +87,18 @@ impl Driver {
         &self.record
     }
 
-    /// Another correction; the tuner keeps its own.
+    /// The correction, of this driver and its tuner at once: each one's corrected reference is nominal + nominal · ppm / 1,000,000 of its own nominal, the
+    /// quotient cut toward zero. No step is taken: the next tuning and the next rate go by it.
     ///
     /// # Errors
     ///
-    /// - [`Error::Correction`] (4): the corrected reference is out of 1..=4,294,967,295; nothing has changed.
-    pub fn set_ppm(&mut self, ppm: i32) -> Result<(), Error> {
-        let mut next = self.record;
-        let d = &self.record;
-        // SAFETY: see raw.rs.
-        unsafe { raw::pasetone_driver_set_ppm(d.as_ptr(), d.len(), ppm, next.as_mut_ptr(), next.len()) }.result()?;
+    /// - [`Error::Correction`] (4): one of the two corrected references is out of 1..=4,294,967,295; neither record has changed.
+    pub fn set_ppm(&mut self, tuner: &mut Tuner, ppm: i32) -> Result<(), Error> {
+        let (mut next_tuner, mut next) = (*tuner.as_bytes(), self.record);
+        let (t, d) = (&mut next_tuner, &mut next);
+        // SAFETY: see raw.rs. Both copies are changed where they lie, or neither.
+        unsafe { raw::pasetone_set_ppm(t.as_mut_ptr(), t.len(), d.as_mut_ptr(), d.len(), ppm) }.result()?;
+        tuner.replace(next_tuner);
         self.record = next;
         Ok(())
     }

@@ -8,7 +8,7 @@ use core::fmt;
 pub enum Error {
     /// 1: a nominal reference of 0, or bytes that are no record.
     Setup,
-    /// 2: 0 Hz, Hz plus IF over 64 bits, or a frequency that the PLL cannot make with its reference.
+    /// 2: 0 Hz, Hz plus IF over 64 bits, or a frequency that the PLL cannot make with its reference; by a table, one in no band, or shifted below 0 or past 64 bits.
     Frequency,
     /// 3: rate 0.
     Rate,
@@ -41,6 +41,8 @@ pub enum Error {
     Settings,
     /// 18: settings of edition 2 whose IF edition 1 cannot say.
     NotExpressible,
+    /// 19: bands that are no well-formed table.
+    Table,
 }
 
 impl Error {
@@ -64,6 +66,7 @@ impl Error {
             16 => Error::Edition,
             17 => Error::Settings,
             18 => Error::NotExpressible,
+            19 => Error::Table,
             other => unreachable!("pasetone.h has no refusal {other}"),
         })
     }
@@ -87,6 +90,7 @@ impl Error {
             Error::Edition => 16,
             Error::Settings => 17,
             Error::NotExpressible => 18,
+            Error::Table => 19,
         }
     }
 
@@ -109,6 +113,7 @@ impl Error {
             Error::Edition => "edition",
             Error::Settings => "settings",
             Error::NotExpressible => "not expressible",
+            Error::Table => "table",
         }
     }
 }
@@ -145,6 +150,9 @@ impl Error {
             Error::Edition => "the settings are of another edition: read them by its own functions",
             Error::Settings => "the bytes do not end in settings, or a gain index is above 28: give a whole image, its trailer last",
             Error::NotExpressible => "edition 1 has no IF but 2300000: keep these settings in edition 2",
+            Error::Table => {
+                "the bands are no table: give at most 16, each with a first Hz not above its last and above the last of the band before, flags of 0 or 1 and a path up to 3"
+            }
         }
     }
 }

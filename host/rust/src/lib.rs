@@ -88,6 +88,7 @@ mod raw;
 mod registers;
 mod script;
 mod settings;
+mod table;
 mod transcript;
 mod tuner;
 
@@ -99,6 +100,7 @@ pub use pll::PllPlan;
 pub use registers::{if_freq_regs, pack_fir, resample_regs, unpack_fir};
 pub use script::Script;
 pub use settings::{Settings, Settings2};
+pub use table::{Band, Table};
 pub use transcript::{Entries, Entry, EntryKind, Transcript};
 pub use tuner::{InputPath, Tuner, TunerKind};
 

@@ -170,10 +170,9 @@ unsafe extern "C" {
     pub fn pasetone_get_gain(tuner: Bytes, t: usize) -> Reply;
     pub fn pasetone_get_if_freq(tuner: Bytes, t: usize) -> Reply;
     pub fn pasetone_get_gain_table(tuner: Bytes, t: usize, out: BytesMut, n: usize) -> Reply;
-    pub fn pasetone_set_ppm(tuner: BytesMut, t: usize, ppm: i32) -> Reply;
     pub fn pasetone_apply_notch(tuner: BytesMut, t: usize, on: u8) -> Reply;
-    pub fn pasetone_driver_set_ppm(driver: Bytes, d: usize, ppm: i32, next: BytesMut, n: usize) -> Reply;
     pub fn pasetone_corrected_xtal_hz(driver: Bytes, d: usize) -> Reply;
+    pub fn pasetone_set_ppm(tuner: BytesMut, t: usize, driver: BytesMut, d: usize, ppm: i32) -> Reply;
     pub fn pasetone_set_sample_rate(
         driver: Bytes,
         d: usize,
@@ -224,6 +223,8 @@ unsafe extern "C" {
         r: usize,
     ) -> Reply;
     pub fn pasetone_plan_tuning(board: u64, hz: u64, out: BytesMut, n: usize) -> Reply;
+    pub fn pasetone_board_table(board: u64, out: BytesMut, n: usize) -> Reply;
+    pub fn pasetone_plan_by_table(table: Bytes, t: usize, hz: u64, out: BytesMut, n: usize) -> Reply;
     pub fn pasetone_if_freq_regs(hz: u32, xtal: u32, out: BytesMut, n: usize) -> Reply;
     pub fn pasetone_resample_regs(rate: u32, xtal: u32, out: BytesMut, n: usize) -> Reply;
     pub fn pasetone_pack_fir(values: Bytes, v: usize, out: BytesMut, n: usize) -> Reply;

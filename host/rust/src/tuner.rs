@@ -250,17 +250,6 @@ impl Tuner {
         }))
     }
 
-    /// The tuner's corrected reference: nominal + nominal · ppm / 1,000,000, the quotient cut toward zero. A [`Driver`](crate::Driver) keeps its own.
-    ///
-    /// # Errors
-    ///
-    /// - [`Error::Correction`] (4): the corrected reference is out of 1..=4,294,967,295; nothing has changed.
-    pub fn set_ppm(&mut self, ppm: i32) -> Result<(), Error> {
-        // SAFETY: see raw.rs. The record is changed where it lies.
-        let reply = unsafe { raw::pasetone_set_ppm(self.record.as_mut_ptr(), self.record.len(), ppm) };
-        reply.result().map(drop)
-    }
-
     /// The notch, for the next tuning.
     pub fn apply_notch(&mut self, on: bool) {
         // SAFETY: see raw.rs. The record is changed where it lies; it is one, so this is not refused.

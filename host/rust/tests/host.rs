@@ -138,9 +138,10 @@ fn records_from_slices() {
 fn driver_tells_its_fields() {
     let mut driver = Driver::new(Board::V4, 4_294_967_295, -1, 7_100_000, 2_048_000).unwrap();
     assert_eq!((driver.nominal(), driver.ppm(), driver.frequency(), driver.rate()), (4_294_967_295, -1, 7_100_000, 2_048_000));
-    assert_eq!(driver.set_ppm(1), Err(Error::Correction));
-    assert_eq!(driver.ppm(), -1);
-    driver.set_ppm(-999_999).unwrap();
+    let mut tuner = r828d();
+    assert_eq!(driver.set_ppm(&mut tuner, 1), Err(Error::Correction));
+    assert_eq!((driver.ppm(), tuner.corrected()), (-1, 28_800_000));
+    driver.set_ppm(&mut tuner, -999_999).unwrap();
     assert_eq!((driver.ppm(), driver.nominal(), driver.corrected_xtal_hz()), (-999_999, 4_294_967_295, 4_295));
     assert_eq!(
         format!("{driver:?}"),

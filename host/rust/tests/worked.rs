@@ -1,7 +1,7 @@
 //! Document 01's worked numbers, and what a call leaves where it is refused.
 use pasetone::{
-    Board, Driver, EntryKind, Error, InputPath, Lock, PllPlan, Script, Transcript, Tuner, TunerKind, Whose, demod, gpio, if_freq_regs,
-    pack_fir, parting, resample_regs, unpack_fir,
+    Band, Board, Driver, EntryKind, Error, InputPath, Lock, PllPlan, Script, Table, Transcript, Tuner, TunerKind, Whose, demod, gpio,
+    if_freq_regs, pack_fir, parting, resample_regs, unpack_fir,
 };
 
 fn r828d() -> Tuner {
@@ -144,8 +144,9 @@ fn refused_before_steps() {
         assert_eq!((answer.result, answer.transcript), (Err(error), Transcript::default()));
     }
     assert_eq!(tuner.set_frequency(0, &done()).result, Err(Error::Frequency));
-    assert_eq!(tuner.set_ppm(-1_000_000), Err(Error::Correction));
-    assert_eq!(tuner, before);
+    let mut driver = Driver::new(Board::V4, 28_800_000, 7, 0, 0).unwrap();
+    assert_eq!(driver.set_ppm(&mut tuner, -1_000_000), Err(Error::Correction));
+    assert_eq!((tuner, driver.ppm()), (before, 7));
 }
 
 #[test]
@@ -172,8 +173,6 @@ fn other_calls_of_the_tuner() {
     assert_eq!(tuner.apply_input_path(InputPath::Hf, &done()).transcript.len(), 10);
     tuner.apply_notch(true);
     assert!(tuner.notch());
-    tuner.set_ppm(-1).unwrap();
-    assert_eq!(tuner.corrected(), 28_799_972);
     let mut small = Tuner::new(TunerKind::R820t, 0x34, 16_000_000).unwrap();
     let answer = small.set_input_path(InputPath::Hf, &Script::new([], []));
     assert_eq!((answer.result, answer.transcript), (Ok(()), Transcript::default()));
@@ -222,10 +221,38 @@ fn driver() {
     }
     driver.set_sample_rate(&mut tuner, 2_048_000, &done().failing(16).unwrap()).result.unwrap_err();
     assert_eq!((driver.rate(), driver.true_rate()), (u32::MAX, 4_295_120_011));
-    driver.set_ppm(-1).unwrap();
-    assert_eq!(driver.corrected_xtal_hz(), 28_799_972);
-    assert_eq!(driver.set_ppm(-1_000_000), Err(Error::Correction));
     assert_eq!(Driver::new(Board::Generic, 28_800_000, -1_000_000, 0, 0), Err(Error::Correction));
+}
+
+/// Document 02, #109: one call corrects both records, each by its own nominal, or neither.
+#[test]
+fn correction_of_both() {
+    let mut tuner = r828d();
+    let mut driver = Driver::new(Board::V4, 16_000_000, 0, 102_300_000, 2_048_000).unwrap();
+    driver.set_sample_rate(&mut tuner, 3_200_000, &done()).result.unwrap();
+    let fields = |tuner: &Tuner, driver: &Driver| (tuner.corrected(), driver.ppm(), driver.corrected_xtal_hz());
+    assert_eq!(driver.set_ppm(&mut tuner, -1), Ok(()));
+    assert_eq!(fields(&tuner, &driver), (28_799_972, -1, 15_999_984));
+    assert_eq!((tuner.nominal(), driver.nominal(), driver.rate(), driver.frequency()), (28_800_000, 16_000_000, 3_200_000, 102_300_000));
+    // From the nominals, not from what was set before.
+    assert_eq!(driver.set_ppm(&mut tuner, 148_130_808), Ok(()));
+    assert_eq!(fields(&tuner, &driver), (4_294_967_270, 148_130_808, 2_386_092_928));
+    // The tuner's reference alone is out of its range, then the driver's alone, then both.
+    let (before, kept) = (tuner.clone(), driver.clone());
+    for ppm in [148_130_809, -1_000_000, i32::MIN, i32::MAX] {
+        assert_eq!(driver.set_ppm(&mut tuner, ppm), Err(Error::Correction));
+        assert_eq!((&tuner, &driver), (&before, &kept));
+    }
+    let mut small = Tuner::new(TunerKind::R820t, 0x34, 1).unwrap();
+    let mut large = Driver::new(Board::Generic, 4_294_967_295, -5, 0, 0).unwrap();
+    assert_eq!(large.set_ppm(&mut small, 1), Err(Error::Correction));
+    assert_eq!((small.corrected(), large.ppm()), (1, -5));
+    assert_eq!(large.set_ppm(&mut small, -999_999), Ok(()));
+    assert_eq!(fields(&small, &large), (1, -999_999, 4_295));
+    // The two references of a hop are the same where the nominals are.
+    let mut driver = Driver::new(Board::V4, 28_800_000, 0, 0, 0).unwrap();
+    driver.set_ppm(&mut tuner, 37).unwrap();
+    assert_eq!(tuner.corrected(), driver.corrected_xtal_hz());
 }
 
 #[test]
@@ -237,6 +264,38 @@ fn plans() {
     let notches = [84_999_999, 85_000_000, 112_000_000, 112_000_001].map(|hz| Board::V4.plan_tuning(hz).notch);
     assert_eq!(notches, [false, true, true, false]);
     assert_eq!(Board::Generic.plan_tuning(1).path, None);
+}
+
+/// The built-in boards by their tables, and bands at the ends of what 64 bits hold.
+#[test]
+fn tables() {
+    let band = |first, last, shift| Band { first, last, shift, inverted: false, path: None, notch: false };
+    for (board, bands) in [(Board::Generic, 1), (Board::V4, 8)] {
+        let table = board.table();
+        assert_eq!(table.as_bytes().len(), Table::BAND * bands);
+        for edge in [0, 2_200_000, 28_799_999, 84_999_999, 112_000_000, 171_999_999, 242_000_000, 249_999_999, u64::MAX - 1] {
+            for hz in [edge, edge + 1] {
+                assert_eq!(table.plan_tuning(hz), Ok(board.plan_tuning(hz)));
+            }
+        }
+    }
+    assert_eq!(Table::new(&[band(0, u64::MAX, 0)]).unwrap(), Board::Generic.table());
+    let table = Table::new(&[band(0, 9, -5), band(10, 10, i64::MIN), band(11, u64::MAX, i64::MAX)]).unwrap();
+    let found = [4, 5, 9, 10, 11, 1 << 63, (1 << 63) + 1].map(|hz| table.plan_tuning(hz).map(|plan| plan.hz));
+    let last = Err(Error::Frequency);
+    assert_eq!(found, [last, Ok(0), Ok(4), last, Ok((1 << 63) + 10), Ok(u64::MAX), last]);
+    for bands in [vec![band(1, 0, 0)], vec![band(0, 5, 0), band(5, 6, 0)], (0..17).map(|hz| band(hz, hz, 0)).collect()] {
+        assert_eq!(Table::new(&bands), Err(Error::Table));
+    }
+    assert_eq!(Table::new(&[]).unwrap().plan_tuning(0), Err(Error::Frequency));
+    let bytes = Board::V4.table().as_bytes().to_vec();
+    for (at, byte) in [(24, 2), (25, 4), (26, 2), (27, 0xc0)] {
+        let mut bad = bytes.clone();
+        bad[at] = byte;
+        assert_eq!(Table::from_bytes(&bad), Err(Error::Table), "byte {at}");
+    }
+    assert_eq!(Table::from_bytes(&bytes[..215]), Err(Error::Table));
+    assert_eq!(Error::Table.number(), 19);
 }
 
 /// Both engines, at document 01's worked numbers and at the least N.
@@ -350,7 +409,7 @@ fn errors_have_numbers_and_words() {
     assert_eq!((Error::Coefficient.number(), Error::Coefficient.word()), (7, "coefficient"));
     assert_eq!((Error::Ratio.number(), Error::Ratio.word()), (13, "ratio"));
     assert_eq!(Transcript::read(&[]).map(|_| ()).unwrap_err().number(), 12);
-    assert_eq!(pasetone::version(), (4, 0, 0));
+    assert_eq!(pasetone::version(), (5, 0, 0));
     assert_eq!((Error::Expansion.number(), Error::Expansion.word()), (15, "expansion"));
 }
 

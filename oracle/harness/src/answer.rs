@@ -12,10 +12,10 @@ use rusb::rec::Entry;
 use std::sync::Arc;
 
 pub fn takes_tuner(call: u8) -> bool {
-    matches!(call, 2..=11 | 13..=15 | 19 | 20)
+    matches!(call, 2..=11 | 13..=15 | 19 | 20 | 41)
 }
 pub fn takes_driver(call: u8) -> bool {
-    matches!(call, 17..=19)
+    matches!(call, 18 | 19 | 41)
 }
 
 /// The records of a case, taken apart; a call that takes none has a stand-in that is not looked at.
@@ -33,6 +33,7 @@ impl Given {
     }
 }
 
+/// Call 10 is document 01's `set_ppm`, of the tuner alone. Document 02 has none (#109), and no case of the list; what compares the Rust with document 01 asks for it.
 pub fn answer(case: &Case) -> Answer {
     let Some(given) = Given::read(case) else { return Answer::refused(1, By::Page) };
     if let Some((refusal, by)) = argument(case, &given) {
@@ -45,7 +46,7 @@ pub fn answer(case: &Case) -> Answer {
         1 => fresh(case),
         2..=9 => steps_on_tuner(case, &given.tuner),
         10 | 11 | 13..=15 => without_steps(case, &given.tuner),
-        16..=18 => on_driver(case, &given.driver),
+        16 | 18 => on_driver(case, &given.driver),
         19 => sample_rate(case, &given),
         20 => board_path(case, &given),
         21..=32 => on_interface(case),
@@ -74,7 +75,6 @@ fn argument(case: &Case, given: &Given) -> Option<(u8, By)> {
         3 => over(case.a.checked_add(given.tuner.intermediate).is_none(), 2),
         10 => over(page::corrected(given.tuner.nominal, case.d as i32).is_none(), 4),
         16 => over(page::corrected(case.a as u32, case.d as i32).is_none(), 4),
-        17 => over(page::corrected(given.driver.nominal, case.d as i32).is_none(), 4),
         19 if case.a == 0 => asked(|| rate(Arc::new(run::chip(&given.tuner)), given, 0).0),
         28 if case.a == 0 => asked(|| demod::set_sample_rate_xtal(&*run::usb(), 0, case.b as u32)),
         35 if case.a == 0 => Some((3, By::PageOverRust)),
@@ -206,7 +206,6 @@ fn on_driver(case: &Case, given: &Driver) -> Answer {
             let made = Driver { board: case.c as u8, nominal: case.a as u32, ppm, frequency: case.b, rate: case.e, actual: 0 };
             Answer { by: By::Page, driver: Some(made.bytes()), ..Answer::default() }
         }
-        17 => Answer { by: By::Page, driver: Some(Driver { ppm, ..given.clone() }.bytes()), ..Answer::default() },
         _ => {
             let chip = Arc::new(run::chip(&Tuner::fresh(1, 28_800_000, 0x74)));
             Answer { value: run::driver(chip, 1, given).see_corrected() as u64, ..Answer::default() }

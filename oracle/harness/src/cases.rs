@@ -1,6 +1,7 @@
 //! The cases of the stored list: boundaries (each threshold of the Rust at t-1, t, t+1), a failure at every step,
 //! refusals in their order, damaged records, and random ones. Inputs only; answer.rs answers them.
 
+mod correction;
 mod lists;
 mod refused;
 mod rest;
@@ -42,7 +43,7 @@ pub fn plain(call: u8) -> Case {
         5 => case.a = 12,
         6 => case.a = 2_048_000,
         7 => case.a = 3_570_000,
-        10 | 17 => case.d = 37,
+        10 | 41 => case.d = 37,
         16 => (case.a, case.b, case.c, case.d, case.e) = (28_800_000, TUNED, 1, (-7i32) as u32, 2_048_000),
         19 => case.a = 2_048_000,
         26 => (case.a, case.b, case.c) = (1, 0x15, 0x05),
@@ -146,7 +147,7 @@ pub fn random(call: u8, dice: &mut Dice) -> Case {
         6 => case.a = dice.below(9 * MHZ),
         7 => case.a = if dice.yes() { dice.below(7 * MHZ) } else { dice.spread() },
         8 | 20 => case.a = dice.below(3),
-        10 | 17 => case.d = if dice.below(4) == 0 { dice.next() as u32 } else { (dice.below(2001) as i32 - 1000) as u32 },
+        10 | 41 => case.d = if dice.below(4) == 0 { dice.next() as u32 } else { (dice.below(2001) as i32 - 1000) as u32 },
         11 => case.a = dice.byte() as u64,
         16 => {
             let made = random_driver(dice);
@@ -190,9 +191,10 @@ fn at_every_step(case: &Case) -> Vec<Case> {
         .collect()
 }
 
-/// The calls of list 1 but for those that document 02 adds. 12 was `update_shadow`, which is gone (#106); its number is not used again.
+/// The calls of list 1 but for the leaves that document 02 adds. 12 was `update_shadow`, which is gone (#106); 10 and 17 were the two corrections, which are 41
+/// since #109. No number is used again.
 fn numbers() -> impl Iterator<Item = u8> {
-    (1..=35).filter(|&call| call != 12)
+    (1..=35).filter(|call| !matches!(call, 10 | 12 | 17)).chain([41])
 }
 
 /// List 1: the calls.
@@ -222,5 +224,6 @@ pub fn calls() -> Vec<Case> {
     rest::held_rates(&mut all);
     rest::true_rates(&mut all);
     shadow::follows(&mut all);
+    correction::both(&mut all);
     all
 }

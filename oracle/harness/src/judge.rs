@@ -63,7 +63,7 @@ pub fn all(paper: Paper, case: &Case, found: &Answer, tally: &mut Tally) {
 fn shape(case: &Case, found: &Answer, tally: &mut Tally) {
     let made = entries(found);
     if found.section.is_none() {
-        let silent = matches!(case.call, 1 | 8 | 10 | 11 | 13..=18 | 33..=40) || found.refusal != 0;
+        let silent = matches!(case.call, 1 | 8 | 10 | 11 | 13..=16 | 18 | 33..=41) || found.refusal != 0;
         tally.that(silent && (found.count == 0 || case.call == 38), || format!("no section: {case:?}"));
         let nothing = found.tuner.is_none() && found.driver.is_none() && found.answered.is_empty() && found.value == 0 && found.index == 0;
         tally.that(found.refusal == 0 || nothing, || format!("refused, yet something changed: {case:?}"));
@@ -116,12 +116,18 @@ fn afterwards(paper: Paper, case: &Case, found: &Answer, tally: &mut Tally) {
         3 => wanted.lock = lock(&made, before.lock),
         4 | 5 if found.refusal == 0 => wanted.gain = found.value as u32,
         7 => wanted.intermediate = case.a,
-        10 => wanted.corrected = page::corrected(before.nominal, case.d as i32).expect("taken"),
+        10 | 41 => wanted.corrected = page::corrected(before.nominal, case.d as i32).expect("taken"),
         11 => wanted.notch = case.a != 0,
         19 => wanted.intermediate = page::rate_if(case.a as u32, before.intermediate) as u64,
         _ => {}
     }
     tally.same(found.tuner.clone(), Some(wanted.bytes()), || format!("tuner record after {case:?}"));
+    if case.call == 41 {
+        let given = Driver::read(&case.driver).expect("given");
+        let wanted = Driver { ppm: case.d as i32, ..given };
+        tally.that(page::corrected(wanted.nominal, wanted.ppm).is_some(), || format!("driver's reference after {case:?}"));
+        tally.same(found.driver.clone(), Some(wanted.bytes()), || format!("driver record after {case:?}"));
+    }
     if case.call == 19 {
         let given = Driver::read(&case.driver).expect("given");
         let rate = if found.refusal == 0 { case.a as u32 } else { given.rate };

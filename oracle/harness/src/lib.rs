@@ -1,5 +1,5 @@
 //! The judge: document 01's calls answered by the original Rust (run.rs), by document 01's own rules where the Rust is
-//! not asked or has no answer (page.rs), and both put together for one case (answer.rs); document 02 over them (requests.rs, files.rs).
+//! not asked or has no answer (page.rs), and both put together for one case (answer.rs); document 02 over them (requests.rs, files.rs, tables.rs).
 pub mod answer;
 pub mod case;
 pub mod cases;
@@ -15,4 +15,5 @@ pub mod restore;
 pub mod run;
 pub mod speed;
 pub mod steps;
+pub mod tables;
 pub mod tally;

@@ -9,6 +9,7 @@ use crate::run::{self, run};
 use original::tuner::Tuner as Calls;
 use original::tuners::r82xx::SEEN_INIT;
 use rusb::rec::Entry;
+use std::sync::Arc;
 
 /// Length of a call's answered bytes.
 pub fn answered(call: u8) -> Option<usize> {
@@ -22,6 +23,7 @@ pub fn answer(case: &Case) -> Answer {
         19 | 28 if not_held(case) => Answer::refused(13, By::PageOverRust),
         19 => with_true_rate(case, following(case, answer::answer)),
         39 | 40 => figures(case),
+        41 => correction(case),
         _ => answer::answer(case),
     }
 }
@@ -139,6 +141,31 @@ fn with_true_rate(case: &Case, mut answer: Answer) -> Answer {
         answer.driver = Some(Driver { actual, ..next }.bytes());
     }
     answer
+}
+
+/// #109: "one call works out both corrected references from their own nominals and sets both, or refuses and sets neither"; "4 if either is out of its
+/// range". 1 for either record stands before it. What is set is the Rust's; both references are document 01's too, else no list comes out.
+fn correction(case: &Case) -> Answer {
+    let ppm = case.d as i32;
+    let (Some(tuner), Some(driver)) = (Tuner::read(&case.tuner), Driver::read(&case.driver)) else { return Answer::refused(1, By::Page) };
+    let (Some(first), Some(second)) = (page::corrected(tuner.nominal, ppm), page::corrected(driver.nominal, ppm)) else {
+        return Answer::refused(4, By::PageOverRust);
+    };
+    let (tuner, driver, reference) = corrected(&tuner, &driver, ppm);
+    assert_eq!((tuner.corrected, reference), (first, second), "the Rust and the page part");
+    Answer { tuner: Some(tuner.bytes()), driver: Some(driver.bytes()), ..Answer::default() }
+}
+
+/// The Rust's own `Driver::set_ppm` over both records, and the driver's reference behind it. It tunes again and sets the rate again, which is no part of the call:
+/// at a frequency and a rate of 0 it does neither, and what is left of it is the correction.
+pub fn corrected(tuner: &Tuner, driver: &Driver, ppm: i32) -> (Tuner, Driver, u32) {
+    let chip = Arc::new(run::chip(tuner));
+    let still = Driver { frequency: 0, rate: 0, ..driver.clone() };
+    let mut set = run::driver(chip.clone(), tuner.kind, &still);
+    let (result, entries) = run(&[], &[], || run::block_on(set.set_ppm(ppm)));
+    result.expect("the Rust takes every ppm");
+    assert!(entries.is_empty(), "{} entries in a correction", entries.len());
+    (tuner.after(&chip.see(), &[]), Driver { ppm: set.ppm, ..driver.clone() }, set.see_corrected())
 }
 
 /// The two leaves of #111: "the same divider, N, S, rest and refusal". "At the host's leaves: a kind that is none 1, a reference of 0 is 4, then 2"

@@ -10,7 +10,7 @@ use harness::case::Case;
 use harness::dice::Dice;
 use harness::judge::bare;
 use harness::page;
-use harness::records::{FIRST, Tuner};
+use harness::records::{Driver, FIRST, Tuner};
 use harness::tally::Tally;
 use original::tuners::r82xx::SEEN_INIT;
 use rusb::rec::Entry;
@@ -64,6 +64,9 @@ impl Host {
         let Some(record) = Tuner::read(&self.receiver.tuner) else {
             return tally.that(false, || format!("no record was handed back: {}", what()));
         };
+        // Both records were made on one nominal, and one call corrects both (#109): they never part.
+        let reference = Driver::read(&self.receiver.driver).and_then(|driver| page::corrected(driver.nominal, driver.ppm));
+        tally.that(reference == Some(record.corrected), || format!("the two references after {}", what()));
         for place in 0..27 {
             let last = self.chip.last[place];
             let (mark, byte) = (record.doubtful[place], record.shadow[place]);
@@ -108,7 +111,7 @@ pub fn chain(length: u64, wrong: Wrong, dice: &mut Dice, tally: &mut Tally, done
         if let Some(bytes) = found.tuner_after(&given) {
             hosts[at].receiver.tuner = bytes.to_vec();
         }
-        if let (19, Some(bytes)) = (given.case.call, found.driver_after(&given)) {
+        if let (19 | 41, Some(bytes)) = (given.case.call, found.driver_after(&given)) {
             hosts[at].receiver.driver = bytes.to_vec();
         }
         let what = || format!("{:02x?}", given.case);
@@ -128,7 +131,7 @@ pub fn chain(length: u64, wrong: Wrong, dice: &mut Dice, tally: &mut Tally, done
 
 /// A call on a receiver's own records.
 fn drawn(receiver: &Receiver, dice: &mut Dice) -> Given {
-    let call = dice.pick(&[2, 2, 3, 3, 3, 4, 5, 6, 7, 8, 9, 9, 10, 11, 19, 20]);
+    let call = dice.pick(&[2, 2, 3, 3, 3, 4, 5, 6, 7, 8, 9, 9, 11, 19, 20, 41]);
     let mut given = draw::draw(call, receiver, dice);
     given.case.tuner = receiver.tuner.clone();
     if takes_driver(call) {

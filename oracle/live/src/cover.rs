@@ -3,19 +3,20 @@ use crate::draw;
 use crate::rules::{PANICS, RULES};
 use harness::answer::answer;
 use harness::case::Case;
+use harness::records::{Driver, Tuner};
 use harness::tally::Tally;
 use harness::{cases, judge, page, requests};
 use rusb::rec::Entry;
 use std::collections::BTreeMap;
 
-/// By number; 12 has none any more.
+/// By number; 10, 12 and 17 have none any more.
 #[rustfmt::skip]
-pub const NAMES: [&str; 40] = [
-    "tuner_new", "initialize", "set_frequency", "set_gain", "set_gain_by_index", "set_bandwidth", "set_if_freq", "set_input_path", "reload", "set_ppm",
-    "apply_notch", "", "get_gain", "get_if_freq", "get_gain_table", "driver_new", "driver_set_ppm", "corrected_xtal_hz", "set_sample_rate",
+pub const NAMES: [&str; 41] = [
+    "tuner_new", "initialize", "set_frequency", "set_gain", "set_gain_by_index", "set_bandwidth", "set_if_freq", "set_input_path", "reload", "",
+    "apply_notch", "", "get_gain", "get_if_freq", "get_gain_table", "driver_new", "", "corrected_xtal_hz", "set_sample_rate",
     "apply_input_path", "init_baseband", "power_on", "set_tuner_low_if", "set_tuner_zero_if", "reset_demod", "write_reg_direct", "set_if_freq_xtal",
     "set_sample_rate_xtal", "start_streaming", "stop_streaming", "set_gpio_output", "set_gpio_bit", "plan_tuning", "if_freq_regs", "resample_regs",
-    "pack_fir", "unpack_fir", "read_section", "plan_pll", "plan_pll_by_worksheet",
+    "pack_fir", "unpack_fir", "read_section", "plan_pll", "plan_pll_by_worksheet", "set_ppm",
 ];
 
 /// How a case's answer stands to the original.
@@ -42,18 +43,27 @@ struct Row {
 }
 
 pub struct Cover {
-    rows: [Row; 40],
+    rows: [Row; 41],
     /// By row of docs/DIFFERENCES.md: cases excused, cases named on which the original agrees in this build.
     rules: BTreeMap<u8, (u64, u64)>,
     /// Calls that made entries, by their record's kind of tuner and by its board.
     kinds: [u64; 2],
     boards: [u64; 2],
+    /// Corrections refused for one reference alone: the tuner's, the driver's.
+    alone: [u64; 2],
     pub entries: u64,
 }
 
 impl Default for Cover {
     fn default() -> Self {
-        Self { rows: std::array::from_fn(|_| Row::default()), rules: BTreeMap::new(), kinds: [0; 2], boards: [0; 2], entries: 0 }
+        Self {
+            rows: std::array::from_fn(|_| Row::default()),
+            rules: BTreeMap::new(),
+            kinds: [0; 2],
+            boards: [0; 2],
+            alone: [0; 2],
+            entries: 0,
+        }
     }
 }
 
@@ -76,6 +86,12 @@ impl Cover {
         }
         if let (false, Some(&board @ 0..=1)) = (made.is_empty(), case.driver.first()) {
             self.boards[board as usize] += 1;
+        }
+        if let (41, 4, Some(tuner), Some(driver)) = (case.call, refusal, Tuner::read(&case.tuner), Driver::read(&case.driver)) {
+            let out = [tuner.nominal, driver.nominal].map(|nominal| page::corrected(nominal, case.d as i32).is_none());
+            if out[0] != out[1] {
+                self.alone[out[1] as usize] += 1;
+            }
         }
         match class {
             Class::Same(named) => {
@@ -138,6 +154,8 @@ impl Cover {
         }
         all.extend((0..2).map(|kind| (format!("tuner {kind}"), self.kinds[kind])));
         all.extend((0..2).map(|board| (format!("board {board}"), self.boards[board])));
+        all.push(("set_ppm: the tuner's reference alone out of range".into(), self.alone[0]));
+        all.push(("set_ppm: the driver's reference alone out of range".into(), self.alone[1]));
         for call in draw::calls() {
             let (row, name) = (&self.rows[call as usize - 1], NAMES[call as usize - 1]);
             let failed = |step: usize| row.failing.get(&step).copied().unwrap_or_default();
@@ -164,9 +182,9 @@ fn refusals(call: u8) -> Vec<u8> {
     all.extend(match call {
         1 => &[1, 8][..],
         3 => &[1, 2],
-        10 => &[1, 4],
+        41 => &[1, 4],
         2 | 4..=9 | 11 | 13..=15 | 18 | 20 => &[1],
-        16 | 17 => &[1, 4, 8],
+        16 => &[1, 4, 8],
         19 => &[1, 3, 13],
         27 | 34 => &[4],
         28 => &[3, 4, 13],

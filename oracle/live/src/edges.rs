@@ -120,13 +120,16 @@ pub fn arguments(case: &mut Case, dice: &mut Dice) {
         6 => case.a = near(dice, &[0, 6 * MHZ, 7 * MHZ, (1 << 32) - 3]),
         7 => case.a = near(dice, &[0, 3_500_000, 1 << 58, u64::MAX]),
         8 | 20 => case.a = dice.pick(&[0, 1, 2, 3, 4, 255, 256, u64::MAX]),
-        10 => case.d = ppm(dice, Tuner::read(&case.tuner).map_or(1, |tuner| tuner.nominal as u64)),
         11 => case.a = dice.pick(&[0, 1, 2, 255]),
         16 => {
             (case.a, case.c) = (nominal(dice), dice.pick(&[0, 1, 1, 2, 256, 1 << 32, u64::MAX]));
             case.d = ppm(dice, case.a);
         }
-        17 => case.d = ppm(dice, Driver::read(&case.driver).map_or(1, |driver| driver.nominal as u64)),
+        41 => {
+            let nominals = [Tuner::read(&case.tuner).map(|tuner| tuner.nominal), Driver::read(&case.driver).map(|driver| driver.nominal)];
+            let nominal = dice.pick(&nominals).unwrap_or(1);
+            case.d = ppm(dice, nominal as u64);
+        }
         19 if dice.yes() => {
             let driver = Driver::read(&case.driver);
             case.a = held(dice, driver.and_then(|driver| page::corrected(driver.nominal, driver.ppm)).unwrap_or(1) as u64);

@@ -91,10 +91,9 @@ unsafe extern "C" {
     pub fn pasetone_get_gain(tuner: In, tn: N) -> Reply;
     pub fn pasetone_get_if_freq(tuner: In, tn: N) -> Reply;
     pub fn pasetone_get_gain_table(tuner: In, tn: N, out: Out, mn: N) -> Reply;
-    pub fn pasetone_set_ppm(tuner: Out, tn: N, ppm: i32) -> Reply;
     pub fn pasetone_apply_notch(tuner: Out, tn: N, on: u8) -> Reply;
-    pub fn pasetone_driver_set_ppm(driver: In, dn: N, ppm: i32, next: Out, nn: N) -> Reply;
     pub fn pasetone_corrected_xtal_hz(driver: In, dn: N) -> Reply;
+    pub fn pasetone_set_ppm(tuner: Out, tn: N, driver: Out, dn: N, ppm: i32) -> Reply;
     pub fn pasetone_set_sample_rate(driver: In, dn: N, tuner: In, tn: N, rate: u32, outcomes: In, on: N, room: Out, mn: N, next_driver: Out, qn: N, next_tuner: Out, nn: N) -> Reply;
     pub fn pasetone_apply_input_path(tuner: In, tn: N, path: u64, outcomes: In, on: N, replies: In, rn: N, room: Out, mn: N, next: Out, nn: N) -> Reply;
     pub fn pasetone_init_baseband(outcomes: In, on: N, room: Out, mn: N) -> Reply;
@@ -110,6 +109,8 @@ unsafe extern "C" {
     pub fn pasetone_set_gpio_output(gpio: u8, outcomes: In, on: N, replies: In, rn: N, room: Out, mn: N) -> Reply;
     pub fn pasetone_set_gpio_bit(gpio: u8, value: u8, outcomes: In, on: N, replies: In, rn: N, room: Out, mn: N) -> Reply;
     pub fn pasetone_plan_tuning(board: u64, hz: u64, out: Out, mn: N) -> Reply;
+    pub fn pasetone_board_table(board: u64, out: Out, mn: N) -> Reply;
+    pub fn pasetone_plan_by_table(table: In, tn: N, hz: u64, out: Out, mn: N) -> Reply;
     pub fn pasetone_if_freq_regs(hz: u32, xtal: u32, out: Out, mn: N) -> Reply;
     pub fn pasetone_resample_regs(rate: u32, xtal: u32, out: Out, mn: N) -> Reply;
     pub fn pasetone_pack_fir(values: In, vn: N, out: Out, mn: N) -> Reply;

@@ -17,11 +17,15 @@ pub fn hands_tuner(call: u8) -> bool {
     matches!(call, 1..=9 | 19 | 20)
 }
 pub fn hands_driver(call: u8) -> bool {
-    matches!(call, 16 | 17 | 19)
+    matches!(call, 16 | 19)
 }
-/// `set_ppm` and the notch change the caller's record where it lies.
+/// The correction and the notch change the caller's tuner record where it lies.
 pub fn in_place(call: u8) -> bool {
-    matches!(call, 10 | 11)
+    matches!(call, 11 | 41)
+}
+/// The correction changes the driver's record beside it (#109).
+pub fn driver_in_place(call: u8) -> bool {
+    call == 41
 }
 
 impl Given {

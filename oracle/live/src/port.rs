@@ -1,6 +1,6 @@
 //! One call of the archive on a case, with all memory that it was lent as the call left it.
 use crate::ffi::*;
-use crate::given::{Given, Lent, in_place};
+use crate::given::{Given, Lent, driver_in_place, in_place};
 use harness::case::{Answer, Case};
 use harness::records::{DRIVER, TUNER};
 
@@ -14,7 +14,7 @@ pub struct Found {
     pub room: Lent,
     pub next_tuner: Lent,
     pub next_driver: Lent,
-    /// What was given; the tuner's record lies here where it is changed in place.
+    /// What was given; a record lies here where it is changed in place.
     pub tuner: Lent,
     pub driver: Lent,
     pub outcomes: Lent,
@@ -37,7 +37,7 @@ pub fn call(given: &Given) -> Found {
         input: Lent::holding(&case.input, fill ^ 0x99),
     };
     found.reply = match case.call {
-        1 | 10 | 11 | 13..=18 => without_steps(case, &mut found),
+        1 | 11 | 13..=18 | 41 => without_steps(case, &mut found),
         2..=9 | 19 | 20 => on_record(case, &mut found),
         21..=32 => on_interface(case, &mut found),
         _ => leaf(case, &mut found),
@@ -53,13 +53,12 @@ fn without_steps(c: &Case, f: &mut Found) -> Reply {
     unsafe {
         match c.call {
             1 => pasetone_tuner_new(c.a, c.c as u8, c.b, n, nn),
-            10 => pasetone_set_ppm(t, tn, c.d as i32),
             11 => pasetone_apply_notch(t, tn, c.a as u8),
             13 => pasetone_get_gain(t, tn),
             14 => pasetone_get_if_freq(t, tn),
             15 => pasetone_get_gain_table(t, tn, m, mn),
             16 => pasetone_driver_new(c.c, c.a, c.d as i32, c.b, c.e, q, qn),
-            17 => pasetone_driver_set_ppm(d, dn, c.d as i32, q, qn),
+            41 => pasetone_set_ppm(t, tn, d, dn, c.d as i32),
             _ => pasetone_corrected_xtal_hz(d, dn),
         }
     }
@@ -142,7 +141,7 @@ impl Found {
         self.written(given).then_some(here)
     }
     pub fn driver_after(&self, given: &Given) -> Option<&[u8]> {
-        let here = self.next_driver.lent().get(..DRIVER)?;
+        let here = if driver_in_place(given.case.call) { self.driver.lent() } else { self.next_driver.lent().get(..DRIVER)? };
         self.written(given).then_some(here)
     }
     /// Done, or stopped after steps: records are handed back then, and only then.
@@ -163,12 +162,13 @@ impl Found {
         let case = &given.case;
         let room = wanted.section.as_ref().unwrap_or(&wanted.answered);
         let (record, changed) = (wanted.tuner.as_deref(), in_place(case.call));
+        let (driver, set) = (wanted.driver.as_deref(), driver_in_place(case.call));
         let parts = [
             ("room", &self.room, &room[..]),
             ("next tuner record", &self.next_tuner, record.filter(|_| !changed).unwrap_or(&[])),
-            ("next driver record", &self.next_driver, wanted.driver.as_deref().unwrap_or(&[])),
+            ("next driver record", &self.next_driver, driver.filter(|_| !set).unwrap_or(&[])),
             ("given tuner record", &self.tuner, record.filter(|_| changed).unwrap_or(&case.tuner)),
-            ("given driver record", &self.driver, &case.driver),
+            ("given driver record", &self.driver, driver.filter(|_| set).unwrap_or(&case.driver)),
             ("given outcomes", &self.outcomes, &case.outcomes),
             ("given replies", &self.replies, &case.replies),
             ("given input", &self.input, &case.input),

@@ -4,10 +4,10 @@ use crate::rules;
 use harness::answer::{call, sixteen, stepped};
 use harness::case::{Answer, By, Case};
 use harness::records::{Driver, Tuner};
-use harness::requests::looked_at;
+use harness::requests::{corrected, looked_at};
 use harness::run::{self, run};
 use original::device::HardwareInterface;
-use original::tuner::{Tuner as Calls, TunerType};
+use original::tuner::TunerType;
 use original::tuners::r82xx::R82xx;
 use original::{Result, demod, registers};
 use std::cell::Cell;
@@ -34,9 +34,9 @@ pub fn rust(given: &Given) -> Option<Answer> {
     let ended = panic::catch_unwind(AssertUnwindSafe(|| match given.case.call {
         1 => made(&given.case),
         2..=4 => on_chip(&given.case),
-        10 => corrected(&given.case),
-        16..=19 => on_driver(&given.case),
+        16 | 18 | 19 => on_driver(&given.case),
         27 | 28 | 31 | 32 => on_interface(&given.case),
+        41 => correction(&given.case),
         _ => leaf(&given.case),
     }));
     ASKED.set(false);
@@ -71,12 +71,10 @@ fn on_chip(case: &Case) -> Answer {
     if case.call == 3 { looked_at(answer) } else { answer }
 }
 
-fn corrected(case: &Case) -> Answer {
-    let (tuner, chip) = chip(case);
-    match chip.set_ppm(case.d as i32) {
-        Ok(()) => Answer { tuner: Some(tuner.after(&chip.see(), &[]).bytes()), ..Answer::default() },
-        Err(error) => Answer::refused(run::number(&error), By::Rust),
-    }
+fn correction(case: &Case) -> Answer {
+    let (tuner, driver) = (Tuner::read(&case.tuner).expect("a record"), Driver::read(&case.driver).expect("a record"));
+    let (tuner, driver, _) = corrected(&tuner, &driver, case.d as i32);
+    Answer { tuner: Some(tuner.bytes()), driver: Some(driver.bytes()), ..Answer::default() }
 }
 
 /// The driver with its bad correction: what it tells as its reference, or sets a rate by.
@@ -84,7 +82,6 @@ fn on_driver(case: &Case) -> Answer {
     let ppm = case.d as i32;
     let driver = match case.call {
         16 => Driver { board: case.c as u8, nominal: case.a as u32, ppm, frequency: case.b, rate: case.e, actual: 0 },
-        17 => Driver { ppm, ..rules::loose(&case.driver).expect("a record") },
         _ => rules::loose(&case.driver).expect("a record but for its correction"),
     };
     if case.call != 19 {

@@ -22,10 +22,10 @@ pub const RULES: [Rule; 22] = [
     Rule { row: 2, inputs: "tune: the same, and the wrapped sum is tunable" },
     Rule { row: 3, inputs: "tune: lo of 2^58 or more, all lent, entries 0 to 11 done, no wrapped product tunable; differs where overflow panics" },
     Rule { row: 4, inputs: "tune: the same, and a wrapped product is tunable" },
-    Rule { row: 5, inputs: "set_ppm: the corrected reference is 0" },
-    Rule { row: 6, inputs: "set_ppm: it is below 0" },
-    Rule { row: 7, inputs: "set_ppm: it is above 4,294,967,295" },
-    Rule { row: 8, inputs: "driver's making, its ppm call, its reference, sample rate: a driver that is bad by its correction alone (sample rate: and not row 9)" },
+    Rule { row: 5, inputs: "set_ppm: two records, and the tuner's corrected reference is 0" },
+    Rule { row: 6, inputs: "set_ppm: the same, and it is below 0" },
+    Rule { row: 7, inputs: "set_ppm: the same, and it is above 4,294,967,295" },
+    Rule { row: 8, inputs: "driver's making, its reference, sample rate: a driver that is bad by its correction alone (sample rate: and not row 9); set_ppm: two records, and the driver's corrected reference alone is out of range" },
     Rule { row: 9, inputs: "sample rate: the same, rate not 0, and the low 32 bits of the reference are 0" },
     Rule { row: 10, inputs: "gain: product -2,147,483,520, all lent; differs where entries 0 to 2 are done, or overflow panics" },
     Rule { row: 11, inputs: "gain: another product below -2,147,483,151, all lent; differs where overflow panics" },
@@ -51,9 +51,8 @@ pub fn row(given: &Given) -> Option<u8> {
         2 => initialise(given),
         3 => tune(given),
         4 => gain(given),
-        10 => correction(Tuner::read(&case.tuner)?.nominal, case.d as i32),
         19 if requests::not_held(case) => Some(22),
-        16..=19 => driver(given),
+        16 | 18 | 19 => driver(given),
         27 | 34 => (b == 0).then_some(14),
         28 if requests::not_held(case) => Some(22),
         28 => (a != 0 && b == 0).then_some(16),
@@ -61,6 +60,7 @@ pub fn row(given: &Given) -> Option<u8> {
         35 if a == 0 => Some(15),
         35 => (b == 0).then_some(16),
         36 if case.input.len() == 64 => (!page::fir_fits(&harness::answer::sixteen(&case.input))).then_some(19),
+        41 => both(given),
         _ => None,
     }
 }
@@ -156,6 +156,13 @@ fn correction(nominal: u32, ppm: i32) -> Option<u8> {
     }
 }
 
+/// Two records that are such: the tuner's reference decides the row, and where it is in range the driver's does.
+fn both(given: &Given) -> Option<u8> {
+    let (case, ppm) = (&given.case, given.case.d as i32);
+    let (tuner, driver) = (Tuner::read(&case.tuner)?, Driver::read(&case.driver)?);
+    correction(tuner.nominal, ppm).or(correction(driver.nominal, ppm).map(|_| 8))
+}
+
 fn driver(given: &Given) -> Option<u8> {
     let case = &given.case;
     if case.call == 16 && (case.c > 1 || !(1..=u32::MAX as u64).contains(&case.a)) {
@@ -163,7 +170,6 @@ fn driver(given: &Given) -> Option<u8> {
     }
     let (nominal, ppm) = match case.call {
         16 => (case.a as u32, case.d as i32),
-        17 => (Driver::read(&case.driver)?.nominal, case.d as i32),
         _ => loose(&case.driver).map(|driver| (driver.nominal, driver.ppm))?,
     };
     if case.call == 19 && Tuner::read(&case.tuner).is_none() {

@@ -24,9 +24,11 @@ pub enum Wrong {
     Closing,
     /// The uncut call has another first step.
     Uncut,
+    /// A correction leaves another ppm in the driver's record.
+    Correction,
 }
 
-pub const ALL: [Wrong; 9] = [
+pub const ALL: [Wrong; 10] = [
     Wrong::Landing,
     Wrong::AnyAddress,
     Wrong::Mark,
@@ -36,6 +38,7 @@ pub const ALL: [Wrong; 9] = [
     Wrong::Index,
     Wrong::Closing,
     Wrong::Uncut,
+    Wrong::Correction,
 ];
 
 impl Wrong {
@@ -56,6 +59,8 @@ impl Wrong {
         match self {
             Wrong::Mark => flip(found, 51 + place, 1),
             Wrong::Shadow => flip(found, 2 + place, 0x40),
+            // Of the given records only those that a correction has changed where they lie are read again.
+            Wrong::Correction => spoil_ppm(found.driver.lent_mut()),
             Wrong::Index if cut => found.reply.index = found.reply.index.saturating_sub(1),
             Wrong::Closing if cut && count > found.reply.index as usize + 1 => found.reply.count -= 1,
             Wrong::Sent | Wrong::Outcome => {
@@ -67,6 +72,13 @@ impl Wrong {
             }
             _ => {}
         }
+    }
+}
+
+/// Another bit in the ppm's second byte: 256 ppm more or less.
+fn spoil_ppm(driver: &mut [u8]) {
+    if let Some(byte) = driver.get_mut(6) {
+        *byte ^= 1;
     }
 }
 

@@ -1,15 +1,14 @@
 -- `answers::plan_tuning` meets its contract: a number that names no board, or the plan's bytes.
 -- Assumes nothing.
-use mathlib.Core.List.{[], _∷_}
 use mathlib.Core.Path.{sym, ap, _∙_}
 use native.Mathlib.Omega.{arith}
-use borrow.Author.Needs.{needs}
 use denote.Ref.{now}
 use Rattle.board.specs.declared.Plan.{Plan}
 use Rattle.board.specs.declared.BoardRead.{BoardRead}
 use Rattle.board.proofs.Numbers.{no-board}
 use Rattle.answers.specs.Lent.{planBytes, planInto}
 use Rattle.lending.specs.Lent.{lentTo}
+use borrow.Author.Needs.{needs}
 use Rattle.answers.proofs.plan_tuning.Statement.{statement}
 use Rattle.answers.proofs.plan_tuning.Tie as tie
 
@@ -40,20 +39,8 @@ returns-2 c =
 plan-tuning-requires : tie.Need-plan-tuning-requires
 plan-tuning-requires c κs = search needs
 
-bit-requires : tie.Need-bit-requires
-bit-requires c κs = search needs
-
-route-number-requires : tie.Need-route-number-requires
-route-number-requires c κs = search needs
-
-bit-requires-2 : tie.Need-bit-requires-2
-bit-requires-2 c κs = search needs
-
-slice-aggregate-lend : tie.Need-slice-aggregate-lend
-slice-aggregate-lend c = search needs
-
-lend-requires : tie.Need-lend-requires
-lend-requires c κs = search needs
+lend-plan-requires : tie.Need-lend-plan-requires
+lend-plan-requires c κs = search needs
 
 same-length : tie.Need-same-length
 same-length c = search needs
@@ -61,12 +48,10 @@ same-length c = search needs
 returns-3 : tie.Need-returns-3
 unfolding planInto
 returns-3 c =
-    let a = c .before .before .before .before .before .before .before .before .before .before .before .before .before .before .before .args in
-    let p = c .before .before .before .before .before .before .before .before .plan-tuning .result in
-    c .before .before .lend .ensures
-    ∙ (λ i. lentTo 0 (p .hz) (c .before .before .before .before .before .before .before .bit .ensures i ∷ c .before .before .before .before .before .before .route-number .ensures i ∷ c .before .before .before .before .before .bit2 .ensures i ∷ []) (now (a .out)))
-    ∙ ap (λ (q : Plan). lentTo 0 (q .hz) (planBytes q) (now (a .out))) (c .before .before .before .before .before .before .before .before .plan-tuning .ensures)
-    ∙ ap (λ (b : BoardRead). planInto b (a .hz) (now (a .out))) (sym (c .before .before .before .before .before .before .before .before .before .before .b .given .1) ∙ c .before .before .before .before .before .before .before .before .before .before .before .before .board-of .ensures)
+    let a = c .before .before .before .before .before .before .before .before .before .before .before .args in
+    c .before .before .lend-plan .ensures
+    ∙ ap (λ (q : Plan). lentTo 0 (q .hz) (planBytes q) (now (a .out))) (c .before .before .before .before .plan-tuning .ensures)
+    ∙ ap (λ (b : BoardRead). planInto b (a .hz) (now (a .out))) (sym (c .before .before .before .before .before .before .b .given .1) ∙ c .before .before .before .before .before .before .before .before .board-of .ensures)
 
 pub plan-tuning-spec : {M : Type 1} → statement M
 plan-tuning-spec =
@@ -79,10 +64,6 @@ plan-tuning-spec =
     enum-told
     returns-2
     plan-tuning-requires
-    bit-requires
-    route-number-requires
-    bit-requires-2
-    slice-aggregate-lend
-    lend-requires
+    lend-plan-requires
     same-length
     returns-3)

@@ -1,4 +1,4 @@
--- `r82xx::apply_notch` meets its contract: a walk of its MIR, by hand, as that of `set_ppm`. The borrow is opened, both references and the notch are
+-- `r82xx::apply_notch` meets its contract: a walk of its MIR, by hand. The borrow is opened, both references and the notch are
 -- read; `kept_notch` is called and its answer stored; the borrow is closed at the record with that one field; `sound_answer` is called and its answer
 -- returned.
 -- Assumes nothing.

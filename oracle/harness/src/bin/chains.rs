@@ -55,7 +55,7 @@ fn lived(chip: &R82xx, case: &Case, record: &Tuner) {
         7 => chip.set_if_freq(case.a),
         8 => chip.set_input_path(path()),
         9 => reload(record).map(|_| ()),
-        10 => chip.set_ppm(case.d as i32),
+        10 | 41 => chip.set_ppm(case.d as i32),
         _ => chip.apply_notch(case.a != 0),
     });
 }
@@ -65,7 +65,9 @@ fn chain(paper: Paper, length: u64, dice: &mut Dice, tally: &mut Tally, seen: &m
     let long = run::chip(&record);
     let mut chip = Chip { bytes: std::array::from_fn(|_| dice.byte()), done: [None; 27] };
     for _ in 0..length {
-        let call = dice.pick(&[2, 2, 3, 3, 3, 4, 5, 6, 7, 8, 9, 9, 10, 11]);
+        // Document 01 corrects the tuner alone, document 02 both records (#109).
+        let correction = if paper == Paper::First { 10 } else { 41 };
+        let call = dice.pick(&[2, 2, 3, 3, 3, 4, 5, 6, 7, 8, 9, 9, correction, 11]);
         let mut case = cases::random(call, dice);
         case.tuner = record.bytes();
         // The Rust's own state must stay inside document 01's domain: an IF that no tune can wrap.

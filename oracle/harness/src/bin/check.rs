@@ -1,7 +1,7 @@
 //! Document 01's claims against the Rust: most entries and replies, a failure at every step, what follows it, what the
 //! records hold afterwards, the order of steps, the order of refusals, the worked numbers, the whole section, FIR.
 use harness::answer::{answer, takes_driver, takes_tuner};
-use harness::case::{Answer, Case};
+use harness::case::{Answer, By, Case};
 use harness::cases::{self, plain, replies_for};
 use harness::dice::Dice;
 use harness::judge::Paper;
@@ -266,6 +266,39 @@ fn refusals(tally: &mut Tally) {
     want(Case { d: -1_000_000i32 as u32, ..plain(16) }, 4, "correction at the driver's making");
 }
 
+/// Document 02's correction (#109), by hand: both set or neither, 1 for either record before 4 for either reference.
+fn corrections(tally: &mut Tally) {
+    let driver = |nominal: u32| Driver { board: 1, nominal, ppm: -7, frequency: 9, rate: 11, actual: 13 };
+    let mut want = |first: u32, second: u32, ppm: i32, wanted: Option<(u32, u32)>| {
+        let given = (Tuner::fresh(1, first, 0x74), driver(second));
+        let case = Case { d: ppm as u32, tuner: given.0.bytes(), driver: given.1.bytes(), ..plain(41) };
+        let found = requests::answer(&case);
+        let next = (found.tuner.as_deref().and_then(Tuner::read), found.driver.as_deref().and_then(Driver::read));
+        tally.same(found.refusal, if wanted.is_some() { 0 } else { 4 }, || format!("{ppm} ppm of {first} and {second}"));
+        let made = wanted.map_or((None, None), |(corrected, _)| (Some(Tuner { corrected, ..given.0 }), Some(Driver { ppm, ..given.1 })));
+        tally.same(next, made, || format!("both or neither at {ppm} ppm of {first} and {second}"));
+        // What the driver's record tells of its reference from then on.
+        let told = found.driver.map(|driver| answer(&Case { driver, ..plain(18) }).value as u32);
+        tally.same(told, wanted.map(|(_, reference)| reference), || format!("the driver's reference at {ppm} ppm of {second}"));
+        judge::all(Paper::Second, &case, &requests::answer(&case), tally);
+    };
+    want(28_800_000, 28_800_000, -1, Some((28_799_972, 28_799_972)));
+    want(28_800_000, 16_000_000, -1, Some((28_799_972, 15_999_984)));
+    want(16_000_000, 28_800_000, -999_999, Some((16, 29)));
+    want(28_800_000, 28_800_000, -1_000_000, None);
+    want(28_800_000, 16_000_000, 148_130_809, None); // the tuner's alone
+    want(16_000_000, 28_800_000, 148_130_809, None); // the driver's alone
+    want(16_000_000, 28_800_000, 148_130_808, Some((2_386_092_928, 4_294_967_270)));
+    want(u32::MAX, u32::MAX, 1, None);
+    want(1, 1, i32::MAX, Some((2_148, 2_148)));
+    want(1, 1, i32::MIN, None);
+    let bad = [(vec![], plain(41).driver), (plain(41).tuner, vec![]), (plain(41).driver, plain(41).tuner)];
+    for ((tuner, driver), ppm) in bad.into_iter().flat_map(|records| [(records.clone(), 0), (records, i32::MIN)]) {
+        let found = requests::answer(&Case { d: ppm as u32, tuner, driver, ..plain(41) });
+        tally.same(found, Answer::refused(1, By::Page), || format!("a record that is none, at {ppm} ppm"));
+    }
+}
+
 /// The stored list's own cases, all of them, by documents 01 and 02, with the USB transfers of each run held against its entries.
 fn listed(tally: &mut Tally) {
     rusb::rec::with(|r| r.keep = true);
@@ -296,6 +329,7 @@ fn main() {
     worked(&mut tally);
     order(&mut tally, &mut dice);
     refusals(&mut tally);
+    corrections(&mut tally);
     listed(&mut tally);
     tally.end("check", String::new())
 }

@@ -6,7 +6,7 @@ use harness::cases::{self, plain};
 use harness::dice::Dice;
 use harness::records::{Driver, Tuner};
 use harness::tally::Tally;
-use harness::{page, steps};
+use harness::{page, requests, steps};
 
 fn tunes(n: u64, dice: &mut Dice, tally: &mut Tally) -> [u64; 3] {
     let mut seen = [0; 3]; // taken, refused in the PLL, refused before
@@ -57,6 +57,19 @@ fn gains(n: u64, dice: &mut Dice, tally: &mut Tally) -> u64 {
     over
 }
 
+/// Document 02's correction (#109), with a driver of the same nominal, of one beside it, or of any: both records, or 4 and neither.
+fn both(tuner: &Tuner, ppm: i32, dice: &mut Dice, tally: &mut Tally) {
+    let near = tuner.nominal.saturating_add(dice.below(3) as u32);
+    let nominal = if dice.below(3) == 0 { (dice.spread() as u32).max(1) } else { near };
+    let driver = Driver { nominal, ppm: 0, ..cases::random_driver(dice) };
+    let found = requests::answer(&Case { d: ppm as u32, tuner: tuner.bytes(), driver: driver.bytes(), ..plain(41) });
+    let wanted = match (page::corrected(tuner.nominal, ppm), page::corrected(nominal, ppm)) {
+        (Some(corrected), Some(_)) => (0, Some(Tuner { corrected, ..tuner.clone() }.bytes()), Some(Driver { ppm, ..driver }.bytes())),
+        _ => (4, None, None),
+    };
+    tally.same((found.refusal, found.tuner, found.driver), wanted, || format!("{ppm} ppm of {} and {nominal}", tuner.nominal));
+}
+
 fn references(n: u64, dice: &mut Dice, tally: &mut Tally) -> u64 {
     let mut refused = 0;
     for _ in 0..n {
@@ -66,13 +79,14 @@ fn references(n: u64, dice: &mut Dice, tally: &mut Tally) -> u64 {
         let found = answer(&Case { d: ppm as u32, tuner: tuner.bytes(), ..plain(10) });
         let wanted = page::corrected(nominal, ppm);
         refused += wanted.is_none() as u64;
-        let next = wanted.map(|corrected| Tuner { corrected, ..tuner }.bytes());
+        let next = wanted.map(|corrected| Tuner { corrected, ..tuner.clone() }.bytes());
         tally.same((found.refusal, found.tuner), (if wanted.is_some() { 0 } else { 4 }, next), || format!("{ppm} ppm of {nominal}"));
         let driver = Driver { board: 0, nominal, ppm, frequency: 0, rate: 0, actual: 0 };
         let found = answer(&Case { driver: driver.bytes(), ..plain(18) });
         tally.same((found.refusal, found.value), (wanted.is_none() as u8, wanted.unwrap_or(0) as u64), || {
             format!("driver's {ppm} ppm of {nominal}")
         });
+        both(&tuner, ppm, dice, tally);
     }
     refused
 }

@@ -95,7 +95,7 @@ pub fn refused_and_damaged(all: &mut Vec<Case>) {
         // Every damage on some calls, a few on each.
         let (tuners, drivers) = (damaged_tuners(), damaged_drivers());
         for (i, tuner) in tuners.into_iter().enumerate() {
-            if takes_tuner(call) && (matches!(call, 3 | 13) || i % 6 == call as usize % 6) {
+            if takes_tuner(call) && (matches!(call, 3 | 13 | 41) || i % 6 == call as usize % 6) {
                 all.push(Case { tuner, ..case.clone() });
             }
         }

@@ -39,12 +39,9 @@ pub fn references(all: &mut Vec<Case>) {
     for nominal in nominals {
         for ppm in ppms {
             let d = ppm as u32;
-            all.push(Case { d, tuner: Tuner::fresh(1, nominal, 0x74).bytes(), ..plain(10) });
             if nominal == 28_800_000 || matches!(ppm, 0 | -1 | 1 | i32::MAX) {
                 all.push(Case { a: nominal as u64, d, ..plain(16) });
-                let given = Driver { board: 0, nominal, ppm: 0, frequency: 1, rate: 0, actual: 7 };
-                all.push(Case { d, driver: given.bytes(), ..plain(17) });
-                let given = Driver { ppm, ..given };
+                let given = Driver { board: 0, nominal, ppm, frequency: 1, rate: 0, actual: 7 };
                 all.push(Case { driver: given.bytes(), ..plain(18) });
             }
         }
@@ -222,8 +219,8 @@ pub fn true_rates(all: &mut Vec<Case>) {
         cut.outcomes[step] = 1;
         all.push(cut);
     }
-    all.push(Case { driver: given.bytes(), ..plain(17) });
-    all.push(Case { driver: Driver { actual: u64::MAX, ..given }.bytes(), ..plain(17) });
+    all.push(Case { driver: given.bytes(), ..plain(41) });
+    all.push(Case { driver: Driver { actual: u64::MAX, ..given }.bytes(), ..plain(41) });
     all.push(Case { e: 5_497_289, ..plain(16) });
 }
 

@@ -16,8 +16,8 @@ use live::sabotage::{SPOILS, spoiled};
 use live::{document, ffi, numbers, port, raw, rules};
 use std::collections::BTreeMap;
 
-/// The version that the boundary is written against: 4.1.0.
-const VERSION: u32 = 0x0004_0100;
+/// The version that the boundary is written against: 5.0.0.
+const VERSION: u32 = 0x0005_0000;
 
 fn class(given: &Given, wanted: &Answer, tally: &mut Tally) -> Class {
     let row = rules::row(given);

@@ -1,14 +1,14 @@
--- `report::rows` is safe and ends: the measure is the rows that are left. Assumes nothing.
+-- `report::rows` is safe and ends: the measure is the rows of the tally that are left. Assumes nothing.
 use Prim.Native.Nat.{_≤_, _-_}
 use borrow.Author.Needs.{needs}
 use Rattle.replay.proofs.report.rows.Statement.{statement}
 use Rattle.replay.proofs.report.rows.Tie as tie
 
 abbrev Inv-loop : tie.InvT-loop
-Inv-loop tally call₀ call = call ≤ 41
+Inv-loop tally call₀ call = call ≤ 64
 
 abbrev μ-loop : tie.MeasureT-loop
-μ-loop tally call₀ call = 41 - call
+μ-loop tally call₀ call = 64 - call
 
 loop-holds : tie.Need-loop-holds Inv-loop μ-loop
 loop-holds c = search needs

@@ -1,0 +1,62 @@
+-- `bands::band_at` meets its contract: each number is read from its place.
+-- Assumes nothing.
+use denote.Ref.{now}
+use Rattle.bands.proofs.Laws.{band-made}
+use borrow.Author.Needs.{needs}
+use Rattle.bands.proofs.band_at.Statement.{statement}
+use Rattle.bands.proofs.band_at.Tie as tie
+
+get-requires : tie.Need-get-requires
+get-requires c κs = search needs
+
+add-get : tie.Need-add-get
+add-get c = search needs
+
+get-requires-2 : tie.Need-get-requires-2
+get-requires-2 c κs = search needs
+
+add-get-2 : tie.Need-add-get-2
+add-get-2 c = search needs
+
+get-requires-3 : tie.Need-get-requires-3
+get-requires-3 c κs = search needs
+
+add-t8 : tie.Need-add-t8
+add-t8 c = search needs
+
+shared-slice-read-t10 : tie.Need-shared-slice-read-t10
+shared-slice-read-t10 c = search needs
+
+add-t11 : tie.Need-add-t11
+add-t11 c = search needs
+
+shared-slice-read-t13 : tie.Need-shared-slice-read-t13
+shared-slice-read-t13 c = search needs
+
+add-t14 : tie.Need-add-t14
+add-t14 c = search needs
+
+shared-slice-read-t16 : tie.Need-shared-slice-read-t16
+shared-slice-read-t16 c = search needs
+
+returns : tie.Need-returns
+returns c =
+    let a = c .before .before .before .before .before .before .before .args in
+    band-made (now (a .s)) (a .at) _ _ _ (c .before .before .before .before .before .get .ensures .0) (c .before .before .before .before .get2 .ensures .0) (c .before .before .before .get3 .ensures .0)
+
+pub band-at-spec : {M : Type 1} → statement M
+band-at-spec =
+    tie.close
+    (tie.spec
+    get-requires
+    add-get
+    get-requires-2
+    add-get-2
+    get-requires-3
+    add-t8
+    shared-slice-read-t10
+    add-t11
+    shared-slice-read-t13
+    add-t14
+    shared-slice-read-t16
+    returns)
