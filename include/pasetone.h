@@ -40,8 +40,8 @@
  * Refusals. The reply's `refusal` is 0 or one of the numbers below, in this order: a given record that is none (1); an argument (1 to 4, 6 and 7; 13
  * after 3 and 4, 15 after 12); lent slices too short: room, and the slices for records and bytes that come back (8), outcomes (9), replies (10); then the
  * steps (11, or 2 in the PLL of a tuning). Settings on file are refused by their edition (16), then for the rest (17), then for an IF that a move
- * cannot say (18), then 8. A malformed table of bands is refused (19) before a frequency that it has no plan for (2), then 8. Refused before any step:
- * value, index and count are 0, and every lent byte is as it was. Refused by a step: value 0, and the section and the next records are written, since
+ * cannot say (18), then 8. A malformed table of bands is refused (19) behind a record that is none (1), before a rate (3, 13) and before a frequency that it
+ * has no plan for (2), then 8. Refused before any step: value, index and count are 0, and every lent byte is as it was. Refused by a step: value 0, and the section and the next records are written, since
  * the steps taken stand. `pasetone_stands` tells the two apart.
  */
 #ifndef PASETONE_H
@@ -58,7 +58,7 @@ extern "C" {
 #define PASETONE_DONE 0         /* not refused */
 #define PASETONE_SETUP 1        /* a kind, board or path that is none, a nominal reference out of 1..4,294,967,295, bytes that are no record */
 #define PASETONE_FREQUENCY 2    /* 0 Hz; Hz plus IF over 64 bits; or no divider in the PLL, or N below 13 or above its cap, when the mux is set already; by a
-                                   table: in no band, or shifted below 0 or past 64 bits */
+                                   table: in no band, or shifted below 0 or past 64 bits, in a tuning also to 0 */
 #define PASETONE_RATE 3         /* rate 0 */
 #define PASETONE_CORRECTION 4   /* a corrected reference out of 1..4,294,967,295, or a given reference of 0 */
 /* 5 is not used: it was a register out of 0x05..0x1f, for a call that is gone since 4.0.0. */
@@ -127,6 +127,9 @@ extern "C" {
 #define PASETONE_TUNE_ENTRIES 53
 #define PASETONE_TUNE_REPLIES 35 /* five of status, then three for each of up to ten tries for a lock */
 #define PASETONE_TUNE_ROOM PASETONE_ROOM_FOR(53)
+#define PASETONE_TUNE_BOARD_ENTRIES 64 /* no call makes more */
+#define PASETONE_TUNE_BOARD_REPLIES 38 /* three of GPIO, where the path is taken, then those of a tuning */
+#define PASETONE_TUNE_BOARD_ROOM PASETONE_ROOM_FOR(64)
 #define PASETONE_GAIN_ENTRIES 7
 #define PASETONE_GAIN_ROOM PASETONE_ROOM_FOR(7)
 #define PASETONE_BANDWIDTH_ENTRIES 3
@@ -181,7 +184,7 @@ typedef struct {
 } pasetone_reply;
 
 /*
- * What a tuning answers: the fields of `pasetone_reply`, then how its waiting for a lock went. 32 bytes without padding. `tries` is how many
+ * What a tuning answers, of the tuner or of a board: the fields of `pasetone_reply`, then how its waiting for a lock went. 32 bytes without padding. `tries` is how many
  * three-byte reads of the section were done, at most 10; the try that reads the lock bit is the last. With refusal 11 both tell of the tries up
  * to the failing step; refused before any step, and by 2 in the PLL, both are 0. `locked` is told of this tuning alone. It is not the record's
  * lock, which stays as it was where a tuning is refused, or cut before its tries have ended.
@@ -366,14 +369,30 @@ pasetone_reply pasetone_corrected_xtal_hz(const uint8_t *driver, size_t driver_l
 pasetone_reply pasetone_set_ppm(uint8_t *tuner, size_t tuner_len, uint8_t *driver, size_t driver_len, int32_t ppm);
 
 /*
- * The sample rate: IF and filter of the tuner, reset, rate and IF of the demodulator, spectrum by the board's plan for the driver's frequency.
- * An IF of 0 stays 0. Outcomes 17, room 280; `next_driver` 29 bytes, `next_tuner` 78. Both are written once steps were taken; the driver's
+ * The sample rate: IF and filter of the tuner, reset, rate and IF of the demodulator, spectrum by the table's plan for the driver's frequency: inverted
+ * if that plan is, and not where the table has none. `table` is a table of bands (below); the driver's board plans nothing here, `board_table` has its
+ * table. An IF of 0 stays 0. Outcomes 17, room 280; `next_driver` 29 bytes, `next_tuner` 78. Both are written once steps were taken; the driver's
  * rate and true rate change only when all are done, the tuner's IF before them. The true rate is the corrected reference times 2^22 divided by the
- * ratio as it was sent, cut to a whole number, and at least the rate asked. Value 0. Refuses 1 (either record), 3, 13 (by the corrected reference: at
+ * ratio as it was sent, cut to a whole number, and at least the rate asked. Value 0. Refuses 1 (either record), 19, 3, 13 (by the corrected reference: at
  * 28,800,000 Hz the rates from 225,001 to 300,000 and from 900,001 up are taken), 8, 9, 11.
  */
-pasetone_reply pasetone_set_sample_rate(const uint8_t *driver, size_t driver_len, const uint8_t *tuner, size_t tuner_len, uint32_t rate,
-                                        const uint8_t *outcomes, size_t outcomes_len, uint8_t *room, size_t room_len,
+pasetone_reply pasetone_set_sample_rate(const uint8_t *driver, size_t driver_len, const uint8_t *tuner, size_t tuner_len,
+                                        const uint8_t *table, size_t table_len, uint32_t rate, const uint8_t *outcomes,
+                                        size_t outcomes_len, uint8_t *room, size_t room_len, uint8_t *next_driver,
+                                        size_t next_driver_len, uint8_t *next_tuner, size_t next_tuner_len);
+
+/*
+ * Tunes a board to `hz` by the table's plan: the notch, the board's input (as `apply_input_path`; only on an R828D, and only where the band has a path), the
+ * tuner at the shifted Hz, then the demodulator's byte for the spectrum, 0x05 inverted and 0x01 not, page 1, register 0x15. Nothing waits beside what a
+ * tuning waits for, and neither IF nor rate is touched. The notch is in the next tuner record before the first step, so also with 11 and with a 2 of the
+ * PLL; the driver's frequency becomes `hz` only where the call is done. Outcomes 64, replies 38, room 1,032, also where a run is shorter; replies go in
+ * the order of reading, so without the board's input the first is the tuning's. `next_driver` 29 bytes, `next_tuner` 78: both are written once steps
+ * were taken. Value: the hz asked. Refuses 1 (either record), 19, 2 (no plan, or one for 0 Hz, or whose Hz plus IF is over 64 bits), 8, 9, 10, 11; 2
+ * also in the PLL, when the steps before it are taken and stand and the demodulator's byte is not sent (13 entries, or 23).
+ */
+pasetone_tune_reply pasetone_tune_board(const uint8_t *driver, size_t driver_len, const uint8_t *tuner, size_t tuner_len,
+                                        const uint8_t *table, size_t table_len, uint64_t hz, const uint8_t *outcomes,
+                                        size_t outcomes_len, const uint8_t *replies, size_t replies_len, uint8_t *room, size_t room_len,
                                         uint8_t *next_driver, size_t next_driver_len, uint8_t *next_tuner, size_t next_tuner_len);
 
 /*

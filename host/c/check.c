@@ -28,11 +28,13 @@ SAME_AT_COMPILE_TIME(section_refusal_at_16, offsetof(pasetone_section, refusal),
 SAME_AT_COMPILE_TIME(tuner_record_ends, PASETONE_TUNER_DOUBTFUL + PASETONE_REGISTER_COUNT, PASETONE_TUNER_SIZE);
 SAME_AT_COMPILE_TIME(driver_record_ends, PASETONE_DRIVER_TRUE_RATE + 8, PASETONE_DRIVER_SIZE);
 SAME_AT_COMPILE_TIME(tune_room_is_856, PASETONE_TUNE_ROOM, 856);
+SAME_AT_COMPILE_TIME(tune_board_room_is_1032, PASETONE_TUNE_BOARD_ROOM, 1032);
 
 static unsigned checks, faults;
 static uint8_t tuner[PASETONE_TUNER_SIZE], driver[PASETONE_DRIVER_SIZE];
 static uint8_t next[PASETONE_TUNER_SIZE], next_driver[PASETONE_DRIVER_SIZE];
-static uint8_t outcomes[PASETONE_TUNE_ENTRIES], replies[PASETONE_TUNE_REPLIES], room[PASETONE_TUNE_ROOM];
+static uint8_t outcomes[PASETONE_TUNE_BOARD_ENTRIES], replies[PASETONE_TUNE_BOARD_REPLIES], room[PASETONE_TUNE_BOARD_ROOM];
+static uint8_t v4[PASETONE_V4_TABLE_SIZE];
 
 #define TUNER tuner, sizeof tuner
 #define DRIVER driver, sizeof driver
@@ -40,6 +42,7 @@ static uint8_t outcomes[PASETONE_TUNE_ENTRIES], replies[PASETONE_TUNE_REPLIES], 
 #define OUTCOMES outcomes, sizeof outcomes
 #define REPLIES replies, sizeof replies
 #define ROOM room, sizeof room
+#define TABLE v4, sizeof v4
 
 static void same(const char *what, uint64_t is, uint64_t must)
 {
@@ -82,7 +85,7 @@ static void looked(const char *what, pasetone_tune_reply reply, uint32_t tries, 
 static void check_making(void)
 {
     uint8_t old[105] = {0};
-    same("version", pasetone_version(), 0x00050000);
+    same("version", pasetone_version(), 0x00060000);
     done("fresh tuner", pasetone_tuner_new(PASETONE_R828D, 0x74, 28800000, TUNER), 0, 0);
     same("fresh kind", tuner[PASETONE_TUNER_KIND], PASETONE_R828D);
     same("fresh address", tuner[PASETONE_TUNER_ADDRESS], 0x74);
@@ -342,15 +345,52 @@ static void check_correction(void)
     same_bytes("the refused driver record", next_driver, kept_driver, sizeof kept_driver);
 }
 
+/* The board's tuning: its longest run, its records, and which refusal stands first. */
+static void check_board_tune(void)
+{
+    static const uint8_t none[1] = {0};
+    pasetone_tune_reply reply = pasetone_tune_board(DRIVER, TUNER, TABLE, 7000000, OUTCOMES, REPLIES, ROOM, next_driver, sizeof next_driver, NEXT);
+    same("board tune", reply.refusal, PASETONE_DONE);
+    same("its value", reply.value, 7000000);
+    same("its entries", reply.count, PASETONE_TUNE_BOARD_ENTRIES);
+    same("its tries", reply.tries, 10);
+    same("its last entry's register", room[16 * 63 + 4], 0x15);
+    same("its spectrum", room[16 * 63 + 8], 0x05);
+    same("its frequency", next_driver[PASETONE_DRIVER_FREQUENCY] | next_driver[PASETONE_DRIVER_FREQUENCY + 1] << 8, 7000000 & 0xffff);
+    reply = pasetone_tune_board(DRIVER, TUNER, TABLE, 1900000000, OUTCOMES, REPLIES, ROOM, next_driver, sizeof next_driver, NEXT);
+    same("refused in the PLL", reply.refusal, PASETONE_FREQUENCY);
+    same("its entries", reply.count, 23);
+    same_bytes("the driver's record", next_driver, driver, sizeof driver);
+    reply = pasetone_tune_board(driver, 28, TUNER, none, 1, 0, outcomes, 0, replies, 0, room, 0, next_driver, 0, next, 0);
+    same("a record first", reply.refusal, PASETONE_SETUP);
+    reply = pasetone_tune_board(DRIVER, TUNER, none, 1, 0, outcomes, 0, replies, 0, room, 0, next_driver, 0, next, 0);
+    same("then the table", reply.refusal, PASETONE_TABLE);
+    reply = pasetone_tune_board(DRIVER, TUNER, none, 0, 7000000, outcomes, 0, replies, 0, room, 0, next_driver, 0, next, 0);
+    same("then the frequency", reply.refusal, PASETONE_FREQUENCY);
+    reply = pasetone_tune_board(DRIVER, TUNER, TABLE, 7000000, OUTCOMES, REPLIES, ROOM, next_driver, 28, NEXT);
+    same("then the slice for the driver", reply.refusal, PASETONE_ROOM);
+    reply = pasetone_tune_board(DRIVER, TUNER, TABLE, 7000000, OUTCOMES, REPLIES, ROOM, next_driver, sizeof next_driver, next, 77);
+    same("that for the tuner", reply.refusal, PASETONE_ROOM);
+    reply = pasetone_tune_board(DRIVER, TUNER, TABLE, 7000000, outcomes, 0, REPLIES, room, 1031, next_driver, sizeof next_driver, NEXT);
+    same("the room", reply.refusal, PASETONE_ROOM);
+    reply = pasetone_tune_board(DRIVER, TUNER, TABLE, 7000000, outcomes, 63, replies, 0, ROOM, next_driver, sizeof next_driver, NEXT);
+    same("outcomes", reply.refusal, PASETONE_OUTCOMES);
+    reply = pasetone_tune_board(DRIVER, TUNER, TABLE, 7000000, OUTCOMES, replies, 37, ROOM, next_driver, sizeof next_driver, NEXT);
+    same("replies", reply.refusal, PASETONE_REPLIES);
+}
+
 static void check_driver(void)
 {
-    done("sample rate", pasetone_set_sample_rate(DRIVER, TUNER, 3200000, OUTCOMES, ROOM, next_driver, sizeof next_driver, NEXT), 0, 17);
+    done("V4's table", pasetone_board_table(PASETONE_V4, TABLE), sizeof v4, 0);
+    check_board_tune();
+    refused("rate 0, no table", pasetone_set_sample_rate(DRIVER, TUNER, v4, 1, 0, OUTCOMES, ROOM, next_driver, 0, NEXT), PASETONE_TABLE);
+    done("sample rate", pasetone_set_sample_rate(DRIVER, TUNER, TABLE, 3200000, OUTCOMES, ROOM, next_driver, sizeof next_driver, NEXT), 0, 17);
     done("its IF", pasetone_get_if_freq(NEXT), 3570000, 0);
     same("its rate", next_driver[PASETONE_DRIVER_RATE] | next_driver[PASETONE_DRIVER_RATE + 1] << 8, 3200000 & 0xffff);
-    done("rate 5,497,289", pasetone_set_sample_rate(DRIVER, TUNER, 5497289, OUTCOMES, ROOM, next_driver, sizeof next_driver, NEXT), 0, 17);
+    done("rate 5,497,289", pasetone_set_sample_rate(DRIVER, TUNER, TABLE, 5497289, OUTCOMES, ROOM, next_driver, sizeof next_driver, NEXT), 0, 17);
     same("its true rate", next_driver[PASETONE_DRIVER_TRUE_RATE] | next_driver[PASETONE_DRIVER_TRUE_RATE + 1] << 8, 5497290 & 0xffff);
-    refused("rate 0", pasetone_set_sample_rate(DRIVER, TUNER, 0, OUTCOMES, ROOM, next_driver, sizeof next_driver, NEXT), PASETONE_RATE);
-    refused("rate 300,001, a short slice", pasetone_set_sample_rate(DRIVER, TUNER, 300001, OUTCOMES, ROOM, next_driver, 0, NEXT), PASETONE_RATIO);
+    refused("rate 0", pasetone_set_sample_rate(DRIVER, TUNER, TABLE, 0, OUTCOMES, ROOM, next_driver, sizeof next_driver, NEXT), PASETONE_RATE);
+    refused("rate 300,001, a short slice", pasetone_set_sample_rate(DRIVER, TUNER, TABLE, 300001, OUTCOMES, ROOM, next_driver, 0, NEXT), PASETONE_RATIO);
     done("board path", pasetone_apply_input_path(TUNER, PASETONE_VHF, OUTCOMES, REPLIES, ROOM, NEXT), 0, 10);
     refused("board path 257", pasetone_apply_input_path(TUNER, 257, OUTCOMES, REPLIES, ROOM, NEXT), PASETONE_SETUP);
     refused("board path, room", pasetone_apply_input_path(TUNER, 0, OUTCOMES, REPLIES, room, 167, NEXT), PASETONE_ROOM);

@@ -94,10 +94,11 @@ static void initialize(struct receiver *r)
 
 static void set_rate(struct receiver *r)
 {
-    uint8_t next_tuner[PASETONE_TUNER_SIZE], next_driver[PASETONE_DRIVER_SIZE];
-    pasetone_reply reply = pasetone_set_sample_rate(r->driver, sizeof r->driver, r->tuner, sizeof r->tuner, 2048000, outcomes,
-                                                    sizeof outcomes, room, sizeof room, next_driver, sizeof next_driver, next_tuner,
-                                                    sizeof next_tuner);
+    uint8_t next_tuner[PASETONE_TUNER_SIZE], next_driver[PASETONE_DRIVER_SIZE], table[PASETONE_V4_TABLE_SIZE];
+    pasetone_reply made = pasetone_board_table(PASETONE_V4, table, sizeof table);
+    pasetone_reply reply = pasetone_set_sample_rate(r->driver, sizeof r->driver, r->tuner, sizeof r->tuner, table, made.value, 2048000,
+                                                    outcomes, sizeof outcomes, room, sizeof room, next_driver, sizeof next_driver,
+                                                    next_tuner, sizeof next_tuner);
     print_reply("sample rate 2048000", reply);
     keep(r, next_tuner, pasetone_stands(reply));
     if (pasetone_stands(reply)) {

@@ -161,12 +161,78 @@ void make_table(struct attempt *a)
     default:
         break;
     }
-    /* at an end of a band, or anywhere */
-    if (a->n[INPUT] >= BAND && below(4) > 0) {
+    if (a->call->way == RATING) {
+        return;
+    }
+    /* what a tuner reaches, so that a board's tuning is often taken; else at an end of a band, or anywhere */
+    if (a->call->way == HOPPING && below(2) == 0) {
+        a->n[INPUT] = below(2) == 0 ? built_in_model(below(2), table)
+                                    : (size_t)(put_band(table, below(3), UINT64_MAX, below(200000000), (int)below(2), (int)below(4), (int)below(2)) - table);
+        a->arg[0] = 1000000 + below(1800000000);
+    } else if (a->n[INPUT] >= BAND && below(4) > 0) {
         const uint8_t *band = table + BAND * below(a->n[INPUT] / BAND);
         uint64_t end = number_at(band + 8 * below(2), 8);
         a->arg[0] = below(2) == 0 ? end : end + below(3) - 1;
     }
+}
+
+/* "and in the tune also for one shifted to 0 or whose sum with the IF is past u64" */
+uint32_t hop_model(const struct attempt *a)
+{
+    uint64_t tuned;
+    uint8_t plan[3];
+    uint32_t number = table_model(a->before[INPUT], a->n[INPUT], a->arg[0], &tuned, plan);
+    if (number != 0) {
+        return number;
+    }
+    return tuned == 0 || tuned > UINT64_MAX - number_at(a->before[TUNER] + PASETONE_TUNER_IF, 8) ? 2 : 0;
+}
+
+/* The byte for the spectrum, as entry i of the section; `inverted` 1 or 0. */
+static int turns(const struct attempt *a, uint64_t i, int inverted)
+{
+    const uint8_t *e = a->at[ROOM] + 16 * i;
+    return e[0] == 4 && e[2] == 1 && e[4] == 0x15 && e[5] == 0 && e[8] == (inverted ? 5 : 1);
+}
+
+/* "no plan, not inverted": the last of the 17 entries of a rate. */
+static const char *judge_rate(const struct attempt *a)
+{
+    uint64_t tuned, hz = number_at(a->before[DRIVER] + PASETONE_DRIVER_FREQUENCY, 8);
+    uint8_t plan[3] = {0, 3, 0};
+    int inverted = table_model(a->before[INPUT], a->n[INPUT], hz, &tuned, plan) == 0 && plan[0] == 1;
+    return a->reply.count < 17 || turns(a, 16, inverted) ? NULL : "the rate's spectrum is not the table's";
+}
+
+/*
+ * "plan, notch, board path where there is one, tune, then the DDC sync byte, in that order": GPIO is read first exactly where the board path is taken, the
+ * byte comes last where the call is done, and the tuner's register 0x06 or 0x05 is written for the path. The rest is the tuning's own.
+ */
+const char *judge_hop(const struct attempt *a)
+{
+    uint64_t tuned, frequency = number_at(a->at[NEXT_DRIVER] + PASETONE_DRIVER_FREQUENCY, 8);
+    uint8_t plan[3] = {0, 3, 0};
+    int by_path;
+    if (a->call->way == RATING) {
+        return judge_rate(a);
+    }
+    table_model(a->before[INPUT], a->n[INPUT], a->arg[0], &tuned, plan);
+    by_path = a->before[TUNER][PASETONE_TUNER_KIND] == PASETONE_R828D && plan[1] < 3;
+    if ((a->at[ROOM][0] == 8) != by_path) {
+        return "the board's path is taken where it should not be, or is not where it should";
+    }
+    if (by_path && a->reply.count > 8 && (a->at[ROOM][16 * 7] != 2 || a->at[ROOM][16 * 7 + 8] != (plan[1] == 0 ? 0x06 : 0x05))) {
+        return "the path is another";
+    }
+    if (a->reply.refusal == 0 && !turns(a, a->reply.count - 1, plan[0])) {
+        return "the last step does not turn the spectrum as the table has it";
+    }
+    if (a->at[NEXT][PASETONE_TUNER_NOTCH] != plan[2]) {
+        return "the notch is not the table's";
+    }
+    return frequency == (a->reply.refusal == 0 ? a->arg[0] : number_at(a->before[DRIVER] + PASETONE_DRIVER_FREQUENCY, 8))
+               ? NULL
+               : "the driver's frequency is another";
 }
 
 const char *judge_bands(const struct attempt *a)

@@ -32,6 +32,15 @@ static pasetone_reply run_tune(struct attempt *a)
     return reply;
 }
 
+static pasetone_reply run_hop(struct attempt *a)
+{
+    pasetone_tune_reply told = pasetone_tune_board(S(DRIVER), S(TUNER), S(INPUT), a->arg[0], S(OUTCOMES), S(REPLIES), S(ROOM), S(NEXT_DRIVER), S(NEXT));
+    pasetone_reply reply = {told.value, told.index, told.refusal, told.count};
+    a->tries = told.tries;
+    a->locked = told.locked;
+    return reply;
+}
+
 /* A section's start as value; `zero` as index. */
 static pasetone_reply run_read(struct attempt *a)
 {
@@ -100,7 +109,7 @@ RUN(run_table, pasetone_get_gain_table(S(TUNER), S(OUT)))
 RUN(run_ppm, pasetone_set_ppm(S(TUNER), S(DRIVER), (int32_t)(uint32_t)a->arg[0]))
 RUN(run_notch, pasetone_apply_notch(S(TUNER), (uint8_t)a->arg[0]))
 RUN(run_xtal, pasetone_corrected_xtal_hz(S(DRIVER)))
-RUN(run_rate, pasetone_set_sample_rate(S(DRIVER), S(TUNER), (uint32_t)a->arg[0], S(OUTCOMES), S(ROOM), S(NEXT_DRIVER), S(NEXT)))
+RUN(run_rate, pasetone_set_sample_rate(S(DRIVER), S(TUNER), S(INPUT), (uint32_t)a->arg[0], S(OUTCOMES), S(ROOM), S(NEXT_DRIVER), S(NEXT)))
 RUN(run_board_path, pasetone_apply_input_path(S(TUNER), a->arg[0], S(OUTCOMES), S(REPLIES), S(ROOM), S(NEXT)))
 RUN(run_baseband, pasetone_init_baseband(S(OUTCOMES), S(ROOM)))
 RUN(run_power, pasetone_power_on(S(OUTCOMES), S(ROOM)))
@@ -141,7 +150,6 @@ ARGUMENT(hz_args, REFUSE(a->arg[0] == 0 || a->arg[0] > UINT64_MAX - number_at(a-
 ARGUMENT(path_args, REFUSE(a->arg[0] > 2, 1))
 #define OUT_OF_RANGE(slot, field) (corrected(number_at(a->before[slot] + (field), 4), (int32_t)(uint32_t)a->arg[0]) == 0)
 ARGUMENT(ppm_args, REFUSE(OUT_OF_RANGE(TUNER, PASETONE_TUNER_NOMINAL) || OUT_OF_RANGE(DRIVER, PASETONE_DRIVER_NOMINAL), 4))
-ARGUMENT(rate_args, rate_model((uint32_t)a->arg[0], driver_xtal(a->before[DRIVER])))
 ARGUMENT(xtal_args, REFUSE((uint32_t)a->arg[1] == 0, 4))
 ARGUMENT(rate_xtal_args, rate_model((uint32_t)a->arg[0], (uint32_t)a->arg[1]))
 ARGUMENT(resample_args, (uint32_t)a->arg[0] == 0 ? 3 : REFUSE((uint32_t)a->arg[1] == 0, 4))
@@ -208,6 +216,17 @@ static uint32_t measured_args(const struct attempt *a)
     return measured_model(a, &bytes, &length);
 }
 
+ARGUMENT(hop_args, hop_model(a))
+
+/* "19 after 1", then the rate's own */
+static uint32_t rate_args(const struct attempt *a)
+{
+    uint64_t tuned;
+    uint8_t plan[3];
+    uint32_t number = table_model(a->before[INPUT], a->n[INPUT], 0, &tuned, plan);
+    return number == 19 ? 19 : rate_model((uint32_t)a->arg[0], driver_xtal(a->before[DRIVER]));
+}
+
 static uint32_t table_args(const struct attempt *a)
 {
     uint64_t tuned;
@@ -221,7 +240,7 @@ static uint32_t table_args(const struct attempt *a)
     static uint64_t name(const struct attempt *a) { return (void)a, (expression); }
 
 VALUE(nothing, 0)
-VALUE(version_value, 0x00050000)
+VALUE(version_value, 0x00060000)
 VALUE(asked, a->arg[0])
 VALUE(gain_set, number_at(a->at[NEXT] + PASETONE_TUNER_GAIN, 4))
 VALUE(gain_held, number_at(a->before[TUNER] + PASETONE_TUNER_GAIN, 4))
@@ -305,7 +324,8 @@ const struct call calls[] = {
     {"apply_notch", NOTCH, HAS(TUNER), 0, 0, 0, "1", run_notch, any, nothing},
     {"corrected_xtal_hz", COMMON, HAS(DRIVER), 0, 0, 0, "1", run_xtal, any, xtal_value},
     {"set_ppm", PPM, HAS(TUNER) | HAS(DRIVER), 0, 0, 0, "1 4", run_ppm, ppm_args, nothing},
-    {"set_sample_rate", COMMON, STEPS | HAS(DRIVER) | HAS(NEXT_DRIVER), 17, 0, 0, "1 3 13 8 9 11", run_rate, rate_args, nothing},
+    {"set_sample_rate", RATING, STEPS | HAS(DRIVER) | HAS(INPUT) | HAS(NEXT_DRIVER), 17, 0, 0, "1 19 3 13 8 9 11", run_rate, rate_args, nothing},
+    {"tune_board", HOPPING, STEPS | HAS(DRIVER) | HAS(INPUT) | HAS(REPLIES) | HAS(NEXT_DRIVER), 64, 38, 0, "1 19 2 8 9 10 11", run_hop, hop_args, asked},
     {"apply_input_path", COMMON, STEPS | HAS(REPLIES), 10, 3, 0, "1 8 9 10 11", run_board_path, path_args, nothing},
     {"init_baseband", COMMON, FREE, 45, 0, 0, "8 9 11", run_baseband, any, nothing},
     {"power_on", COMMON, FREE, 45, 0, 0, "8 9 11", run_power, any, nothing},

@@ -86,10 +86,16 @@ static void spoil(void)
         now.reply.index++;
     } else if (testing("number") && now.reply.refusal == 9) {
         now.reply.refusal = 8;
-    } else if (testing("tries") && now.reply.refusal == 11 && now.call->way == TUNING) {
+    } else if (testing("tries") && now.reply.refusal == 11 && (now.call->way == TUNING || now.call->way == HOPPING)) {
         now.tries++;
-    } else if (testing("lock") && now.call->way == TUNING && now.reply.count > 0) {
+    } else if (testing("lock") && (now.call->way == TUNING || now.call->way == HOPPING) && now.reply.count > 0) {
         now.locked = now.at[NEXT][PASETONE_TUNER_LOCK];
+    } else if (testing("frequency") && now.call->way == HOPPING && now.reply.refusal == 11) {
+        memcpy(now.at[NEXT_DRIVER] + PASETONE_DRIVER_FREQUENCY, &now.arg[0], 8);
+    } else if (testing("notch") && now.call->way == HOPPING && now.reply.count > 0) {
+        now.at[NEXT][PASETONE_TUNER_NOTCH] ^= 1;
+    } else if (testing("spectrum") && now.call->way == RATING && now.reply.count == 17) {
+        now.at[ROOM][16 * 16 + 8] ^= 4;
     }
 }
 

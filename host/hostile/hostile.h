@@ -31,6 +31,8 @@ enum way {
     SETTINGS_MOVE,  /* writes the image at the end of INPUT in the other edition into OUT */
     BANDS,     /* plans by the table in INPUT */
     BUILT_IN,  /* answers a board's table */
+    RATING,    /* plans the driver's frequency by the table in INPUT */
+    HOPPING,   /* a tuning by the table in INPUT; may be refused 2 by the PLL */
     EXPANDING, /* answers as many bytes as its input asks for, as do those behind it */
     HEARING,
     RESTORING
@@ -138,6 +140,9 @@ uint32_t measured_model(const struct attempt *a, const uint8_t **bytes, size_t *
 uint32_t table_model(const uint8_t *table, size_t n, uint64_t hz, uint64_t *tuned, uint8_t *plan);
 size_t built_in_model(uint64_t board, uint8_t *table);
 void make_table(struct attempt *a);
+uint32_t hop_model(const struct attempt *a);
+/* a board's tuning or a rate by a table: the entries that the table decides, and what the records keep */
+const char *judge_hop(const struct attempt *a);
 /* the plan or the table that a done call must have left at the start of OUT */
 const char *judge_bands(const struct attempt *a);
 

@@ -71,7 +71,7 @@ static const char *judge_rates(const struct attempt *a)
     if (!(a->call->slots & HAS(DRIVER))) {
         rate = (uint32_t)a->arg[4];
         actual = 0;
-    } else if ((a->call->slots & HAS(TUNER)) && a->reply.refusal == 0) {
+    } else if (a->call->way == RATING && a->reply.refusal == 0) {
         rate = (uint32_t)a->arg[0];
         actual = true_rate_model(rate, driver_xtal(was));
     } else {
@@ -129,7 +129,8 @@ static const char *judge_next(const struct attempt *a)
     }
     if ((slots & HAS(NEXT_DRIVER)) && (slots & HAS(DRIVER)) &&
         (memcmp(a->at[NEXT_DRIVER], a->before[DRIVER], 5) != 0 ||
-         memcmp(a->at[NEXT_DRIVER] + PASETONE_DRIVER_FREQUENCY, a->before[DRIVER] + PASETONE_DRIVER_FREQUENCY, 8) != 0)) {
+         (a->call->way != HOPPING &&
+          memcmp(a->at[NEXT_DRIVER] + PASETONE_DRIVER_FREQUENCY, a->before[DRIVER] + PASETONE_DRIVER_FREQUENCY, 8) != 0))) {
         return "the next driver record is of another board";
     }
     return (slots & HAS(NEXT_DRIVER)) ? judge_rates(a) : NULL;
@@ -182,7 +183,8 @@ static const char *judge_section(const struct attempt *a)
         }
     }
     if (stop == r->count) {
-        return r->refusal == 0 || (r->refusal == 2 && a->call->way == TUNING && r->count == 13) ? NULL : "refused although no step failed";
+        int late = r->refusal == 2 && ((a->call->way == TUNING && r->count == 13) || (a->call->way == HOPPING && (r->count == 13 || r->count == 23)));
+        return r->refusal == 0 || late ? NULL : "refused although no step failed";
     }
     if (r->refusal != 11 || r->index != stop) {
         return "a step failed, and the reply says something else";
@@ -235,7 +237,7 @@ const char *judge(const struct attempt *a)
 {
     const pasetone_reply *r = &a->reply;
     uint32_t before = refusal_before_steps(a);
-    const char *wrong = a->call->way == TUNING ? judge_lock(a) : NULL;
+    const char *wrong = a->call->way == TUNING || a->call->way == HOPPING ? judge_lock(a) : NULL;
     if (wrong != NULL) {
         return wrong;
     }
@@ -261,6 +263,9 @@ const char *judge(const struct attempt *a)
     }
     if (wrong == NULL && (a->call->way == BANDS || a->call->way == BUILT_IN)) {
         wrong = judge_bands(a);
+    }
+    if (wrong == NULL && (a->call->way == RATING || a->call->way == HOPPING)) {
+        wrong = judge_hop(a);
     }
     return wrong != NULL ? wrong : judge_next(a);
 }

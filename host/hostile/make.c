@@ -178,7 +178,7 @@ static void make_input(struct attempt *a)
         make_sections(a);
         return;
     }
-    if (a->call->way == BANDS) {
+    if (a->call->way == BANDS || a->call->way == RATING || a->call->way == HOPPING) {
         make_table(a);
         return;
     }

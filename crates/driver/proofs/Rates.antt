@@ -1,15 +1,15 @@
 -- Both calls with steps over the code, whose parts were worked out apart. Assumes nothing.
 use Prim.Native.Nat.{ℕ}
 use mathlib.Core.Path.{_≡_, refl, ap, _∙_}
-use mathlib.Core.Bool.{Bool, true, false, _&&_}
+use mathlib.Core.Bool.{Bool, true, false, _&&_, cond}
 use mathlib.Core.List.{List, [], _++_}
-use lib.Dec.{leb}
+use native.Mathlib.Omega.{arith}
+use lib.Dec.{eqb, leb}
 use lib.ListN.{getD, length}
 use Rattle.board.specs.declared.Path.{Path}
 use Rattle.board.specs.declared.PathRead.{PathRead}
 use Rattle.board.specs.declared.PathRead.the-variants as path-read
-use Rattle.board.specs.declared.Plan.{Plan}
-use Rattle.board.specs.Plans.{planOf}
+use Rattle.bands.specs.declared.Planned.{Planned}
 use Rattle.chip.specs.declared.Answer.{Answer}
 use Rattle.chip.specs.declared.Answer.the-variants.{Done, Refused}
 use Rattle.chip.specs.declared.Flow.{Flow}
@@ -33,7 +33,7 @@ use Rattle.r82xx.proofs.Whole.{bracket-eight, perform-by, refuse-by}
 use Rattle.driver.specs.declared.Driver.{Driver}
 use Rattle.driver.specs.Record.{soundDriver, xtalOf}
 use Rattle.driver.specs.Programs.{anewSteps, boardPathSteps, filterSteps, ifFor, levelFor, sampleRateSteps, tunerPath}
-use Rattle.driver.specs.Calls.{boardRow, both, rateRefusal, rateResult, ratedBy, retuned}
+use Rattle.driver.specs.Calls.{boardRow, both, rateArgument, rateResult, ratedBy, retuned}
 
 -- every entry has its eight data bytes
 reset-eight : every eight resetSteps ≡ true
@@ -48,7 +48,7 @@ if-eight : (hz xtal : ℕ) → every eight (ifSteps hz xtal) ≡ true
 unfolding ifSteps
 if-eight hz xtal = accesses-eight (ifRows hz xtal)
 
-ddc-eight : (inverted : Bool) → every eight (ddcSteps inverted) ≡ true
+pub ddc-eight : (inverted : Bool) → every eight (ddcSteps inverted) ≡ true
 unfolding every ddcSteps
 ddc-eight inverted = refl
 
@@ -88,41 +88,51 @@ board-path-eight kind path rs =
     (every-app eight (bitSteps 5 (levelFor path) (getD rs 2 0)) (tunerPath kind path) (bit-eight 5 (levelFor path) (getD rs 2 0)) (tuner-path-eight kind path))
 
 -- a rate's call: what it is refused by, and what it is performed with
-module _ (os room : List ℕ) (rate : ℕ) (t : Tuner) (d : Driver) (s : Bool) (xtal argument given : ℕ)
-    (by-tuner : s ≡ sound t) (by-driver : xtal ≡ xtalOf d) (by-rate : argument ≡ rateNumber rate xtal)
+module _ (os room : List ℕ) (rate : ℕ) (t : Tuner) (d : Driver) (p : Planned) (s : Bool) (xtal ratio argument given : ℕ)
+    (by-tuner : s ≡ sound t) (by-driver : xtal ≡ xtalOf d) (by-rate : ratio ≡ rateNumber rate xtal) (by-table : argument ≡ cond (eqb (p .refusal) 19) 19 ratio)
     (by-all : given ≡ refusalWith (s && leb 1 xtal) argument 17 0 (length room) (length os) 0) where
-  number : given ≡ refusalWith (sound t && soundDriver d) (rateRefusal rate d) 17 0 (length room) (length os) 0
-  number = by-all ∙ (λ i. refusalWith (by-tuner i && leb 1 (by-driver i)) ((by-rate ∙ ap (rateNumber rate) by-driver) i) 17 0 (length room) (length os) 0)
+  number : given ≡ refusalWith (sound t && soundDriver d) (rateArgument rate p d) 17 0 (length room) (length os) 0
+  number = by-all ∙ (λ i. refusalWith (by-tuner i && leb 1 (by-driver i)) ((by-table ∙ ap (λ (n : ℕ). cond (eqb (p .refusal) 19) 19 n) (by-rate ∙ ap (rateNumber rate) by-driver)) i) 17 0 (length room) (length os) 0)
 
-  pub rate-refused : (given ≡ 0 → ⊥) → called (both t d) room 0 (Refused given) ≡ rateResult rate os t d room
+  pub rate-refused : (given ≡ 0 → ⊥) → called (both t d) room 0 (Refused given) ≡ rateResult rate p os t d room
   unfolding rateResult leftBy
   rate-refused h =
-      refuse-by (refusalWith (sound t && soundDriver d) (rateRefusal rate d) 17 0 (length room) (length os) 0) given (Done 0) os
-      (sampleRateSteps (ifFor (t .ifreq) rate) rate (xtalOf d) (planOf (d .board) (d .frequency) .inverted)) (t .chip)
+      refuse-by (refusalWith (sound t && soundDriver d) (rateArgument rate p d) 17 0 (length room) (length os) 0) given (Done 0) os
+      (sampleRateSteps (ifFor (t .ifreq) rate) rate (xtalOf d) (p .plan .inverted)) (t .chip)
       (λ (tr : Trace). both (retuned t (ifFor (t .ifreq) rate) (tr .chip)) (ratedBy d rate (xtalOf d) (tr .went))) (both t d) room number h
 
-  pub rate-performed : (hz : ℕ) (plan : Plan) (f : Flow) (mid after : List ℕ) (answer : Answer) (next : Tuner) (later : Driver)
-      → given ≡ 0 → hz ≡ ifFor (t .ifreq) rate → plan ≡ planOf (d .board) (d .frequency)
-      → onRoom f mid ≡ run inRoom os (sampleRateSteps hz rate xtal (plan .inverted)) (line (t .chip) (logged room unseen) 0 Going false)
+  pub rate-performed : (hz : ℕ) (f : Flow) (mid after : List ℕ) (answer : Answer) (next : Tuner) (later : Driver)
+      → given ≡ 0 → hz ≡ ifFor (t .ifreq) rate
+      → onRoom f mid ≡ run inRoom os (sampleRateSteps hz rate xtal (p .plan .inverted)) (line (t .chip) (logged room unseen) 0 Going false)
       → after ≡ sealed mid (f .log .count) → answer ≡ answerOf (Done 0) (f .log .went)
       → next ≡ retuned t hz (f .chip) → later ≡ ratedBy d rate xtal (f .log .went)
-      → called (both next later) after (f .log .count) answer ≡ rateResult rate os t d room
+      → called (both next later) after (f .log .count) answer ≡ rateResult rate p os t d room
   unfolding rateResult leftBy
-  rate-performed hz plan f mid after answer next later z by-if by-plan k q a n l =
-      perform-by (refusalWith (sound t && soundDriver d) (rateRefusal rate d) 17 0 (length room) (length os) 0) given (Done 0) os
-      (sampleRateSteps (ifFor (t .ifreq) rate) rate (xtalOf d) (planOf (d .board) (d .frequency) .inverted)) (t .chip)
+  rate-performed hz f mid after answer next later z by-if k q a n l =
+      perform-by (refusalWith (sound t && soundDriver d) (rateArgument rate p d) 17 0 (length room) (length os) 0) given (Done 0) os
+      (sampleRateSteps (ifFor (t .ifreq) rate) rate (xtalOf d) (p .plan .inverted)) (t .chip)
       (λ (tr : Trace). both (retuned t (ifFor (t .ifreq) rate) (tr .chip)) (ratedBy d rate (xtalOf d) (tr .went)))
       (λ (w : Line Logged). both (retuned t (ifFor (t .ifreq) rate) (w .chip)) (ratedBy d rate (xtalOf d) (w .went)))
       (both t d) (both next later) room f mid after answer number z
-      (sample-rate-eight (ifFor (t .ifreq) rate) rate (xtalOf d) (planOf (d .board) (d .frequency) .inverted))
-      (k ∙ (λ i. run inRoom os (sampleRateSteps (by-if i) rate (by-driver i) (by-plan i .inverted)) (line (t .chip) (logged room unseen) 0 Going false)))
+      (sample-rate-eight (ifFor (t .ifreq) rate) rate (xtalOf d) (p .plan .inverted))
+      (k ∙ (λ i. run inRoom os (sampleRateSteps (by-if i) rate (by-driver i) (p .plan .inverted)) (line (t .chip) (logged room unseen) 0 Going false)))
       q a (λ i. both ((n ∙ ap (λ (x : ℕ). retuned t x (f .chip)) by-if) i) ((l ∙ ap (λ (x : ℕ). ratedBy d rate x (f .log .went)) by-driver) i)) refl
 
 -- Document 02, #103: a rate that the resampler doesn't hold is refused 13 "with record and buffers unchanged", whatever is lent to it
-pub not-held : (rate : ℕ) (os : List ℕ) (t : Tuner) (d : Driver) (room : List ℕ) → (sound t && soundDriver d) ≡ true → rateRefusal rate d ≡ 13
-    → rateResult rate os t d room ≡ called (both t d) room 0 (Refused 13)
+pub not-held : (rate : ℕ) (p : Planned) (os : List ℕ) (t : Tuner) (d : Driver) (room : List ℕ) → (sound t && soundDriver d) ≡ true → rateArgument rate p d ≡ 13
+    → rateResult rate p os t d room ≡ called (both t d) room 0 (Refused 13)
 unfolding rateResult leftBy callOf
-not-held rate os t d room s h = rw (s, h)
+not-held rate p os t d room s h = rw (s, h)
+
+-- a table that is taken leaves the rate's own number
+pub under : (table n : ℕ) → cond (eqb table 19) 19 n ≡ 0 → n ≡ 0
+under table n h = go (eqb table 19) refl
+  where
+    go : (b : Bool) → eqb table 19 ≡ b → n ≡ 0
+    go false e = rw e at h
+    go true e =
+        let never : _≡_ {A = ℕ} 19 0 = rw e at h in
+        absurd (omega arith)
 
 -- what a row of the board's path leaves, by the path that was read
 abbrev boardLeft : PathRead → List ℕ → List ℕ → Tuner → List ℕ → Called Tuner

@@ -8,7 +8,7 @@ use native.Mathlib.Omega.{arith}
 use borrow.Author.Tests.{eqb-true}
 use lib.Dec.{eqb}
 use lib.ListN.{length}
-use Rattle.board.specs.Plans.{planOf}
+use Rattle.bands.specs.declared.Planned.{Planned}
 use Rattle.chip.specs.declared.Answer.{Answer}
 use Rattle.chip.specs.declared.Answer.the-variants.{Done, Refused, Stopped}
 use Rattle.chip.specs.declared.Chip.{Chip}
@@ -22,10 +22,11 @@ use Rattle.registers.specs.Rates.{trueOf}
 use Rattle.registers.proofs.Ratios.{true-least}
 use Rattle.r82xx.specs.declared.Tuner.{Tuner}
 use Rattle.r82xx.specs.Record.{sound}
+use Rattle.driver.proofs.Rates.{under}
 use Rattle.driver.specs.declared.Driver.{Driver}
 use Rattle.driver.specs.Record.{soundDriver, withRate, xtalOf}
 use Rattle.driver.specs.Programs.{ifFor, sampleRateSteps}
-use Rattle.driver.specs.Calls.{Both, both, rateRefusal, rateResult, ratedBy, retuned}
+use Rattle.driver.specs.Calls.{Both, both, rateArgument, rateRefusal, rateResult, ratedBy, retuned}
 
 -- by how the steps went
 rated : (d : Driver) (rate xtal : ℕ) (went : Went) → answerOf (Done 0) went ≡ Done 0 → ratedBy d rate xtal went ≡ withRate d rate (trueOf rate xtal)
@@ -36,15 +37,15 @@ unrated : (d : Driver) (rate xtal : ℕ) (went : Went) → (answerOf (Done 0) we
 unrated d rate xtal Going h = absurd (h refl)
 unrated d rate xtal (Refused11 k) h = refl
 
-module _ (rate : ℕ) (os : List ℕ) (t : Tuner) (d : Driver) (room : List ℕ) where
+module _ (rate : ℕ) (p : Planned) (os : List ℕ) (t : Tuner) (d : Driver) (room : List ℕ) where
   abbrev number : ℕ
-  number = refusalWith (sound t && soundDriver d) (rateRefusal rate d) 17 0 (length room) (length os) 0
+  number = refusalWith (sound t && soundDriver d) (rateArgument rate p d) 17 0 (length room) (length os) 0
 
   abbrev ran : Trace
-  ran = trace os (sampleRateSteps (ifFor (t .ifreq) rate) rate (xtalOf d) (planOf (d .board) (d .frequency) .inverted)) (t .chip)
+  ran = trace os (sampleRateSteps (ifFor (t .ifreq) rate) rate (xtalOf d) (p .plan .inverted)) (t .chip)
 
   abbrev result : Called Both
-  result = rateResult rate os t d room
+  result = rateResult rate p os t d room
 
   -- refused before any step, or performed
   refused-so : eqb number 0 ≡ false → (result .answer ≡ Refused number) × (result .next .driver ≡ d)
@@ -61,8 +62,8 @@ module _ (rate : ℕ) (os : List ℕ) (t : Tuner) (d : Driver) (room : List ℕ)
     where
       go : (b : Bool) → eqb number 0 ≡ b → (result .next .driver ≡ withRate d rate (trueOf rate (xtalOf d))) × (rateRefusal rate d ≡ 0)
       go true e =
-          let z = taken-by (sound t && soundDriver d) (rateRefusal rate d) 17 0 (length room) (length os) 0 (eqb-true number 0 e) in
-          (performed-so e .1 ∙ rated d rate (xtalOf d) (ran .went) (sym (performed-so e .0) ∙ done), z .taken)
+          let z = taken-by (sound t && soundDriver d) (rateArgument rate p d) 17 0 (length room) (length os) 0 (eqb-true number 0 e) in
+          (performed-so e .1 ∙ rated d rate (xtalOf d) (ran .went) (sym (performed-so e .0) ∙ done), under (p .refusal) (rateRefusal rate d) (z .taken))
       go false e = let other : Refused number ≡ Done 0 = sym (refused-so e .0) ∙ done in let never : _≡_ {A = ℕ} 0 1 = cc in absurd (omega arith)
 
   -- "The true rate must be shown to be at least the rate asked wherever #103 accepts"

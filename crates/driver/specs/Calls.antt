@@ -9,7 +9,7 @@ use lib.IntN.{ℤ}
 use Rattle.board.specs.declared.PathRead.{PathRead}
 use Rattle.board.specs.declared.PathRead.the-variants as path-read
 use Rattle.board.specs.Numbers.{pathOf}
-use Rattle.board.specs.Plans.{planOf}
+use Rattle.bands.specs.declared.Planned.{Planned}
 use Rattle.chip.specs.declared.Answer.{Answer}
 use Rattle.chip.specs.declared.Answer.the-variants.{Done, Refused}
 use Rattle.chip.specs.declared.Chip.{Chip}
@@ -81,11 +81,15 @@ retuned t hz chip = withChip (withIf t hz) chip
 abbrev pub ratedBy : Driver → ℕ → ℕ → Went → Driver
 ratedBy d rate xtal went = cond (goes went) (withRate d rate (trueOf rate xtal)) d
 
--- the rows of both calls with steps. "sample rate 17, 0"
-abbrev pub rateRow : ℕ → Tuner → Driver → Course Both
-rateRow rate t d =
-    Taken (rateRefusal rate d) 17 0 [] (Done 0)
-    (sampleRateSteps (ifFor (t .ifreq) rate) rate (xtalOf d) (planOf (d .board) (d .frequency) .inverted))
+-- #113: "`set_sample_rate` plans by a table too (19 after 1); no plan, not inverted"
+abbrev pub rateArgument : ℕ → Planned → Driver → ℕ
+rateArgument rate p d = cond (eqb (p .refusal) 19) 19 (rateRefusal rate d)
+
+-- the rows of both calls with steps, by the table's plan for the recorded frequency. "sample rate 17, 0"
+abbrev pub rateRow : ℕ → Planned → Tuner → Driver → Course Both
+rateRow rate p t d =
+    Taken (rateArgument rate p d) 17 0 [] (Done 0)
+    (sampleRateSteps (ifFor (t .ifreq) rate) rate (xtalOf d) (p .plan .inverted))
     (λ tr. both (retuned t (ifFor (t .ifreq) rate) (tr .chip)) (ratedBy d rate (xtalOf d) (tr .went)))
 
 -- "board path 10, 3", on R820T too; a number that names no path is a setup: 1
@@ -94,8 +98,8 @@ boardRow path-read.Refused rs t = Still t (Refused 1)
 boardRow (path-read.Is path) rs t = Taken 0 10 3 rs (Done 0) (boardPathSteps (t .kind) path rs) (λ tr. withChip t (tr .chip))
 
 -- what they leave, by the outcomes and the room that are lent to them
-unfoldable pub rateResult : ℕ → List ℕ → Tuner → Driver → List ℕ → Called Both
-rateResult rate os t d room = leftBy (sound t && soundDriver d) (rateRow rate t d) os (t .chip) (both t d) room
+unfoldable pub rateResult : ℕ → Planned → List ℕ → Tuner → Driver → List ℕ → Called Both
+rateResult rate p os t d room = leftBy (sound t && soundDriver d) (rateRow rate p t d) os (t .chip) (both t d) room
 
 unfoldable pub boardResult : ℕ → List ℕ → List ℕ → Tuner → List ℕ → Called Tuner
 boardResult path rs os t room = leftBy (sound t) (boardRow (pathOf path) rs t) os (t .chip) t room

@@ -2,6 +2,9 @@
 // Document 01, "The record": "The driver's record holds board, nominal .., ppm, frequency and rate, all given at its making"; "`set_sample_rate` takes
 // both records". Document 02, #104: the true rate beside the rate asked; #109: one correction of both records. `sample_rate_steps` and `path_steps` are what a larger call holds: they look at no board.
 ghost use mathlib.Core.Path.{_≡_};
+ghost use mathlib.Core.Bool.{cond};
+ghost use lib.Dec.{eqb};
+ghost use Rattle.bands.specs.Tables.{planBy};
 ghost use mathlib.Core.List.{[]};
 ghost use Prim.Native.Nat.{_+_, _*_, _≤_, _<_};
 ghost use lib.ListN.{length};
@@ -11,7 +14,8 @@ ghost use Rattle.chip.specs.Steps.{due, inRoom, onRoom, run};
 ghost use Rattle.registers.specs.Rates.{rateNumber};
 ghost use Rattle.driver.specs.Record.{driverOf, nothingMade, xtalBy, xtalOf};
 ghost use Rattle.driver.specs.Programs.{anewSteps, boardPathSteps, filterSteps, ifFor, levelFor, sampleRateSteps, tunerPath};
-ghost use Rattle.driver.specs.Calls.{both, boardResult, correctionAnswer, correctionCall, correctionRefusal, keptPpm, keptReference, rateRefusal, rateResult, ratedBy, retuned, xtalAnswer};
+ghost use Rattle.driver.specs.Calls.{both, boardResult, correctionAnswer, correctionCall, correctionRefusal, keptPpm, keptReference, rateArgument, rateResult, ratedBy, retuned, xtalAnswer};
+use bands::Planned;
 use board::Board;
 use board::BoardRead;
 use board::Path;
@@ -173,7 +177,7 @@ fn tuner_path(f: Flow, kind: Kind, path: Path, outcomes: &[u8], room: &mut [u8])
 }
 
 // `apply_input_path` behind its refusals, over its own part of the replies.
-fn path_steps(
+pub fn path_steps(
     f: Flow,
     kind: Kind,
     path: Path,
@@ -188,6 +192,16 @@ fn path_steps(
     let driven = device::gpio_output(f, INPUT_PIN, replies[0], replies[1], outcomes, room);
     let switched = device::gpio_bit(driven, INPUT_PIN, level(path), replies[2], outcomes, room);
     tuner_path(switched, kind, path, outcomes, room)
+}
+
+// A malformed table is refused before the rate.
+fn rate_argument(table: u8, rate: u8) -> u8
+    ensures { λ r. ⌜ r ≡ cond (eqb table 19) 19 rate ⌝ }
+{
+    if table == bands::TABLE {
+        return bands::TABLE;
+    }
+    rate
 }
 
 // The tuner's record behind a rate: the IF has changed whether or not its writes were done.
@@ -329,21 +343,31 @@ impl Driver {
         Answer::Done(xtal as u64)
     }
 
-    // The number that a rate is refused by with this record's reference, 0 where it is taken.
-    pub fn rate_refusal(self, rate: u32) -> u8
-        ensures { λ r. ⌜ r ≡ rateRefusal rate self ⌝ }
+    // The number that a rate is refused by with this record's reference and a table's plan, 0 where it is taken.
+    pub fn rate_refusal(self, planned: Planned, rate: u32) -> u8
+        ensures { λ r. ⌜ r ≡ rateArgument rate planned self ⌝ }
     {
         let corrected = xtal_by(self.nominal, self.ppm);
-        registers::rate_number(rate, corrected)
+        let number = registers::rate_number(rate, corrected);
+        rate_argument(planned.refusal, number)
     }
 
-    pub fn set_sample_rate(self, tuner: Tuner, rate: u32, outcomes: &[u8], room: &mut [u8]) -> Rated
+    // `set_sample_rate` behind its table: whoever has looked at the plan before, to refuse it, works it out once.
+    pub fn rate_planned(
+        self,
+        tuner: Tuner,
+        planned: Planned,
+        rate: u32,
+        outcomes: &[u8],
+        room: &mut [u8],
+    ) -> Rated
         ensures { λ r. ⌜ called (both (r .tuner) (r .driver)) (now (room .exit)) (r .count) (r .answer)
-            ≡ rateResult rate (now (outcomes .entry)) tuner self (now (room .entry)) ⌝ }
+            ≡ rateResult rate planned (now (outcomes .entry)) tuner self (now (room .entry)) ⌝ }
     {
         let xtal = xtal_by(self.nominal, self.ppm);
         let whole = r82xx::sound(tuner.nominal, tuner.corrected) & (1 <= xtal);
-        let argument = registers::rate_number(rate, xtal);
+        let ratio = registers::rate_number(rate, xtal);
+        let argument = rate_argument(planned.refusal, ratio);
         let number = chip::refusal(whole, argument, 17, 0, room.len(), outcomes.len(), 0);
         if number != 0 {
             return Rated {
@@ -353,8 +377,7 @@ impl Driver {
                 count: 0,
             };
         }
-        let board = self.board;
-        let plan = board::plan_tuning(board, self.frequency);
+        let plan = planned.plan;
         let hz = if_for(tuner.ifreq, rate);
         let chip = tuner.chip;
         let start = Flow {
@@ -372,6 +395,21 @@ impl Driver {
             answer: answered,
             count: f.log.count,
         }
+    }
+
+    pub fn set_sample_rate(
+        self,
+        tuner: Tuner,
+        table: &[u8],
+        rate: u32,
+        outcomes: &[u8],
+        room: &mut [u8],
+    ) -> Rated
+        ensures { λ r. ⌜ called (both (r .tuner) (r .driver)) (now (room .exit)) (r .count) (r .answer)
+            ≡ rateResult rate (planBy (now (table .entry)) (self .frequency)) (now (outcomes .entry)) tuner self (now (room .entry)) ⌝ }
+    {
+        let planned = bands::plan_by_table(table, self.frequency);
+        self.rate_planned(tuner, planned, rate, outcomes, room)
     }
 }
 

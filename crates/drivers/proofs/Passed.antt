@@ -11,7 +11,9 @@ use lib.IntN.{ℤ}
 use lib.ListN.{length}
 use Rattle.chip.specs.declared.Answer.{Answer}
 use Rattle.chip.specs.declared.Answer.the-variants.{Refused}
+use Rattle.chip.specs.declared.Seen.{Seen}
 use Rattle.chip.specs.Calls.{Called, called}
+use Rattle.chip.specs.Entries.{unseen}
 use Rattle.chip.proofs.Laws.{and-left, and-right}
 use Rattle.wire.specs.Parts.{partsFrom}
 use Rattle.driver.specs.declared.Driver.{Driver}
@@ -20,17 +22,18 @@ use Rattle.board.specs.Numbers.{pathOf}
 use Rattle.chip.specs.Courses.{argumentOf}
 use Rattle.tuners.specs.Over.{pathRefusal}
 use Rattle.tuners.proofs.Passed.{path-argued}
-use Rattle.driver.specs.Calls.{boardRow, Both, both, correctionCall, rateRefusal, rateResult}
+use Rattle.driver.specs.Calls.{boardRow, Both, both, correctionCall}
 use Rattle.r82xx.specs.declared.Tuner.{Tuner}
 use Rattle.records.specs.declared.DriverRead.{DriverRead}
 use Rattle.records.specs.declared.TunerRead.{TunerRead}
 use Rattle.records.specs.Drivers.{driverBytes, driverFits, driverFrom, driverOf, driverWidths, isDriver, pickDriver}
 use Rattle.records.specs.Tuners.{isTuner, pickTuner, tunerBytes, tunerFits, tunerFrom, tunerOf, tunerWidths}
 use Rattle.replies.specs.declared.Reply.{Reply}
-use Rattle.replies.specs.Replies.{replyOf}
+use Rattle.replies.specs.declared.TuneReply.{TuneReply}
+use Rattle.replies.specs.Replies.{replyOf, tunedOf}
 use Rattle.tuners.specs.Over.{nextOf}
 use Rattle.tuners.proofs.Passed.{not-refused, refused}
-use Rattle.drivers.specs.Drivers.{Rates, bothReady, correctOver, corrects, correctsMade, rateOver, rates, ratesMade, ratesRefused}
+use Rattle.drivers.specs.Drivers.{Hops, Rates, bothReady, correctOver, corrects, correctsMade, hops, hopsBy, overBoth, rates, ratesMade, ratesRefused, seenBoth}
 
 -- the five ways of `ready`
 module _ (ok : Bool) (argument driver tuner : ℕ) where
@@ -69,43 +72,55 @@ unfolding bothReady
 fits false argument driver tuner e = absurd (omega (arith, e))
 fits true argument driver tuner e = argued-fits (eqb argument 0) argument driver tuner refl e
 
--- a rate over both records
-module _ (os : List ℕ) (rate : ℕ) (d t room driver tuner : List ℕ) where
+-- a call over both records, by its argument's number and by what it leaves
+module _ (argument : Tuner → Driver → ℕ) (result : Tuner → Driver → Called Both) (d t room driver tuner : List ℕ) where
   abbrev number : ℕ
-  number = bothReady (driverOf d .ok && tunerOf t .ok) (rateRefusal rate (driverOf d .driver)) (length driver) (length tuner)
+  number = bothReady (driverOf d .ok && tunerOf t .ok) (argument (tunerOf t .tuner) (driverOf d .driver)) (length driver) (length tuner)
 
   abbrev made : Rates
-  made = ratesMade (rateResult rate os (tunerOf t .tuner) (driverOf d .driver) room) driver tuner
+  made = ratesMade (result (tunerOf t .tuner) (driverOf d .driver)) driver tuner
 
   -- what is read, and the number that it is refused by, as the code has them
-  module _ (dr : DriverRead) (tr : TunerRead) (k n : ℕ) (is-driver : dr ≡ driverOf d) (is-tuner : tr ≡ tunerOf t) (argued : k ≡ rateRefusal rate (dr .driver)) (said : n ≡ bothReady (dr .ok && tr .ok) k (length driver) (length tuner)) where
+  module _ (dr : DriverRead) (tr : TunerRead) (k n : ℕ) (is-driver : dr ≡ driverOf d) (is-tuner : tr ≡ tunerOf t) (argued : k ≡ argument (tr .tuner) (dr .driver)) (said : n ≡ bothReady (dr .ok && tr .ok) k (length driver) (length tuner)) where
     number-is : n ≡ number
     number-is =
         said
         ∙ ap (λ (x : ℕ). bothReady (dr .ok && tr .ok) x (length driver) (length tuner)) argued
-        ∙ ap (λ (x : DriverRead). bothReady (x .ok && tr .ok) (rateRefusal rate (x .driver)) (length driver) (length tuner)) is-driver
-        ∙ ap (λ (x : TunerRead). bothReady (driverOf d .ok && x .ok) (rateRefusal rate (driverOf d .driver)) (length driver) (length tuner)) is-tuner
+        ∙ (λ i. bothReady (is-driver i .ok && is-tuner i .ok) (argument (is-tuner i .tuner) (is-driver i .driver)) (length driver) (length tuner))
 
-    pub refused-by : (r : Reply) → (n ≡ 0 → ⊥) → r ≡ replyOf (Refused n) 0 → rates r room driver tuner ≡ rateOver os rate d t room driver tuner
-    unfolding rateOver
+    pub refused-by : (r : Reply) → (n ≡ 0 → ⊥) → r ≡ replyOf (Refused n) 0 → rates r room driver tuner ≡ overBoth argument result d t room driver tuner
+    unfolding overBoth
     refused-by r h e =
         ap (λ (x : Reply). rates x room driver tuner) e ∙ refused number (λ n. ratesRefused n room driver tuner) made n number-is h
 
     pub handed-back : n ≡ 0
         → (t′ : Tuner) (d′ : Driver) (left : List ℕ) (count : ℕ) (a : Answer)
-        → called (both t′ d′) left count a ≡ rateResult rate os (tr .tuner) (dr .driver) room
+        → called (both t′ d′) left count a ≡ result (tr .tuner) (dr .driver)
         → (r : Reply) (wrote-driver wrote-tuner : List ℕ)
         → (r ≡ replyOf a count) × (wrote-driver ≡ nextOf driverBytes a count d′ driver) × (wrote-tuner ≡ nextOf tunerBytes a count t′ tuner)
-        → rates r left wrote-driver wrote-tuner ≡ rateOver os rate d t room driver tuner
-    unfolding rateOver
+        → rates r left wrote-driver wrote-tuner ≡ overBoth argument result d t room driver tuner
+    unfolding overBoth
     handed-back z t′ d′ left count a e r wd wt h =
-        ap (λ (x : Reply). rates x left wd wt) (h .0)
-        ∙ ap (λ (x : List ℕ). rates (replyOf a count) left x wt) (h .1)
-        ∙ ap (rates (replyOf a count) left (nextOf driverBytes a count d′ driver)) (h .2)
+        (λ i. rates (h .0 i) left (h .1 i) (h .2 i))
         ∙ ap (λ (x : Called Both). ratesMade x driver tuner) e
-        ∙ ap (λ (x : DriverRead). ratesMade (rateResult rate os (tr .tuner) (x .driver) room) driver tuner) is-driver
-        ∙ ap (λ (x : TunerRead). ratesMade (rateResult rate os (x .tuner) (driverOf d .driver) room) driver tuner) is-tuner
+        ∙ (λ i. ratesMade (result (is-tuner i .tuner) (is-driver i .driver)) driver tuner)
         ∙ not-refused number (λ n. ratesRefused n room driver tuner) made (sym number-is ∙ z)
+
+    -- what is told of the lock
+    module _ (seen : Tuner → Driver → Seen) where
+      pub untold : (n ≡ 0 → ⊥) → unseen ≡ seenBoth argument seen d t driver tuner
+      unfolding seenBoth
+      untold h = refused number (λ n. unseen) (seen (tunerOf t .tuner) (driverOf d .driver)) n number-is h
+
+      pub told : n ≡ 0 → (s : Seen) → s ≡ seen (tr .tuner) (dr .driver) → s ≡ seenBoth argument seen d t driver tuner
+      unfolding seenBoth
+      told z s e =
+          e ∙ (λ i. seen (is-tuner i .tuner) (is-driver i .driver)) ∙ not-refused number (λ n. unseen) (seen (tunerOf t .tuner) (driverOf d .driver)) (sym number-is ∙ z)
+
+-- a hop's reply is a rate's with what is told of the lock
+pub hop-told : (r : TuneReply) (q : Reply) (s : Seen) (room driver tuner : List ℕ) (o : Rates) (all : Seen) → r ≡ tunedOf q s → rates q room driver tuner ≡ o → s ≡ all
+    → hops r room driver tuner ≡ hopsBy o all
+hop-told r q s room driver tuner o all e f g = ap (λ (x : TuneReply). hops x room driver tuner) e ∙ (λ i. hopsBy (f i) (g i))
 
 -- a record that was read has its exact length
 tuner-long : (b : List ℕ) → tunerOf b .ok ≡ true → 78 ≤ length b

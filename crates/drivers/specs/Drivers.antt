@@ -10,14 +10,20 @@ use Rattle.lending.specs.Lent.{Given, answeredTo}
 use Rattle.chip.specs.declared.Answer.{Answer}
 use Rattle.chip.specs.declared.Answer.the-variants.{Refused}
 use Rattle.chip.specs.Calls.{Called}
+use Rattle.bands.specs.Tables.{planBy}
+use Rattle.boards.specs.Hops.{hopRefusal, hopResult, hopSeen}
+use Rattle.chip.specs.declared.Seen.{Seen}
 use Rattle.chip.specs.Courses.{argumentOf}
+use Rattle.chip.specs.Entries.{unseen}
+use Rattle.r82xx.specs.declared.Tuner.{Tuner}
+use Rattle.replies.specs.declared.TuneReply.{TuneReply}
 use Rattle.driver.specs.declared.Driver.{Driver}
 use Rattle.driver.specs.Calls.{Both, correctionCall, rateResult, rateRow, xtalAnswer}
 use Rattle.driver.specs.Record.{driverOf as madeDriver, xtalOf}
 use Rattle.records.specs.Drivers.{driverBytes, driverOf}
 use Rattle.records.specs.Tuners.{tunerBytes, tunerOf}
 use Rattle.replies.specs.declared.Reply.{Reply}
-use Rattle.replies.specs.Replies.{callReply, replyOf}
+use Rattle.replies.specs.Replies.{callReply, replyOf, tunedOf}
 use Rattle.tuners.specs.Over.{nextOf, unlessRefused}
 use Rattle.tuners.specs.Still.{ofRecord}
 
@@ -51,12 +57,46 @@ ratesMade c driver tuner =
 abbrev pub ratesRefused : ℕ → List ℕ → List ℕ → List ℕ → Rates
 ratesRefused number room driver tuner = rates (replyOf (Refused number) 0) room driver tuner
 
--- by the row of the call over both records
-unfoldable pub rateOver : List ℕ → ℕ → List ℕ → List ℕ → List ℕ → List ℕ → List ℕ → Rates
-rateOver os rate d t room driver tuner =
-    unlessRefused (bothReady (driverOf d .ok && tunerOf t .ok) (argumentOf (rateRow rate (tunerOf t .tuner) (driverOf d .driver))) (length driver) (length tuner))
+-- a call over both records' bytes, by the number of its argument's refusal and what it leaves of the records that the bytes are
+unfoldable pub overBoth : (Tuner → Driver → ℕ) → (Tuner → Driver → Called Both) → List ℕ → List ℕ → List ℕ → List ℕ → List ℕ → Rates
+overBoth argument result d t room driver tuner =
+    unlessRefused (bothReady (driverOf d .ok && tunerOf t .ok) (argument (tunerOf t .tuner) (driverOf d .driver)) (length driver) (length tuner))
     (λ n. ratesRefused n room driver tuner)
-    (ratesMade (rateResult rate os (tunerOf t .tuner) (driverOf d .driver) room) driver tuner)
+    (ratesMade (result (tunerOf t .tuner) (driverOf d .driver)) driver tuner)
+
+-- a rate, by its row and the table's plan
+abbrev pub rateOver : List ℕ → ℕ → List ℕ → List ℕ → List ℕ → List ℕ → List ℕ → List ℕ → Rates
+rateOver os rate table d t room driver tuner =
+    overBoth (λ u v. argumentOf (rateRow rate (planBy table (v .frequency)) u v)) (λ u v. rateResult rate (planBy table (v .frequency)) os u v room) d t room driver tuner
+
+-- ---- the board-level tune, which has a tuning's reply
+
+pub record Hops : Type 0 where
+  pub answer : TuneReply
+  pub room : List ℕ
+  pub driver : List ℕ
+  pub tuner : List ℕ
+
+abbrev pub hops : TuneReply → List ℕ → List ℕ → List ℕ → Hops
+hops answer room driver tuner = record { answer = answer; room = room; driver = driver; tuner = tuner }
+
+abbrev pub hopsBy : Rates → Seen → Hops
+hopsBy r s = hops (tunedOf (r .answer) s) (r .room) (r .driver) (r .tuner)
+
+-- what it tells of the lock: nothing where it is refused before any step
+unfoldable pub seenBoth : (Tuner → Driver → ℕ) → (Tuner → Driver → Seen) → List ℕ → List ℕ → List ℕ → List ℕ → Seen
+seenBoth argument seen d t driver tuner =
+    unlessRefused (bothReady (driverOf d .ok && tunerOf t .ok) (argument (tunerOf t .tuner) (driverOf d .driver)) (length driver) (length tuner))
+    (λ n. unseen)
+    (seen (tunerOf t .tuner) (driverOf d .driver))
+
+abbrev pub hopArgument : List ℕ → ℕ → Tuner → Driver → ℕ
+hopArgument table hz u v = hopRefusal (planBy table hz) (u .ifreq)
+
+abbrev pub hopOver : List ℕ → ℕ → List ℕ → List ℕ → List ℕ → List ℕ → List ℕ → List ℕ → List ℕ → Hops
+hopOver table hz rs os d t room driver tuner =
+    hopsBy (overBoth (hopArgument table hz) (λ u v. hopResult (planBy table hz) hz rs os u v room) d t room driver tuner)
+    (seenBoth (hopArgument table hz) (λ u v. hopSeen (planBy table hz) hz rs os u v room) d t driver tuner)
 
 -- what a correction leaves: its answer, and both records' bytes where they lie
 pub record Corrects : Type 0 where

@@ -8,15 +8,18 @@ ghost use Rattle.board.specs.Numbers.{pathOf};
 ghost use Rattle.driver.specs.Calls.{boardRow};
 ghost use Rattle.records.specs.Drivers.{driverBytes};
 ghost use Rattle.records.specs.Tuners.{tunerBytes};
-ghost use Rattle.replies.specs.Replies.{replyOf};
+ghost use Rattle.chip.specs.Entries.{saw};
+ghost use Rattle.replies.specs.Replies.{replyOf, tunedOf};
 ghost use Rattle.tuners.specs.Over.{after, nextOf, overTuner};
-ghost use Rattle.drivers.specs.Drivers.{bothReady, correctOver, corrects, freshInto, rateOver, rates, xtalOver};
+ghost use Rattle.drivers.specs.Drivers.{bothReady, correctOver, corrects, freshInto, hopOver, hops, rateOver, rates, xtalOver};
+use boards::Hopped;
 use chip::Answer;
 use driver::Driver;
 use driver::Rated;
 use records::DRIVER;
 use records::TUNER;
 use replies::Reply;
+use replies::TuneReply;
 
 fn lend(answer: Answer, driver: Driver, out: &mut [u8]) -> Answer
     ensures { λ r. ⌜ given r (now (out .exit)) ≡ answeredTo answer (driverBytes driver) (now (out .entry)) ⌝ }
@@ -112,6 +115,7 @@ pub fn set_ppm(tuner: &mut [u8], driver: &mut [u8], ppm: i32) -> Reply
 pub fn set_sample_rate(
     driver: &[u8],
     tuner: &[u8],
+    table: &[u8],
     rate: u32,
     outcomes: &[u8],
     room: &mut [u8],
@@ -119,18 +123,60 @@ pub fn set_sample_rate(
     next: &mut [u8],
 ) -> Reply
     ensures { λ r. ⌜ rates r (now (room .exit)) (now (left .exit)) (now (next .exit))
-        ≡ rateOver (now (outcomes .entry)) rate (now (driver .entry)) (now (tuner .entry)) (now (room .entry)) (now (left .entry)) (now (next .entry)) ⌝ }
+        ≡ rateOver (now (outcomes .entry)) rate (now (table .entry)) (now (driver .entry)) (now (tuner .entry)) (now (room .entry)) (now (left .entry)) (now (next .entry)) ⌝ }
 {
     let d = records::decode_driver(driver);
     let t = records::decode_tuner(tuner);
     let given = d.driver;
-    let argument = given.rate_refusal(rate);
+    let planned = bands::plan_by_table(table, given.frequency);
+    let argument = given.rate_refusal(planned, rate);
     let number = ready(d.ok & t.ok, argument, left.len(), next.len());
     if number != 0 {
         return tuners::refuse(number);
     }
-    let rated = given.set_sample_rate(t.tuner, rate, outcomes, room);
+    let rated = given.rate_planned(t.tuner, planned, rate, outcomes, room);
     hand(rated, left, next)
+}
+
+// What a hop hands back, as a rate does, with what it tells of the lock.
+fn hand_hop(hopped: Hopped, driver: &mut [u8], tuner: &mut [u8]) -> TuneReply
+    requires { ⌜ (29 ≤ length (now driver)) × (78 ≤ length (now tuner)) ⌝ }
+    ensures { λ r. ⌜ (r ≡ tunedOf (replyOf (hopped .answer) (hopped .count)) (saw (hopped .tries) (hopped .locked)))
+        × (now (driver .exit) ≡ nextOf driverBytes (hopped .answer) (hopped .count) (hopped .driver) (now (driver .entry)))
+        × (now (tuner .exit) ≡ nextOf tunerBytes (hopped .answer) (hopped .count) (hopped .tuner) (now (tuner .entry))) ⌝ }
+{
+    let answer = hopped.answer;
+    store(answer, hopped.count, hopped.driver, driver);
+    tuners::store(answer, hopped.count, hopped.tuner, tuner);
+    let reply = replies::numbers(answer, hopped.count);
+    replies::tuned(reply, hopped.tries, hopped.locked)
+}
+
+pub fn tune_board(
+    driver: &[u8],
+    tuner: &[u8],
+    table: &[u8],
+    hz: u64,
+    outcomes: &[u8],
+    replies: &[u8],
+    room: &mut [u8],
+    left: &mut [u8],
+    next: &mut [u8],
+) -> TuneReply
+    ensures { λ r. ⌜ hops r (now (room .exit)) (now (left .exit)) (now (next .exit))
+        ≡ hopOver (now (table .entry)) hz (now (replies .entry)) (now (outcomes .entry)) (now (driver .entry)) (now (tuner .entry)) (now (room .entry)) (now (left .entry)) (now (next .entry)) ⌝ }
+{
+    let d = records::decode_driver(driver);
+    let t = records::decode_tuner(tuner);
+    let planned = bands::plan_by_table(table, hz);
+    let given = t.tuner;
+    let refused = boards::hop_refusal(planned, given.ifreq);
+    let number = ready(d.ok & t.ok, refused, left.len(), next.len());
+    if number != 0 {
+        return replies::tuned(tuners::refuse(number), 0, false);
+    }
+    let hopped = boards::tune_planned(d.driver, given, planned, hz, outcomes, replies, room);
+    hand_hop(hopped, left, next)
 }
 
 // The board's input path, which takes the tuner's record alone.

@@ -14,7 +14,7 @@ ghost use Rattle.device.specs.Gpio.Order.{Output, Bit};
 ghost use Rattle.board.specs.Numbers.{pathOf};
 ghost use Rattle.driver.specs.Calls.{boardRow};
 ghost use Rattle.drivers.specs.Drivers as driver;
-ghost use Rattle.drivers.specs.Drivers.{correctOver, corrects, rateOver, rates, xtalOver};
+ghost use Rattle.drivers.specs.Drivers.{correctOver, corrects, hopOver, hops, rateOver, rates, xtalOver};
 ghost use Rattle.expansion.specs.Expansion.{expandInto, readInto};
 ghost use Rattle.r82xx.specs.Orders.{courseOf};
 ghost use Rattle.r82xx.specs.Orders.Order.{Initialize, Reload, Bandwidth, IfFreq, Gain, GainIndex, InputPath, Tune, Notch, GainTold, IfTold};
@@ -37,12 +37,12 @@ use settings::Reply2;
 use settings::Settings;
 use settings::Settings2;
 
-// 5.0.0: the major number times 65,536, the minor times 256, the patch.
+// 6.0.0: the major number times 65,536, the minor times 256, the patch.
 #[no_mangle]
 pub extern "C" fn pasetone_version() -> u32
-    ensures { λ r. ⌜ r ≡ 327680 ⌝ }
+    ensures { λ r. ⌜ r ≡ 393216 ⌝ }
 {
-    0x0005_0000
+    0x0006_0000
 }
 
 // The tuner: src/tuners/r82xx.rs.
@@ -235,6 +235,7 @@ pub extern "C" fn pasetone_set_ppm(tuner: &mut [u8], driver: &mut [u8], ppm: i32
 pub extern "C" fn pasetone_set_sample_rate(
     driver: &[u8],
     tuner: &[u8],
+    table: &[u8],
     rate: u32,
     outcomes: &[u8],
     room: &mut [u8],
@@ -242,9 +243,38 @@ pub extern "C" fn pasetone_set_sample_rate(
     next: &mut [u8],
 ) -> Reply
     ensures { λ r. ⌜ rates r (now (room .exit)) (now (left .exit)) (now (next .exit))
-        ≡ rateOver (now (outcomes .entry)) rate (now (driver .entry)) (now (tuner .entry)) (now (room .entry)) (now (left .entry)) (now (next .entry)) ⌝ }
+        ≡ rateOver (now (outcomes .entry)) rate (now (table .entry)) (now (driver .entry)) (now (tuner .entry)) (now (room .entry)) (now (left .entry)) (now (next .entry)) ⌝ }
 {
-    drivers::set_sample_rate(driver, tuner, rate, outcomes, room, left, next)
+    drivers::set_sample_rate(driver, tuner, table, rate, outcomes, room, left, next)
+}
+
+// The board-level tune: document 02, #113.
+#[no_mangle]
+pub extern "C" fn pasetone_tune_board(
+    driver: &[u8],
+    tuner: &[u8],
+    table: &[u8],
+    hz: u64,
+    outcomes: &[u8],
+    replies: &[u8],
+    room: &mut [u8],
+    left: &mut [u8],
+    next: &mut [u8],
+) -> TuneReply
+    ensures { λ r. ⌜ hops r (now (room .exit)) (now (left .exit)) (now (next .exit))
+        ≡ hopOver (now (table .entry)) hz (now (replies .entry)) (now (outcomes .entry)) (now (driver .entry)) (now (tuner .entry)) (now (room .entry)) (now (left .entry)) (now (next .entry)) ⌝ }
+{
+    drivers::tune_board(
+        driver,
+        tuner,
+        table,
+        hz,
+        outcomes,
+        replies,
+        room,
+        left,
+        next,
+    )
 }
 
 #[no_mangle]

@@ -5,6 +5,7 @@ ghost use lib.ListN.{length};
 use crate::compare;
 use crate::handed;
 use crate::layout;
+use boards::Hopped;
 use chip::Answer;
 use compare::Verdict;
 use driver::Driver;
@@ -43,7 +44,14 @@ fn rate(c: &[u8], t: Tuner, d: Driver, n: usize, space: &mut [u8]) -> Rated
     requires { ⌜ n ≤ length (now space) ⌝ }
 {
     let hz = layout::four(c, layout::A) as u32;
-    d.set_sample_rate(t, hz, layout::part(c, layout::OUTCOMES), &mut space[0..n])
+    let table = layout::part(c, layout::INPUT);
+    d.set_sample_rate(
+        t,
+        table,
+        hz,
+        layout::part(c, layout::OUTCOMES),
+        &mut space[0..n],
+    )
 }
 
 fn judged_both(
@@ -53,11 +61,12 @@ fn judged_both(
     tuner: Tuner,
     driver: Driver,
     room: &[u8],
+    answered: &[u8],
 ) -> Verdict {
     let told = handed::numbers(answer, count);
     let first = handed::next_tuner(told, tuner);
     let second = handed::next_driver(told, driver);
-    compare::agrees(c, told, room, &first, &second, &[])
+    compare::agrees(c, told, room, &first, &second, answered)
 }
 
 // The tuner's slice first, then the driver's, as the call takes them; the ppm where call 10 had it.
@@ -71,13 +80,13 @@ pub fn set_ppm(c: &[u8]) -> Verdict {
     let d = given.driver;
     let told = driver::corrected(t, d, ppm_of(c));
     let answer = told.answer;
-    judged_both(c, answer, 0, told.tuner, told.driver, &[])
+    judged_both(c, answer, 0, told.tuner, told.driver, &[], &[])
 }
 
 pub fn set_sample_rate(c: &[u8]) -> Verdict {
-    let mut space = [0xa5u8; 1024];
+    let mut space = [0xa5u8; 1088];
     let n = layout::two(c, layout::ROOM);
-    if 1024 < n {
+    if 1088 < n {
         return Verdict::Differ;
     }
     let read = records::decode_tuner(layout::part(c, layout::TUNER));
@@ -90,7 +99,54 @@ pub fn set_sample_rate(c: &[u8]) -> Verdict {
     let rated = rate(c, t, d, n, &mut space);
     let answer = rated.answer;
     let room = handed::room(&space, n);
-    judged_both(c, answer, rated.count, rated.tuner, rated.driver, room)
+    judged_both(c, answer, rated.count, rated.tuner, rated.driver, room, &[])
+}
+
+fn hop(c: &[u8], t: Tuner, d: Driver, n: usize, space: &mut [u8]) -> Hopped
+    requires { ⌜ n ≤ length (now space) ⌝ }
+{
+    let table = layout::part(c, layout::INPUT);
+    let outcomes = layout::part(c, layout::OUTCOMES);
+    let replies = layout::part(c, layout::REPLIES);
+    boards::tune_board(
+        d,
+        t,
+        table,
+        layout::eight(c, layout::A),
+        outcomes,
+        replies,
+        &mut space[0..n],
+    )
+}
+
+// The board-level tune (42), which tells its tries and whether it locked beside any answer, as a tuning does.
+pub fn tune_board(c: &[u8]) -> Verdict {
+    let mut space = [0xa5u8; 1088];
+    let n = layout::two(c, layout::ROOM);
+    if 1088 < n {
+        return Verdict::Differ;
+    }
+    let read = records::decode_tuner(layout::part(c, layout::TUNER));
+    let given = records::decode_driver(layout::part(c, layout::DRIVER));
+    let t = read.tuner;
+    let d = given.driver;
+    if !(read.ok & given.ok) {
+        let setup = Answer::Refused(chip::SETUP);
+        return judged_both(c, setup, 0, t, d, handed::room(&space, n), &[0, 0]);
+    }
+    let hopped = hop(c, t, d, n, &mut space);
+    let answer = hopped.answer;
+    let seen = [(hopped.tries % 256) as u8, hopped.locked as u8];
+    let room = handed::room(&space, n);
+    judged_both(
+        c,
+        answer,
+        hopped.count,
+        hopped.tuner,
+        hopped.driver,
+        room,
+        &seen,
+    )
 }
 
 fn take_path(c: &[u8], t: Tuner, n: usize, space: &mut [u8]) -> r82xx::Told
@@ -103,9 +159,9 @@ fn take_path(c: &[u8], t: Tuner, n: usize, space: &mut [u8]) -> r82xx::Told
 }
 
 pub fn apply_input_path(c: &[u8]) -> Verdict {
-    let mut space = [0xa5u8; 1024];
+    let mut space = [0xa5u8; 1088];
     let n = layout::two(c, layout::ROOM);
-    if 1024 < n {
+    if 1088 < n {
         return Verdict::Differ;
     }
     let read = records::decode_tuner(layout::part(c, layout::TUNER));

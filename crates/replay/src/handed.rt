@@ -53,12 +53,12 @@ pub fn next_driver(told: compare::Answer, driver: Driver) -> [u8; 29] {
 }
 
 // The room of a case: the array's length is in its type, so that its part needs no fact about what a call wrote there.
-pub fn room(space: &[u8; 1024], n: usize) -> &[u8] {
+pub fn room(space: &[u8; 1088], n: usize) -> &[u8] {
     layout::cut(space, 0, n)
 }
 
 // A call whose answer is bytes in a lent slice.
-pub fn answered(c: &[u8], answer: Answer, out: &[u8; 1024], n: usize) -> Verdict {
+pub fn answered(c: &[u8], answer: Answer, out: &[u8; 1088], n: usize) -> Verdict {
     compare::agrees(c, numbers(answer, 0), &[], &[], &[], room(out, n))
 }
 

@@ -9,10 +9,10 @@ use compare::Verdict;
 pub fn plan_tuning(c: &[u8]) -> Verdict {
     let number = layout::eight(c, layout::C);
     let n = layout::two(c, layout::ROOM);
-    if 1024 < n {
+    if 1088 < n {
         return Verdict::Differ;
     }
-    let mut out = [0xa5u8; 1024];
+    let mut out = [0xa5u8; 1088];
     let a = answers::plan_tuning(number, layout::eight(c, layout::A), &mut out[0..n]);
     handed::answered(c, a, &out, n)
 }
@@ -21,10 +21,10 @@ pub fn plan_pll(c: &[u8]) -> Verdict {
     let lo = layout::eight(c, layout::A);
     let reference = layout::eight(c, layout::B);
     let n = layout::two(c, layout::ROOM);
-    if 0xffff_ffff < reference || 1024 < n {
+    if 0xffff_ffff < reference || 1088 < n {
         return Verdict::Differ;
     }
-    let mut out = [0xa5u8; 1024];
+    let mut out = [0xa5u8; 1088];
     let kind = layout::eight(c, layout::C);
     let a = answers::plan_pll(kind, lo, reference as u32, &mut out[0..n]);
     handed::answered(c, a, &out, n)
@@ -34,10 +34,10 @@ pub fn plan_pll_by_worksheet(c: &[u8]) -> Verdict {
     let lo = layout::eight(c, layout::A);
     let reference = layout::eight(c, layout::B);
     let n = layout::two(c, layout::ROOM);
-    if 0xffff_ffff < reference || 1024 < n {
+    if 0xffff_ffff < reference || 1088 < n {
         return Verdict::Differ;
     }
-    let mut out = [0xa5u8; 1024];
+    let mut out = [0xa5u8; 1088];
     let kind = layout::eight(c, layout::C);
     let a = answers::plan_pll_by_worksheet(kind, lo, reference as u32, &mut out[0..n]);
     handed::answered(c, a, &out, n)
@@ -47,10 +47,10 @@ pub fn if_freq_regs(c: &[u8]) -> Verdict {
     let hz = layout::eight(c, layout::A);
     let xtal = layout::eight(c, layout::B);
     let n = layout::two(c, layout::ROOM);
-    if 0xffff_ffff < hz || 0xffff_ffff < xtal || 1024 < n {
+    if 0xffff_ffff < hz || 0xffff_ffff < xtal || 1088 < n {
         return Verdict::Differ;
     }
-    let mut out = [0xa5u8; 1024];
+    let mut out = [0xa5u8; 1088];
     let a = answers::if_freq_regs(hz as u32, xtal as u32, &mut out[0..n]);
     handed::answered(c, a, &out, n)
 }
@@ -59,10 +59,10 @@ pub fn resample_regs(c: &[u8]) -> Verdict {
     let rate = layout::eight(c, layout::A);
     let xtal = layout::eight(c, layout::B);
     let n = layout::two(c, layout::ROOM);
-    if 0xffff_ffff < rate || 0xffff_ffff < xtal || 1024 < n {
+    if 0xffff_ffff < rate || 0xffff_ffff < xtal || 1088 < n {
         return Verdict::Differ;
     }
-    let mut out = [0xa5u8; 1024];
+    let mut out = [0xa5u8; 1088];
     let a = answers::resample_regs(rate as u32, xtal as u32, &mut out[0..n]);
     handed::answered(c, a, &out, n)
 }

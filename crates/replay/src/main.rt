@@ -40,6 +40,7 @@ fn judge(c: &[u8]) -> Verdict {
         39 => leaves::plan_pll(c),
         40 => leaves::plan_pll_by_worksheet(c),
         41 => drivers::set_ppm(c),
+        42 => drivers::tune_board(c),
         _ => Verdict::Later,
     }
 }

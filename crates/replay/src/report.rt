@@ -59,6 +59,7 @@ fn other_name(call: u64) {
         39 => text(b"plan_pll"),
         40 => text(b"plan_pll_by_worksheet"),
         41 => text(b"set_ppm of both"),
+        42 => text(b"board-level tune"),
         _ => text(b"no such call"),
     }
 }
@@ -146,7 +147,7 @@ fn row(tally: &[u64; 192], call: usize)
 
 pub fn rows(tally: &[u64; 192]) {
     let mut call = 1;
-    while call < 42 {
+    while call < 43 {
         row(tally, call);
         call += 1;
     }

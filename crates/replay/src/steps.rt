@@ -51,9 +51,9 @@ fn ask(c: &[u8], n: usize, space: &mut [u8]) -> Handed
 }
 
 pub fn made(c: &[u8]) -> Verdict {
-    let mut space = [0xa5u8; 1024];
+    let mut space = [0xa5u8; 1088];
     let n = layout::two(c, layout::ROOM);
-    if 1024 < n {
+    if 1088 < n {
         return Verdict::Differ;
     }
     let back = ask(c, n, &mut space);

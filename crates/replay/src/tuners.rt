@@ -54,9 +54,9 @@ fn asked(c: &[u8], t: Tuner, n: usize, space: &mut [u8]) -> Told
 }
 
 pub fn changed(c: &[u8]) -> Verdict {
-    let mut space = [0xa5u8; 1024];
+    let mut space = [0xa5u8; 1088];
     let n = layout::two(c, layout::ROOM);
-    if 1024 < n {
+    if 1088 < n {
         return Verdict::Differ;
     }
     let read = records::decode_tuner(layout::part(c, layout::TUNER));
@@ -83,9 +83,9 @@ fn tune(c: &[u8], t: Tuner, n: usize, space: &mut [u8]) -> TuneTold
 
 // A tuning (3), which tells its tries and whether it locked beside any answer: the case has them as answered bytes.
 pub fn tuned(c: &[u8]) -> Verdict {
-    let mut space = [0xa5u8; 1024];
+    let mut space = [0xa5u8; 1088];
     let n = layout::two(c, layout::ROOM);
-    if 1024 < n {
+    if 1088 < n {
         return Verdict::Differ;
     }
     let read = records::decode_tuner(layout::part(c, layout::TUNER));
@@ -121,10 +121,10 @@ pub fn get_if_freq(c: &[u8]) -> Verdict {
 pub fn get_gain_table(c: &[u8]) -> Verdict {
     let read = records::decode_tuner(layout::part(c, layout::TUNER));
     let n = layout::two(c, layout::ROOM);
-    if 1024 < n {
+    if 1088 < n {
         return Verdict::Differ;
     }
-    let mut out = [0xa5u8; 1024];
+    let mut out = [0xa5u8; 1088];
     if !read.ok {
         return handed::answered(c, chip::Answer::Refused(chip::SETUP), &out, n);
     }

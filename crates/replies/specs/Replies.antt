@@ -14,7 +14,7 @@ use Rattle.replies.specs.declared.Parts.{Parts}
 use Rattle.replies.specs.declared.Reply.{Reply}
 use Rattle.replies.specs.declared.TuneReply.{TuneReply}
 
--- The count is told in 32 bits. No call makes more than 53 entries (crate sequences), so none is cut.
+-- The count is told in 32 bits. No call makes more than 64 entries (crate sequences), so none is cut.
 abbrev pub replyOf : Answer → ℕ → Reply
 replyOf a count =
     record { value = valueOf a; index = indexOf a; refusal = numberOf a; count = count % 4294967296 }

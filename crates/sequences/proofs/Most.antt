@@ -3,7 +3,7 @@
 use Prim.Native.Nat.{ℕ, _+_, _*_, _≤_}
 use mathlib.Core.Path.{_≡_, refl, sym, ap, subst, _∙_}
 use mathlib.Core.Bool.{Bool, true}
-use mathlib.Core.List.{List, [], _++_}
+use mathlib.Core.List.{List, [], _∷_, _++_}
 use native.Mathlib.Omega.{arith}
 use borrow.Author.Tests.{eq-eqb}
 use lib.Ieee.{binary32, ofBits}
@@ -40,7 +40,7 @@ use Rattle.driver.specs.Record.{driver, xtalBy}
 use Rattle.chip.specs.Courses.{Course, askedBy, leftBy, stepsOf}
 use Rattle.chip.specs.Courses.Course.{Still, Taken}
 use Rattle.sequences.specs.Calls.{Call, Order, asked, call, entries, most, rowOf, soundFor}
-use Rattle.sequences.specs.Calls.Order.{Tuned, SampleRate, BoardPath}
+use Rattle.sequences.specs.Calls.Order.{Tuned, SampleRate, BoardPath, BoardTune}
 use Rattle.sequences.specs.Asides.{Aside, Other, aside, asideAsked, asideEntries, asideMost, asideRow}
 use Rattle.sequences.specs.Asides.Other.{Pin, Demod}
 use Rattle.device.specs.Gpio.Order.{Output, Bit}
@@ -50,6 +50,8 @@ use Rattle.device.specs.Calls.{noChip}
 use Rattle.device.specs.Accesses.{accessStep}
 use Rattle.device.specs.Gpio.{bitSteps, outputSteps}
 use Rattle.fir.specs.Packing.{packOf}
+use Rattle.wire.specs.Bytes.{leValue}
+use Rattle.bands.specs.Tables.{ascending, bandOf, bandsIn, planAt, planBy, planIn, tableOk}
 use Rattle.demod.specs.Programs.{ddcSteps, firSteps, ifSteps, initSteps, modeSteps, powerSteps, rateSteps, resetSteps, upward}
 use Rattle.sequences.proofs.Views.{asked-steps, row-long}
 use Rattle.sequences.proofs.Ties.{entries-most, none-entries}
@@ -118,13 +120,21 @@ pub tune-reached : length (entries (lent (Tuned (Tune 100_000_000 (replicate 35 
 unfolding trace run step lentOf inVco firstOf settingOf turnOf turnsOf planWith pllOf innerSteps repairUpdates triesFrom reversed
 tune-reached = refl
 
-pub rate-reached : length (entries (lent (SampleRate 2_048_000 (driver Generic 28_800_000 (pos 0) 0 0 0))) fresh) ≡ most (SampleRate 2_048_000 (driver Generic 28_800_000 (pos 0) 0 0 0)) fresh
-unfolding trace run step lentOf accessStep xtalBy correctedOf holds rateNumber resetSteps rateSteps ifSteps ddcSteps
+pub rate-reached : length (entries (lent (SampleRate 2_048_000 [] (driver Generic 28_800_000 (pos 0) 0 0 0))) fresh) ≡ most (SampleRate 2_048_000 [] (driver Generic 28_800_000 (pos 0) 0 0 0)) fresh
+unfolding trace run step lentOf accessStep xtalBy correctedOf holds rateNumber resetSteps rateSteps ifSteps ddcSteps planBy tableOk ascending bandsIn planIn
 rate-reached = refl
 
 pub board-reached : length (entries (lent (BoardPath 0 (replicate 3 0))) fresh) ≡ most (BoardPath 0 (replicate 3 0)) fresh
 unfolding trace run step lentOf accessStep outputSteps bitSteps
 board-reached = refl
+
+-- #113: "of at most 64 entries and 38 replies": one band with a path for all frequencies; all replies are zero, and there are just the 38
+abbrev hop : Order
+hop = BoardTune 100_000_000 (replicate 8 0 ++ (replicate 8 255 ++ (replicate 8 0 ++ (0 ∷ 1 ∷ 0 ∷ [])))) (replicate 38 0) (driver Generic 28_800_000 (pos 0) 0 0 0)
+
+pub hop-reached : length (entries (lent hop) fresh) ≡ most hop fresh
+unfolding trace run step lentOf accessStep outputSteps bitSteps xtalBy correctedOf ddcSteps inVco firstOf settingOf turnOf turnsOf planWith pllOf innerSteps repairUpdates triesFrom reversed planBy tableOk ascending bandsIn bandOf planIn planAt leValue
+hop-reached = refl
 
 -- and of those that touch no record
 abbrev lentAside : Other → Aside

@@ -29,6 +29,10 @@ use Rattle.writes.specs.Lists.{bandwidthUpdates, ifUpdates, initArray, initUpda
 use Rattle.writes.specs.Programs.{initSteps, sendAll}
 use Rattle.writes.proofs.Lists.{bandwidth-in, if-in, init-in, path-in}
 use Rattle.device.specs.Gpio.{bitSteps, outputSteps}
+use Rattle.board.specs.declared.Plan as board-plan
+use Rattle.board.specs.declared.Route.{Route}
+use Rattle.board.specs.declared.Route.the-variants.{By, Direct}
+use Rattle.boards.specs.Hops.{ddcPart, hopSteps, pathPart, pathReplies}
 use Rattle.demod.specs.Programs.{ddcSteps, ifSteps, rateSteps, resetSteps}
 use Rattle.driver.specs.Programs.{anewSteps, boardPathSteps, filterSteps, levelFor, sampleRateSteps, tunerPath}
 use Rattle.driver.proofs.Lengths.{path-length-r820t, path-length-r828d}
@@ -164,6 +168,28 @@ fine-board kind path rs =
     (every-append fine (bitSteps 5 (levelFor path) (getD rs 2 0)) (tunerPath kind path)
     (fines (bitSteps 5 (levelFor path) (getD rs 2 0)) (beside-bit 5 (levelFor path) (getD rs 2 0))) (own-path kind path))
 
+-- ---- the board-level tune
+
+no-steps : every fine [] ≡ true
+unfolding every
+no-steps = refl
+
+fine-path-part : (kind : Kind) (route : Route) (rs : List ℕ) → every fine (pathPart kind route rs) ≡ true
+fine-path-part R820T route rs = no-steps
+fine-path-part R828D Direct rs = no-steps
+fine-path-part R828D (By path) rs = fine-board R828D path rs
+
+fine-ddc-part : (plan : Pll) (inverted : Bool) → every fine (ddcPart plan inverted) ≡ true
+fine-ddc-part Refused inverted = no-steps
+fine-ddc-part (Planned p) inverted = fines (ddcSteps inverted) (beside-ddc inverted)
+
+pub fine-hop : (address : ℕ) (rs : List ℕ) → address ≤ 255 → every isByte rs ≡ true → (kind : Kind) (p : board-plan.Plan) (plan : Pll) → every fine (hopSteps kind address p plan rs) ≡ true
+fine-hop address rs small bytes kind p plan =
+    let k : ℕ = pathReplies kind (p .path) in
+    every-append fine (pathPart kind (p .path) rs) (tuneSteps address kind (p .notch) plan (p .hz) (drop k rs) ++ ddcPart plan (p .inverted)) (fine-path-part kind (p .path) rs)
+    (every-append fine (tuneSteps address kind (p .notch) plan (p .hz) (drop k rs)) (ddcPart plan (p .inverted))
+    (fine-tune address (drop k rs) small (every-drop isByte k rs bytes) kind (p .notch) plan (p .hz)) (fine-ddc-part plan (p .inverted)))
+
 -- ---- how many steps
 
 again-length : (i : ℕ) → length (updates (again i)) ≤ 1 - i
@@ -211,3 +237,19 @@ path-length Uhf = refl
 pub board-length : (kind : Kind) (path : Path) (rs : List ℕ) → length (boardPathSteps kind path rs) ≤ 10
 board-length R820T path rs = omega (arith, path-length-r820t path rs)
 board-length R828D path rs = omega (arith, path-length-r828d path rs)
+
+path-part-length : (kind : Kind) (route : Route) (rs : List ℕ) → length (pathPart kind route rs) ≤ 10
+path-part-length R820T route rs = omega arith
+path-part-length R828D Direct rs = omega arith
+path-part-length R828D (By path) rs = board-length R828D path rs
+
+ddc-part-length : (plan : Pll) (inverted : Bool) → length (ddcPart plan inverted) ≤ 1
+unfolding ddcSteps
+ddc-part-length Refused inverted = omega arith
+ddc-part-length (Planned p) inverted = omega arith
+
+-- #113: "of at most 64 entries"
+pub hop-length : (kind : Kind) (address : ℕ) (p : board-plan.Plan) (plan : Pll) (rs : List ℕ) → length (hopSteps kind address p plan rs) ≤ 64
+hop-length kind address p plan rs =
+    let tail : List Step = tuneSteps address kind (p .notch) plan (p .hz) (drop (pathReplies kind (p .path)) rs) in
+    omega (arith, length-append (pathPart kind (p .path) rs) (tail ++ ddcPart plan (p .inverted)), length-append tail (ddcPart plan (p .inverted)), path-part-length kind (p .path) rs, tune-length address kind (p .notch) plan (p .hz) (drop (pathReplies kind (p .path)) rs), ddc-part-length plan (p .inverted))

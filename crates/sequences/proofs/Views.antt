@@ -12,7 +12,8 @@ use lib.ListN.{length, length-append, length-map}
 use Rattle.board.specs.declared.PathRead.{PathRead}
 use Rattle.board.specs.declared.PathRead.the-variants as path-read
 use Rattle.board.specs.Numbers.{pathOf}
-use Rattle.board.specs.Plans.{planOf}
+use Rattle.bands.specs.Tables.{planBy}
+use Rattle.boards.specs.Hops.{hopResult, hopRow}
 use Rattle.chip.specs.declared.Answer.{Answer}
 use Rattle.chip.specs.declared.Answer.the-variants.{Done, Refused}
 use Rattle.chip.specs.declared.Chip.{Chip}
@@ -48,9 +49,9 @@ use Rattle.history.specs.Histories.{stops}
 use Rattle.history.proofs.Calls.{lent-room}
 use Rattle.history.proofs.Fine.{fine-reload}
 use Rattle.sequences.specs.Calls.{Call, Order, asked, call, given, most, resultOf, rowOf, soundFor, tunerOf, tunerPart}
-use Rattle.sequences.specs.Calls.Order.{Tuned, SampleRate, Correction, BoardPath}
+use Rattle.sequences.specs.Calls.Order.{Tuned, SampleRate, Correction, BoardPath, BoardTune}
 use Rattle.writes.proofs.Lists.{bandwidth-in, gain-in, if-in, path-in, path-two}
-use Rattle.sequences.proofs.Programs.{board-length, fine-board, fine-bracket, fine-init, fine-rate, fine-tune, path-length, tune-length}
+use Rattle.sequences.proofs.Programs.{board-length, fine-board, fine-bracket, fine-hop, fine-init, fine-rate, fine-tune, hop-length, path-length, tune-length}
 
 pub record Stepping (R : Type 0) (c : Chip) (old : R) (x : Called R) (a : Asked) (os room : List ℕ) : Type 0 where
   pub whole : Answer
@@ -164,27 +165,28 @@ row-long (Tuned (Notch on)) t = omega arith
 row-long (Tuned GainTold) t = omega arith
 row-long (Tuned IfTold) t = omega arith
 row-long (Tuned TableTold) t = omega arith
-row-long (SampleRate rate d) t =
-    omega (arith, sample-rate-length (ifFor (t .ifreq) rate) rate (xtalOf d) (planOf (d .board) (d .frequency) .inverted))
+row-long (SampleRate rate table d) t =
+    omega (arith, sample-rate-length (ifFor (t .ifreq) rate) rate (xtalOf d) (planBy table (d .frequency) .plan .inverted))
 row-long (Correction ppm d) t = still-long (leb 1 (xtalBy (t .nominal) ppm) && leb 1 (xtalBy (d .nominal) ppm)) _ _ _ _
 row-long (BoardPath path rs) t = board-long (pathOf path) rs t
+row-long (BoardTune hz table rs d) t = hop-length (t .kind) (t .chip .address) (planBy table hz .plan) (planFor t (planBy table hz .plan .hz)) rs
 
-few-path : (p : PathRead) (kind : Kind) (t : Tuner) → mostOf (pathRow p kind t) ≤ 53
+few-path : (p : PathRead) (kind : Kind) (t : Tuner) → mostOf (pathRow p kind t) ≤ 64
 unfolding bracket
 few-path path-read.Refused kind t = omega arith
 few-path (path-read.Is path) R820T t = omega arith
 few-path (path-read.Is path) R828D t = omega arith
 
-few-board : (p : PathRead) (rs : List ℕ) (t : Tuner) → mostOf (boardRow p rs t) ≤ 53
+few-board : (p : PathRead) (rs : List ℕ) (t : Tuner) → mostOf (boardRow p rs t) ≤ 64
 few-board path-read.Refused rs t = omega arith
 few-board (path-read.Is path) rs t = omega arith
 
-few-still : (b : Bool) (u v : Both) (x y : Answer) → mostOf (tunerPart (cond b (Still u x) (Still v y))) ≤ 53
+few-still : (b : Bool) (u v : Both) (x y : Answer) → mostOf (tunerPart (cond b (Still u x) (Still v y))) ≤ 64
 few-still true u v x y = omega arith
 few-still false u v x y = omega arith
 
--- 53 is the most of all
-pub row-few : (o : Order) (t : Tuner) → most o t ≤ 53
+-- 64 is the most of all
+pub row-few : (o : Order) (t : Tuner) → most o t ≤ 64
 unfolding bracket gainRow
 row-few (Tuned Initialize) t = omega arith
 row-few (Tuned Reload) t = omega arith
@@ -198,9 +200,10 @@ row-few (Tuned (Notch on)) t = omega arith
 row-few (Tuned GainTold) t = omega arith
 row-few (Tuned IfTold) t = omega arith
 row-few (Tuned TableTold) t = omega arith
-row-few (SampleRate rate d) t = omega arith
+row-few (SampleRate rate table d) t = omega arith
 row-few (Correction ppm d) t = few-still (leb 1 (xtalBy (t .nominal) ppm) && leb 1 (xtalBy (d .nominal) ppm)) _ _ _ _
 row-few (BoardPath path rs) t = few-board (pathOf path) rs t
+row-few (BoardTune hz table rs d) t = omega arith
 
 module _ (t : Tuner) where
   bracket-proper : (n : ℕ) (us : List Update) (answer : Answer) (cut whole : Tuner) → stops answer ≡ false → allIn us ≡ true → Proper t (bracket n us answer cut whole)
@@ -244,10 +247,13 @@ module _ (t : Tuner) where
   proper (Tuned GainTold) g small = resting t _ refl refl
   proper (Tuned IfTold) g small = resting t _ refl refl
   proper (Tuned TableTold) g small = resting t (Done 0) refl refl
-  proper (SampleRate rate d) g small =
-      stepping _ 17 0 [] (Done 0) _ _ refl (fine-rate (ifFor (t .ifreq) rate) rate (xtalOf d) (planOf (d .board) (d .frequency) .inverted)) (λ tr. refl)
+  proper (SampleRate rate table d) g small =
+      stepping _ 17 0 [] (Done 0) _ _ refl (fine-rate (ifFor (t .ifreq) rate) rate (xtalOf d) (planBy table (d .frequency) .plan .inverted)) (λ tr. refl)
   proper (Correction ppm d) g small = correction-proper (leb 1 (xtalBy (t .nominal) ppm) && leb 1 (xtalBy (d .nominal) ppm)) (xtalBy (t .nominal) ppm) ppm d
   proper (BoardPath path rs) g small = board-proper (pathOf path) rs
+  proper (BoardTune hz table rs d) g small =
+      stepping _ 64 38 rs (wholeOf (planFor t (planBy table hz .plan .hz)) hz) _ _ (unstopped (planFor t (planBy table hz .plan .hz)) hz)
+      (fine-hop (t .chip .address) rs small g (t .kind) (planBy table hz .plan) (planFor t (planBy table hz .plan .hz))) (λ tr. refl)
 
 -- ---- every call
 
@@ -275,11 +281,13 @@ module _ (t : Tuner) (os room : List ℕ) where
 
   -- what a contract's definition leaves is what its row leaves
   pub result-row : (o : Order) → resultOf o os room t ≡ leftBy (soundFor o t) (rowOf o t) os (t .chip) t room
-  unfolding tuner.resultOf rateResult correctionResult boardResult leftBy
+  unfolding tuner.resultOf rateResult correctionResult boardResult hopResult leftBy
   result-row (Tuned o) = refl
-  result-row (SampleRate rate d) = tuner-part (asked (call (SampleRate rate d) os room) t .number) (Done 0) (stepsOf (rateRow rate t d)) _ d
+  result-row (SampleRate rate table d) = tuner-part (asked (call (SampleRate rate table d) os room) t .number) (Done 0) (stepsOf (rateRow rate (planBy table (d .frequency)) t d)) _ d
   result-row (Correction ppm d) = still-part (sound t && soundDriver d) (leb 1 (xtalBy (t .nominal) ppm) && leb 1 (xtalBy (d .nominal) ppm)) _ _ _ _ d
   result-row (BoardPath path rs) = refl
+  result-row (BoardTune hz table rs d) =
+      tuner-part (asked (call (BoardTune hz table rs d) os room) t .number) (wholeOf (planFor t (planBy table hz .plan .hz)) hz) (stepsOf (hopRow (planBy table hz) hz rs t d)) _ d
 
   pub view : (o : Order) → given o t ≡ true → t .chip .address ≤ 255 → View t (resultOf o os room t) (asked (call o os room) t) os room
   view o g small =

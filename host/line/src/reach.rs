@@ -74,7 +74,8 @@ fn joined(mut found: Vec<Stretch>) -> Vec<Stretch> {
 
 /// The rates that are taken with a driver's reference, ascending. The ratio falls as the rate grows; what is held changes at 2^29, 3 * 2^27, 2^27 and 4.
 pub fn rates(tuner: &Tuner, driver: &Driver) -> Vec<Stretch> {
-    let is_taken = |rate: u64| driver.clone().set_sample_rate(&mut tuner.clone(), rate as u32, &Script::all_done()).result.is_ok();
+    let table = driver.board().table();
+    let is_taken = |rate: u64| driver.clone().set_sample_rate(&mut tuner.clone(), &table, rate as u32, &Script::all_done()).result.is_ok();
     let (reference, past) = (u64::from(driver.corrected_xtal_hz()), u64::from(u32::MAX) + 1);
     let borders =
         [1, reference / 128 + 1, reference / 96 + 1, reference / 32 + 1, (reference << 20) + 1, past].map(|border| border.min(past));

@@ -126,7 +126,8 @@ impl Run {
             self.stepped(Call::Initialise, answer)?;
         }
         if let Some(rate) = asked.rate {
-            let answer = driver.set_sample_rate(tuner, rate, &self.script());
+            let table = driver.board().table();
+            let answer = driver.set_sample_rate(tuner, &table, rate, &self.script());
             self.stepped(Call::SampleRate, answer)?;
         }
         if let Some(gain) = asked.gain {
@@ -155,7 +156,7 @@ impl Run {
         ended
     }
 
-    /// What is left of the script for the next call: no call needs more than a tuning.
+    /// What is left of the script for the next call: no call needs more than `Script` has.
     fn script(&self) -> Script {
         let left = |bytes: &[u8], from: usize, most: usize| bytes.iter().skip(from).take(most).copied().collect::<Vec<u8>>();
         Script::new(left(&self.outcomes, self.steps, Script::OUTCOMES), left(&self.replies, self.taken, Script::REPLIES))

@@ -50,7 +50,7 @@ fn main() -> Result<(), Error> {
     println!("V4: done, 0 entries");
     print_answer("initialise", &tuner.initialize(&done));
     print_doubtful(&tuner);
-    print_answer("sample rate 2048000", &driver.set_sample_rate(&mut tuner, 2_048_000, &done));
+    print_answer("sample rate 2048000", &driver.set_sample_rate(&mut tuner, &Board::V4.table(), 2_048_000, &done));
     print_answer("gain 29.7 dB", &tuner.set_gain(29.7, &done));
     println!("gain set: {:.1} dB", tuner.gain());
     // The write of register 0x14 fails. The tuner is updated all the same: the steps taken stand.

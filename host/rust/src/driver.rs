@@ -1,4 +1,4 @@
-use crate::{Answer, Error, InputPath, Need, Script, Tuner, in_room, raw};
+use crate::{Answer, Error, InputPath, Lock, Need, Script, Table, TuneAnswer, Tuner, in_room, raw};
 use core::fmt;
 
 /// The board that the tuner is on.
@@ -110,7 +110,8 @@ impl Driver {
     }
 
     /// The sample rate, on tuner and demodulator: 17 outcomes. Updates both records whenever it took steps: the tuner's IF changes before the
-    /// first, the driver's rate and true rate when all are done. An IF of 0 stays 0. The spectrum follows the board's plan for the driver's frequency.
+    /// first, the driver's rate and true rate when all are done. An IF of 0 stays 0. The spectrum follows the table's plan for the driver's frequency, and is
+    /// not inverted where the table has none; [`Board::table`] is that of a built-in board.
     ///
     /// # Errors
     ///
@@ -118,13 +119,13 @@ impl Driver {
     /// - [`Error::Ratio`] (13): the resampler cannot hold it with the corrected reference. At 28,800,000 Hz it holds 225,001 to 300,000, and 900,001 up.
     /// - [`Error::Outcomes`] (9): fewer than 17 outcomes.
     /// - [`Error::Step`] (11): a step failed, and the steps before it stand.
-    pub fn set_sample_rate(&mut self, tuner: &mut Tuner, rate: u32, script: &Script) -> Answer<()> {
+    pub fn set_sample_rate(&mut self, tuner: &mut Tuner, table: &Table, rate: u32, script: &Script) -> Answer<()> {
         let (mut next_driver, mut next_tuner) = (self.record, *tuner.as_bytes());
-        let (d, t, o) = (&self.record, tuner.as_bytes(), script.outcomes());
+        let (d, t, b, o) = (&self.record, tuner.as_bytes(), table.as_bytes(), script.outcomes());
         // SAFETY: see raw.rs.
         let (reply, transcript) = in_room(Need::SAMPLE_RATE.outcomes, |room| unsafe {
             #[rustfmt::skip]
-            let reply = raw::pasetone_set_sample_rate(d.as_ptr(), d.len(), t.as_ptr(), t.len(), rate, o.as_ptr(), o.len(),
+            let reply = raw::pasetone_set_sample_rate(d.as_ptr(), d.len(), t.as_ptr(), t.len(), b.as_ptr(), b.len(), rate, o.as_ptr(), o.len(),
                 room.as_mut_ptr(), room.len(), next_driver.as_mut_ptr(), next_driver.len(), next_tuner.as_mut_ptr(), next_tuner.len());
             reply
         });
@@ -133,6 +134,50 @@ impl Driver {
             tuner.replace(next_tuner);
         }
         Answer::of(reply, transcript, drop)
+    }
+
+    /// Tunes the board of a table to `hz`: notch, board input (on an R828D, where the band has a path), tuner, spectrum, in that order; 64 outcomes, 38
+    /// replies. The value is the Hz asked. Updates both records whenever it took steps: the notch is in the tuner's before the first, the driver's
+    /// frequency becomes `hz` when it is done.
+    ///
+    /// ```
+    /// use pasetone::{Board, Driver, Script, Tuner, TunerKind};
+    ///
+    /// let mut tuner = Tuner::new(TunerKind::R828d, 0x74, 28_800_000)?;
+    /// let mut driver = Driver::new(Board::V4, 28_800_000, 0, 0, 0)?;
+    /// let answer = driver.tune_board(&mut tuner, &Board::V4.table(), 7_000_000, &Script::all_done());
+    /// assert_eq!((answer.result, answer.transcript.len()), (Ok(7_000_000), 64));
+    /// assert_eq!(driver.frequency(), 7_000_000);
+    /// # Ok::<(), pasetone::Error>(())
+    /// ```
+    ///
+    /// # Errors
+    ///
+    /// - [`Error::Frequency`] (2): no band holds `hz`, or it is shifted out of 64 bits or to 0, or its sum with the IF is over 64 bits, and nothing has
+    ///   changed; or the PLL has no divider or N for it, when the steps before it are taken and stand.
+    /// - [`Error::Outcomes`] (9): fewer than 64 outcomes.
+    /// - [`Error::Replies`] (10): fewer than 38 replies.
+    /// - [`Error::Step`] (11): a step failed, and the steps before it stand. The tries are those up to it.
+    pub fn tune_board(&mut self, tuner: &mut Tuner, table: &Table, hz: u64, script: &Script) -> TuneAnswer {
+        let (mut next_driver, mut next_tuner) = (self.record, *tuner.as_bytes());
+        let (d, t, b, o, p) = (&self.record, tuner.as_bytes(), table.as_bytes(), script.outcomes(), script.replies());
+        let mut lock = Lock::default();
+        let (reply, transcript) = in_room(Need::TUNE_BOARD.outcomes, |room| {
+            // SAFETY: see raw.rs.
+            #[rustfmt::skip]
+            let told = unsafe {
+                raw::pasetone_tune_board(d.as_ptr(), d.len(), t.as_ptr(), t.len(), b.as_ptr(), b.len(), hz, o.as_ptr(), o.len(), p.as_ptr(), p.len(),
+                    room.as_mut_ptr(), room.len(), next_driver.as_mut_ptr(), next_driver.len(), next_tuner.as_mut_ptr(), next_tuner.len())
+            };
+            lock = Lock { tries: told.tries, locked: told.locked != 0 };
+            told.reply()
+        });
+        if reply.stands() {
+            self.record = next_driver;
+            tuner.replace(next_tuner);
+        }
+        let Answer { result, transcript } = Answer::of(reply, transcript, |hz| hz);
+        TuneAnswer { result, transcript, lock }
     }
 
     /// The board.
@@ -150,7 +195,7 @@ impl Driver {
         self.number(5) as i32
     }
 
-    /// The frequency given at its making, in Hz.
+    /// The frequency given at its making, or by the last [`Driver::tune_board`] that was done, in Hz.
     pub fn frequency(&self) -> u64 {
         self.wide(9)
     }

@@ -114,7 +114,7 @@ pub struct Answer<T> {
     pub transcript: Transcript,
 }
 
-/// What [`Tuner::set_frequency`] hands back: an [`Answer`], and how the waiting for a lock went.
+/// What [`Tuner::set_frequency`] and [`Driver::tune_board`] hand back: an [`Answer`], and how the waiting for a lock went.
 #[derive(Clone, Debug, PartialEq)]
 #[must_use = "a call may be refused"]
 pub struct TuneAnswer {

@@ -25,8 +25,10 @@ impl Need {
 
     /// [`Tuner::initialize`](crate::Tuner::initialize).
     pub const INITIALIZE: Need = Need::of(19, 0);
-    /// [`Tuner::set_frequency`](crate::Tuner::set_frequency): no call needs more.
+    /// [`Tuner::set_frequency`](crate::Tuner::set_frequency).
     pub const TUNE: Need = Need::of(53, 35);
+    /// [`Driver::tune_board`](crate::Driver::tune_board): no call needs more.
+    pub const TUNE_BOARD: Need = Need::of(64, 38);
     /// [`Tuner::set_gain`](crate::Tuner::set_gain) and [`Tuner::set_gain_by_index`](crate::Tuner::set_gain_by_index).
     pub const GAIN: Need = Need::of(7, 0);
     /// [`Tuner::set_bandwidth`](crate::Tuner::set_bandwidth).

@@ -5,7 +5,7 @@ use alloc::vec::Vec;
 /// How the steps of a call are to end, and what its reads are to give.
 ///
 /// A script must be as long as its call's longest run needs, also where a run is shorter: at most [`Script::OUTCOMES`] outcomes and
-/// [`Script::REPLIES`] replies, which is what a tuning needs; [`Need`] has the numbers of each call. Longer than needed is fine, so one script serves for all calls.
+/// [`Script::REPLIES`] replies, which is what [`Driver::tune_board`](crate::Driver::tune_board) needs; [`Need`] has the numbers of each call. Longer than needed is fine, so one script serves for all calls.
 #[derive(Clone, Debug, PartialEq, Eq)]
 pub struct Script {
     outcomes: Vec<u8>,
@@ -14,9 +14,9 @@ pub struct Script {
 
 impl Script {
     /// Outcomes enough for every call.
-    pub const OUTCOMES: usize = Need::TUNE.outcomes;
+    pub const OUTCOMES: usize = Need::TUNE_BOARD.outcomes;
     /// Replies enough for every call.
-    pub const REPLIES: usize = Need::TUNE.replies;
+    pub const REPLIES: usize = Need::TUNE_BOARD.replies;
 
     /// Every step done, every reply 0: long enough for every call.
     pub fn all_done() -> Script {

@@ -11,9 +11,9 @@ fn done() -> Script {
 
 #[test]
 fn script_with_a_failing_step() {
-    let script = done().failing(52).unwrap();
-    assert_eq!((script.outcomes()[51], script.outcomes()[52], script.outcomes().len()), (0, 1, Script::OUTCOMES));
-    assert_eq!(done().failing(53), Err(Error::Outcomes));
+    let script = done().failing(63).unwrap();
+    assert_eq!((script.outcomes()[62], script.outcomes()[63], script.outcomes().len()), (0, 1, Script::OUTCOMES));
+    assert_eq!(done().failing(64), Err(Error::Outcomes));
     assert_eq!(done().failing(usize::MAX), Err(Error::Outcomes));
     assert_eq!(Script::new([], []).failing(0), Err(Error::Outcomes));
     assert_eq!(Script::new([0; 9], []).failing(8).unwrap().outcomes(), [0, 0, 0, 0, 0, 0, 0, 0, 1]);
@@ -24,9 +24,9 @@ fn script_with_a_failing_step() {
 
 #[test]
 fn script_with_a_reply() {
-    let script = done().replying(34, 0x5a).unwrap();
-    assert_eq!((script.replies()[34], script.replies().len()), (0x5a, Script::REPLIES));
-    assert_eq!(done().replying(35, 0), Err(Error::Replies));
+    let script = done().replying(37, 0x5a).unwrap();
+    assert_eq!((script.replies()[37], script.replies().len()), (0x5a, Script::REPLIES));
+    assert_eq!(done().replying(38, 0), Err(Error::Replies));
     assert_eq!(Script::new([], []).replying(0, 0), Err(Error::Replies));
     let answer = gpio::set_bit(0, true, &done().replying(0, 0x80).unwrap());
     assert_eq!(answer.transcript.get(1).unwrap().bytes, [0x81]);
@@ -55,7 +55,8 @@ fn needs_are_the_librarys() {
     needs(Need::BOARD_PATH, |script| r828d().apply_input_path(InputPath::Uhf, script));
     needs(Need::RELOAD, |script| r828d().reload(script));
     let driver = || Driver::new(Board::V4, 28_800_000, 0, 0, 0).unwrap();
-    needs(Need::SAMPLE_RATE, |script| driver().set_sample_rate(&mut r828d(), 2_048_000, script));
+    needs(Need::SAMPLE_RATE, |script| driver().set_sample_rate(&mut r828d(), &Board::V4.table(), 2_048_000, script));
+    needs(Need::TUNE_BOARD, |script| driver().tune_board(&mut r828d(), &Board::V4.table(), 7_000_000, script).into());
     needs(Need::BASEBAND, demod::init_baseband);
     needs(Need::BASEBAND, demod::power_on);
     for call in [demod::reset_demod, demod::set_tuner_low_if, demod::set_tuner_zero_if, demod::start_streaming, demod::stop_streaming] {
@@ -185,7 +186,7 @@ fn as_printed(stored: &str, failing: Option<usize>) {
         tuner.apply_notch(call == 4);
         let (failed, transcript) = match call {
             0 => told(tuner.initialize(&script)),
-            1 => told(driver.set_sample_rate(&mut tuner, 2_048_000, &script)),
+            1 => told(driver.set_sample_rate(&mut tuner, &Board::V4.table(), 2_048_000, &script)),
             2 => told(tuner.set_gain(29.7, &script)),
             3 => told(tuner.apply_input_path(InputPath::Vhf, &script)),
             _ => told(tuner.set_frequency(102_300_000, &script).into()),

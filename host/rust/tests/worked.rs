@@ -1,6 +1,6 @@
 //! Document 01's worked numbers, and what a call leaves where it is refused.
 use pasetone::{
-    Band, Board, Driver, EntryKind, Error, InputPath, Lock, PllPlan, Script, Table, Transcript, Tuner, TunerKind, Whose, demod, gpio,
+    Band, Board, Driver, EntryKind, Error, InputPath, Lock, Need, PllPlan, Script, Table, Transcript, Tuner, TunerKind, Whose, demod, gpio,
     if_freq_regs, pack_fir, parting, resample_regs, unpack_fir,
 };
 
@@ -206,20 +206,21 @@ fn the_shadow_follows_every_write() {
 fn driver() {
     let mut tuner = r828d();
     let mut driver = Driver::new(Board::V4, 28_800_000, 0, 102_300_000, 2_048_000).unwrap();
-    assert_eq!(driver.set_sample_rate(&mut tuner, 3_200_000, &done()).transcript.len(), 17);
+    let v4 = Board::V4.table();
+    assert_eq!(driver.set_sample_rate(&mut tuner, &v4, 3_200_000, &done()).transcript.len(), 17);
     assert_eq!((tuner.if_freq(), driver.rate(), driver.true_rate()), (3_570_000, 3_200_000, 3_200_000));
-    let answer = driver.set_sample_rate(&mut tuner, 2_048_000, &done().failing(0).unwrap());
+    let answer = driver.set_sample_rate(&mut tuner, &v4, 2_048_000, &done().failing(0).unwrap());
     assert_eq!(answer.result, Err(Error::Step { index: 0 }));
     assert_eq!((tuner.if_freq(), driver.rate()), (2_300_000, 3_200_000));
-    assert_eq!(driver.set_sample_rate(&mut tuner, 0, &done()).result, Err(Error::Rate));
+    assert_eq!(driver.set_sample_rate(&mut tuner, &v4, 0, &done()).result, Err(Error::Rate));
     let before = (tuner.clone(), driver.clone());
-    assert_eq!(driver.set_sample_rate(&mut tuner, 900_000, &done()).result, Err(Error::Ratio));
+    assert_eq!(driver.set_sample_rate(&mut tuner, &v4, 900_000, &done()).result, Err(Error::Ratio));
     assert_eq!((tuner.as_bytes(), driver.as_bytes()), (before.0.as_bytes(), before.1.as_bytes()));
     for (rate, actual) in [(5_497_288, 5_497_288), (5_497_289, 5_497_290), (u32::MAX, 4_295_120_011)] {
-        driver.set_sample_rate(&mut tuner, rate, &done()).result.unwrap();
+        driver.set_sample_rate(&mut tuner, &v4, rate, &done()).result.unwrap();
         assert_eq!((driver.rate(), driver.true_rate()), (rate, actual));
     }
-    driver.set_sample_rate(&mut tuner, 2_048_000, &done().failing(16).unwrap()).result.unwrap_err();
+    driver.set_sample_rate(&mut tuner, &v4, 2_048_000, &done().failing(16).unwrap()).result.unwrap_err();
     assert_eq!((driver.rate(), driver.true_rate()), (u32::MAX, 4_295_120_011));
     assert_eq!(Driver::new(Board::Generic, 28_800_000, -1_000_000, 0, 0), Err(Error::Correction));
 }
@@ -229,7 +230,7 @@ fn driver() {
 fn correction_of_both() {
     let mut tuner = r828d();
     let mut driver = Driver::new(Board::V4, 16_000_000, 0, 102_300_000, 2_048_000).unwrap();
-    driver.set_sample_rate(&mut tuner, 3_200_000, &done()).result.unwrap();
+    driver.set_sample_rate(&mut tuner, &Board::V4.table(), 3_200_000, &done()).result.unwrap();
     let fields = |tuner: &Tuner, driver: &Driver| (tuner.corrected(), driver.ppm(), driver.corrected_xtal_hz());
     assert_eq!(driver.set_ppm(&mut tuner, -1), Ok(()));
     assert_eq!(fields(&tuner, &driver), (28_799_972, -1, 15_999_984));
@@ -253,6 +254,73 @@ fn correction_of_both() {
     let mut driver = Driver::new(Board::V4, 28_800_000, 0, 0, 0).unwrap();
     driver.set_ppm(&mut tuner, 37).unwrap();
     assert_eq!(tuner.corrected(), driver.corrected_xtal_hz());
+}
+
+/// The byte of the last entry, where it is the write that turns the spectrum.
+fn spectrum(transcript: &Transcript) -> u8 {
+    let last = transcript.iter().last().unwrap();
+    assert_eq!((last.target, last.address, last.bytes.len()), (1, 0x15, 1));
+    last.bytes[0]
+}
+
+#[test]
+fn spectrum_by_a_table() {
+    let band = |first, last, inverted| Band { first, last, shift: 0, inverted, path: None, notch: false };
+    let table = Table::new(&[band(10, 20, false), band(30, 40, true), Band { shift: i64::MIN, ..band(50, 60, true) }]).unwrap();
+    // A gap, both bands, shifted out: the board of the record plans nothing.
+    for (hz, byte) in [(9, 1), (15, 1), (25, 1), (30, 5), (40, 5), (41, 1), (55, 1)] {
+        for board in [Board::Generic, Board::V4] {
+            let mut driver = Driver::new(board, 28_800_000, 0, hz, 0).unwrap();
+            let answer = driver.set_sample_rate(&mut r828d(), &table, 2_048_000, &done());
+            assert_eq!(spectrum(&answer.transcript), byte);
+        }
+    }
+}
+
+#[test]
+fn board_tunes() {
+    let (mut tuner, v4) = (r828d(), Board::V4.table());
+    let mut driver = Driver::new(Board::Generic, 28_800_000, 0, 0, 2_048_000).unwrap();
+    let kept = (tuner.clone(), driver.clone());
+    // The longest run: 10 entries of the board's input, 53 of the tuning, the byte; the notch stays, and so does the rate.
+    let answer = driver.tune_board(&mut tuner, &v4, 2_200_000, &done());
+    assert_eq!((answer.result, answer.transcript.len()), (Ok(2_200_000), Need::TUNE_BOARD.outcomes));
+    assert_eq!(answer.lock, Lock { tries: 10, locked: false });
+    assert_eq!(spectrum(&answer.transcript), 0x05);
+    assert_eq!((driver.frequency(), driver.rate(), tuner.notch()), (2_200_000, 2_048_000, true));
+    // The parts are those of the calls.
+    let mut parts = kept.0.clone();
+    let path = parts.apply_input_path(InputPath::Hf, &done());
+    parts.apply_notch(true);
+    let tuned = parts.set_frequency(31_000_000, &done());
+    let entries = [path.transcript, tuned.transcript].map(|part| part.bytes()[..16 * part.len()].to_vec()).concat();
+    assert_eq!(answer.transcript.bytes()[..16 * 63], entries);
+    assert_eq!(tuner.as_bytes(), parts.as_bytes());
+    // An R820T takes no board input, and its replies begin with the tuning's.
+    let mut r820t = Tuner::new(TunerKind::R820t, 0x34, 28_800_000).unwrap();
+    let lock = done().replying(7, 0x02).unwrap();
+    let answer = driver.tune_board(&mut r820t, &v4, 100_000_000, &lock);
+    assert_eq!((answer.lock, spectrum(&answer.transcript)), (Lock { tries: 1, locked: true }, 0x01));
+    // Cut, and refused in the PLL: the notch is stored, the frequency is not.
+    let (mut tuner, mut driver) = kept.clone();
+    let cut = driver.tune_board(&mut tuner, &v4, 100_000_000, &done().failing(0).unwrap());
+    assert_eq!((cut.result, cut.transcript.len(), tuner.notch()), (Err(Error::Step { index: 0 }), 1, true));
+    assert_eq!(driver, kept.1);
+    let late = driver.tune_board(&mut tuner, &v4, 1_900_000_000, &done());
+    assert_eq!((late.result, late.transcript.len(), tuner.notch()), (Err(Error::Frequency), 23, false));
+    assert_eq!(driver, kept.1);
+    // A closing that fails does not keep it from being done.
+    let closing = driver.tune_board(&mut tuner, &v4, 7_000_000, &done().failing(62).unwrap());
+    assert_eq!((closing.result, driver.frequency()), (Ok(7_000_000), 7_000_000));
+    // Refused before any step.
+    let (mut tuner, mut driver) = kept.clone();
+    let none = Table::new(&[]).unwrap();
+    let down = Table::new(&[Band { first: 5, last: 9, shift: -5, inverted: false, path: None, notch: true }]).unwrap();
+    for (table, hz) in [(&none, 100_000_000), (&down, 5), (&down, 10)] {
+        let answer = driver.tune_board(&mut tuner, table, hz, &Script::new([], []));
+        assert_eq!((answer.result, answer.transcript.len()), (Err(Error::Frequency), 0));
+    }
+    assert_eq!((tuner.as_bytes(), driver.as_bytes()), (kept.0.as_bytes(), kept.1.as_bytes()));
 }
 
 #[test]
@@ -409,7 +477,7 @@ fn errors_have_numbers_and_words() {
     assert_eq!((Error::Coefficient.number(), Error::Coefficient.word()), (7, "coefficient"));
     assert_eq!((Error::Ratio.number(), Error::Ratio.word()), (13, "ratio"));
     assert_eq!(Transcript::read(&[]).map(|_| ()).unwrap_err().number(), 12);
-    assert_eq!(pasetone::version(), (5, 0, 0));
+    assert_eq!(pasetone::version(), (6, 0, 0));
     assert_eq!((Error::Expansion.number(), Error::Expansion.word()), (15, "expansion"));
 }
 

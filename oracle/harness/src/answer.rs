@@ -12,10 +12,10 @@ use rusb::rec::Entry;
 use std::sync::Arc;
 
 pub fn takes_tuner(call: u8) -> bool {
-    matches!(call, 2..=11 | 13..=15 | 19 | 20 | 41)
+    matches!(call, 2..=11 | 13..=15 | 19 | 20 | 41 | 42)
 }
 pub fn takes_driver(call: u8) -> bool {
-    matches!(call, 18 | 19 | 41)
+    matches!(call, 18 | 19 | 41 | 42)
 }
 
 /// The records of a case, taken apart; a call that takes none has a stand-in that is not looked at.
@@ -157,7 +157,7 @@ fn steps_on_tuner(case: &Case, tuner: &Tuner) -> Answer {
 }
 
 /// From here on lo·64 is past 64 bits.
-const LARGE: u64 = 1 << 58;
+pub const LARGE: u64 = 1 << 58;
 /// Below this the distance to the largest step is past 31 bits.
 const LEAST: i32 = 496 - i32::MAX;
 

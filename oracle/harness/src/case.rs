@@ -68,7 +68,7 @@ pub fn bytes(case: &Case, answer: &Answer) -> Vec<u8> {
     all.extend(case.e.to_le_bytes());
     all.extend(answer.value.to_le_bytes());
     let seen = [u8::try_from(answer.tries).expect("at most ten"), answer.locked as u8];
-    let answered: &[u8] = if case.call == 3 { &seen } else { &answer.answered };
+    let answered: &[u8] = if matches!(case.call, 3 | 42) { &seen } else { &answer.answered };
     let lengths = [answer.index, answer.count, case.room, case.outcomes.len(), case.replies.len()];
     let others = [case.tuner.len(), case.driver.len(), case.input.len(), answered.len()];
     for length in lengths.into_iter().chain(others) {

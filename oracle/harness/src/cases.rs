@@ -2,6 +2,7 @@
 //! refusals in their order, damaged records, and random ones. Inputs only; answer.rs answers them.
 
 mod correction;
+pub mod boards;
 mod lists;
 mod refused;
 mod rest;
@@ -14,6 +15,7 @@ use crate::dice::Dice;
 use crate::page;
 use crate::records::{Driver, Tuner};
 use crate::requests;
+use crate::tables;
 
 pub use lists::{fir, sections};
 
@@ -23,7 +25,7 @@ const TUNED: u64 = 100 * MHZ;
 
 /// A case that is well lent and all done, on fresh records.
 pub fn plain(call: u8) -> Case {
-    let (entries, replies) = page::most(call).unwrap_or((0, 0));
+    let (entries, replies) = requests::most(call).unwrap_or((0, 0));
     let room = if entries > 0 { 16 * entries + 8 } else { requests::answered(call).unwrap_or(0) };
     let mut case = Case { call, room, outcomes: vec![0; entries], replies: vec![0; replies], ..Case::default() };
     if takes_tuner(call) {
@@ -45,16 +47,25 @@ pub fn plain(call: u8) -> Case {
         7 => case.a = 3_570_000,
         10 | 41 => case.d = 37,
         16 => (case.a, case.b, case.c, case.d, case.e) = (28_800_000, TUNED, 1, (-7i32) as u32, 2_048_000),
-        19 => case.a = 2_048_000,
+        19 => (case.a, case.input) = (2_048_000, built_in(1)),
         26 => (case.a, case.b, case.c) = (1, 0x15, 0x05),
         27 | 34 => (case.a, case.b) = (3_570_000, 28_800_000),
         28 | 35 => (case.a, case.b) = (2_048_000, 28_800_000),
         31 | 32 => (case.a, case.b) = (5, 1),
         33 => (case.a, case.c) = (TUNED, 1),
         39 | 40 => (case.a, case.b, case.c) = (102_300_000, 28_800_000, 1),
+        42 => {
+            (case.a, case.input) = (7 * MHZ, built_in(1));
+            case.replies = [vec![0; 3], replies_for(0, Some(9), 0)].concat();
+        }
         _ => {}
     }
     case
+}
+
+/// The table of a built-in board, as bytes.
+pub fn built_in(board: u64) -> Vec<u8> {
+    tables::bytes(&tables::built_in(board))
 }
 
 fn reversed(byte: u8) -> u8 {
@@ -153,7 +164,11 @@ pub fn random(call: u8, dice: &mut Dice) -> Case {
             let made = random_driver(dice);
             (case.a, case.b, case.c, case.d, case.e) = (made.nominal as u64, dice.spread(), made.board as u64, made.ppm as u32, made.rate);
         }
-        19 => case.a = if dice.below(4) == 0 { dice.next() as u32 as u64 } else { dice.within(1, 8 * MHZ) },
+        19 => {
+            case.a = if dice.below(4) == 0 { dice.next() as u32 as u64 } else { dice.within(1, 8 * MHZ) };
+            // The table of the record's own board, without another throw of the dice.
+            case.input = built_in(case.driver[0] as u64);
+        }
         26 => (case.a, case.b, case.c) = (dice.byte() as u64, dice.next() as u16 as u64, dice.byte() as u64),
         27 | 34 => (case.a, case.b) = (dice.spread() as u32 as u64, (dice.spread() as u32).max(1) as u64),
         28 | 35 => (case.a, case.b) = ((dice.spread() as u32).max(1) as u64, (dice.spread() as u32).max(1) as u64),
@@ -164,6 +179,7 @@ pub fn random(call: u8, dice: &mut Dice) -> Case {
             let lo = if dice.below(12) == 0 { dice.spread() } else { dice.within(26 * MHZ, 1_800 * MHZ) };
             (case.a, case.b, case.c) = (lo, tuner.corrected as u64, dice.below(2));
         }
+        42 => boards::random(&mut case, dice),
         _ => {}
     }
     // More than is needed may be lent; it is not looked at.
@@ -176,12 +192,12 @@ pub fn random(call: u8, dice: &mut Dice) -> Case {
 
 /// About one failure in two runs.
 fn rarity(call: u8) -> u64 {
-    2 * page::most(call).map_or(1, |(entries, _)| entries as u64)
+    2 * requests::most(call).map_or(1, |(entries, _)| entries as u64)
 }
 
 /// A failure at each entry of a case in turn, closings and waits among them; told by 1, 2 or 255.
 fn at_every_step(case: &Case) -> Vec<Case> {
-    let entries = page::most(case.call).expect("a call with steps").0;
+    let entries = requests::most(case.call).expect("a call with steps").0;
     (0..entries)
         .map(|i| {
             let mut cut = case.clone();
@@ -225,5 +241,6 @@ pub fn calls() -> Vec<Case> {
     rest::true_rates(&mut all);
     shadow::follows(&mut all);
     correction::both(&mut all);
+    boards::boards(&mut all);
     all
 }

@@ -3,7 +3,7 @@
 use crate::case::{Answer, Case};
 use crate::records::{Driver, FIRST, Tuner};
 use crate::tally::Tally;
-use crate::{answer, page, requests};
+use crate::{answer, page, requests, tables};
 use rusb::rec::Entry;
 
 pub fn entries(answer: &Answer) -> Vec<Entry> {
@@ -72,13 +72,15 @@ fn shape(case: &Case, found: &Answer, tally: &mut Tally) {
     let section = found.section.as_ref().unwrap();
     tally.same(page::read_section(section), Some((0, found.count)), || format!("section of {case:?}"));
     tally.same(made.len(), found.count, || format!("count of {case:?}"));
-    let most = page::most(case.call).unwrap().0;
+    let most = requests::most(case.call).unwrap().0;
     tally.that(made.len() <= most, || format!("{} entries, at most {most}: {case:?}", made.len()));
     let failing = page::failing(&made);
     tally.same(failing.is_some(), found.refusal == 11, || format!("refusal 11 exactly if a step failed: {case:?}"));
     tally.same(found.index, failing.unwrap_or(0), || format!("index of {case:?}"));
     tally.that(found.refusal == 0 || found.value == 0, || format!("value of a refused call: {case:?}"));
-    tally.that(matches!(found.refusal, 0 | 11) || (found.refusal == 2 && case.call == 3), || format!("late refusal of {case:?}"));
+    tally.that(matches!(found.refusal, 0 | 11) || (found.refusal == 2 && matches!(case.call, 3 | 42)), || {
+        format!("late refusal of {case:?}")
+    });
     for (i, entry) in made.iter().enumerate() {
         let failed = case.outcomes[i] != 0 && entry[0] != 9;
         tally.same(entry[1], failed as u8, || format!("outcome {i} of {case:?}"));
@@ -119,6 +121,10 @@ fn afterwards(paper: Paper, case: &Case, found: &Answer, tally: &mut Tally) {
         10 | 41 => wanted.corrected = page::corrected(before.nominal, case.d as i32).expect("taken"),
         11 => wanted.notch = case.a != 0,
         19 => wanted.intermediate = page::rate_if(case.a as u32, before.intermediate) as u64,
+        42 => {
+            let (_, [_, _, notch]) = tables::plan(&case.input, case.a).expect("taken");
+            (wanted.lock, wanted.notch) = (lock(&made, before.lock), notch == 1);
+        }
         _ => {}
     }
     tally.same(found.tuner.clone(), Some(wanted.bytes()), || format!("tuner record after {case:?}"));
@@ -134,6 +140,11 @@ fn afterwards(paper: Paper, case: &Case, found: &Answer, tally: &mut Tally) {
         // The true rate is document 02's: requests.rs has its rule.
         let actual = found.driver.as_deref().and_then(Driver::read).map_or(0, |driver| driver.actual);
         tally.same(found.driver.clone(), Some(Driver { rate, actual, ..given }.bytes()), || format!("driver record after {case:?}"));
+    }
+    if case.call == 42 {
+        let given = Driver::read(&case.driver).expect("given");
+        let frequency = if found.refusal == 0 { case.a } else { given.frequency };
+        tally.same(found.driver.clone(), Some(Driver { frequency, ..given }.bytes()), || format!("driver record after {case:?}"));
     }
 }
 

@@ -2,6 +2,7 @@
 //! stay document 01; this file answers first where a request asks for something else.
 use crate::answer;
 use crate::case::{Answer, By, Case};
+use crate::hops;
 use crate::judge;
 use crate::page;
 use crate::records::{Driver, FIRST, Tuner, attempts};
@@ -10,6 +11,11 @@ use original::tuner::Tuner as Calls;
 use original::tuners::r82xx::SEEN_INIT;
 use rusb::rec::Entry;
 use std::sync::Arc;
+
+/// Most entries and replies of a call with steps.
+pub fn most(call: u8) -> Option<(usize, usize)> {
+    if call == 42 { Some(hops::MOST) } else { page::most(call) }
+}
 
 /// Length of a call's answered bytes.
 pub fn answered(call: u8) -> Option<usize> {
@@ -20,10 +26,11 @@ pub fn answer(case: &Case) -> Answer {
     match case.call {
         2 | 4..=9 | 20 => following(case, answer::answer),
         3 => looked_at(following(case, |case| if too_small(case) { as_above_the_band(case) } else { answer::answer(case) })),
-        19 | 28 if not_held(case) => Answer::refused(13, By::PageOverRust),
-        19 => with_true_rate(case, following(case, answer::answer)),
+        28 if not_held(case) => Answer::refused(13, By::PageOverRust),
+        19 => hops::rated(case, rated),
         39 | 40 => figures(case),
         41 => correction(case),
+        42 => hops::answer(case),
         _ => answer::answer(case),
     }
 }
@@ -123,6 +130,10 @@ pub fn not_held(case: &Case) -> bool {
         _ => Tuner::read(&case.tuner).and(Driver::read(&case.driver)).and_then(|driver| page::corrected(driver.nominal, driver.ppm)),
     };
     case.a != 0 && xtal.is_some_and(|xtal| xtal != 0 && !holds(case.a as u32, xtal))
+}
+
+fn rated(case: &Case) -> Answer {
+    if not_held(case) { Answer::refused(13, By::PageOverRust) } else { with_true_rate(case, following(case, answer::answer)) }
 }
 
 /// #104: "the true rate, xtal·2^22 divided by the ratio as sent after masking and the copied bit, cut to a whole u64". What was sent is read off the

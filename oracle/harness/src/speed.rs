@@ -66,11 +66,28 @@ pub fn rows() -> Vec<(&'static str, usize, Work)> {
                 let _ = black_box(demod::init_baseband(run::usb().as_hw()));
             }),
         ),
+        ("board-tune", 64, board(&record, &given)),
         ("plan-pll", 0, planned()),
         ("plan-pll-by-worksheet", 0, planned()),
         ("packets-expand", 0, expanded()),
         ("packets-read", 0, read_back()),
     ]
+}
+
+/// The original's parts in document 02's order (#113), without its table: planned at 7 MHz on a V4.
+fn board(record: &Tuner, given: &Driver) -> Work {
+    let chip = Arc::new(run::chip(record));
+    let driver = run::driver(chip.clone(), 1, given);
+    let replies = [vec![0; 3], replies_for(0, None, 0)].concat();
+    Box::new(move || {
+        rec::begin(&[], &replies);
+        let plan = run::board(1).orchestrator().plan_tuning(black_box(7_000_000));
+        let _ = black_box(chip.apply_notch(plan.in_notch));
+        let _ = black_box(plan.input_path.map(|path| driver.see_apply_input_path(path)));
+        let _ = black_box(chip.set_frequency(plan.tuner_hz));
+        let byte = if plan.spectral_inv { 0x05 } else { 0x01 };
+        let _ = black_box(demod::write_reg_direct(run::usb().as_hw(), 1, 0x15, byte));
+    })
 }
 
 /// The original has no such call: a plain writing of the same numbers (page.rs).

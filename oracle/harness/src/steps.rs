@@ -183,6 +183,39 @@ pub fn sample_rate(tuner: &Tuner, driver: &Driver, rate: u32) -> Line {
     line
 }
 
+/// The board path of R828D: GPIO 5 an output, its bit by the path, then the tuner's three registers. `read` is what the three GPIO reads answer.
+fn board_path(line: &mut Line, path: u8, read: &[u8]) {
+    let sent = [read[0] | 0x20, read[1] & !0x20, if path == 0 { read[2] & !0x20 } else { read[2] | 0x20 }];
+    for (i, address) in [0x3003, 0x3004, 0x3001].into_iter().enumerate() {
+        line.put(8, 2, address, &read[i..=i]);
+        line.put(6, 2, address, &sent[i..=i]);
+    }
+    let (cable2, rest) = ((0x06, if path == 0 { 8 } else { 0 }, 0x08), (0x05, [0, 0x40, 0x20][path as usize], 0x60));
+    line.repeater(1);
+    for (register, value, mask) in if path == 0 { [cable2, rest] } else { [rest, cable2] } {
+        line.mask(register, value, mask);
+    }
+    line.repeater(0);
+}
+
+/// The board tune when all is done (#113): refusal (0 or 2), and the line after it. `plan` is the tuner's Hz, then inverted, path, notch.
+pub fn hop(tuner: &Tuner, plan: (u64, [u8; 3]), replies: &[u8]) -> (u8, Line) {
+    let (hz, [inverted, path, notch]) = plan;
+    let mut line = Line::new(&Tuner { notch: notch == 1, ..tuner.clone() });
+    let mut rest = replies;
+    if tuner.kind == 1 && path < 3 {
+        board_path(&mut line, path, replies);
+        rest = &replies[3..];
+    }
+    let (refusal, tuned) = tune(&line.tuner, hz, rest);
+    line.tuner = tuned.tuner;
+    line.entries.extend(tuned.entries);
+    if refusal == 0 {
+        line.demod(1, 0x15, &[if inverted == 1 { 5 } else { 1 }]);
+    }
+    (refusal, line)
+}
+
 /// The USB control transfers behind an entry: (request type, value, index, data, done). A done demod write is followed by
 /// a read of page 0x0a.
 pub fn transfers(entry: &Entry) -> Vec<(u8, u16, u16, Vec<u8>, bool)> {

@@ -111,7 +111,7 @@ pub fn chain(length: u64, wrong: Wrong, dice: &mut Dice, tally: &mut Tally, done
         if let Some(bytes) = found.tuner_after(&given) {
             hosts[at].receiver.tuner = bytes.to_vec();
         }
-        if let (19 | 41, Some(bytes)) = (given.case.call, found.driver_after(&given)) {
+        if let (19 | 41 | 42, Some(bytes)) = (given.case.call, found.driver_after(&given)) {
             hosts[at].receiver.driver = bytes.to_vec();
         }
         let what = || format!("{:02x?}", given.case);
@@ -131,7 +131,7 @@ pub fn chain(length: u64, wrong: Wrong, dice: &mut Dice, tally: &mut Tally, done
 
 /// A call on a receiver's own records.
 fn drawn(receiver: &Receiver, dice: &mut Dice) -> Given {
-    let call = dice.pick(&[2, 2, 3, 3, 3, 4, 5, 6, 7, 8, 9, 9, 11, 19, 20, 41]);
+    let call = dice.pick(&[2, 2, 3, 3, 3, 4, 5, 6, 7, 8, 9, 9, 11, 19, 20, 41, 42, 42]);
     let mut given = draw::draw(call, receiver, dice);
     given.case.tuner = receiver.tuner.clone();
     if takes_driver(call) {

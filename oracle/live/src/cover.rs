@@ -1,7 +1,6 @@
 //! What a run has reached, call by call, and what it must have reached to count.
 use crate::draw;
 use crate::rules::{PANICS, RULES};
-use harness::answer::answer;
 use harness::case::Case;
 use harness::records::{Driver, Tuner};
 use harness::tally::Tally;
@@ -11,12 +10,12 @@ use std::collections::BTreeMap;
 
 /// By number; 10, 12 and 17 have none any more.
 #[rustfmt::skip]
-pub const NAMES: [&str; 41] = [
+pub const NAMES: [&str; 42] = [
     "tuner_new", "initialize", "set_frequency", "set_gain", "set_gain_by_index", "set_bandwidth", "set_if_freq", "set_input_path", "reload", "",
     "apply_notch", "", "get_gain", "get_if_freq", "get_gain_table", "driver_new", "", "corrected_xtal_hz", "set_sample_rate",
     "apply_input_path", "init_baseband", "power_on", "set_tuner_low_if", "set_tuner_zero_if", "reset_demod", "write_reg_direct", "set_if_freq_xtal",
     "set_sample_rate_xtal", "start_streaming", "stop_streaming", "set_gpio_output", "set_gpio_bit", "plan_tuning", "if_freq_regs", "resample_regs",
-    "pack_fir", "unpack_fir", "read_section", "plan_pll", "plan_pll_by_worksheet", "set_ppm",
+    "pack_fir", "unpack_fir", "read_section", "plan_pll", "plan_pll_by_worksheet", "set_ppm", "tune_board",
 ];
 
 /// How a case's answer stands to the original.
@@ -43,7 +42,7 @@ struct Row {
 }
 
 pub struct Cover {
-    rows: [Row; 41],
+    rows: [Row; 42],
     /// By row of docs/DIFFERENCES.md: cases excused, cases named on which the original agrees in this build.
     rules: BTreeMap<u8, (u64, u64)>,
     /// Calls that made entries, by their record's kind of tuner and by its board.
@@ -169,10 +168,10 @@ impl Cover {
 
 /// The entries of a call, all done on its longest way, that are neither closings nor waits.
 fn can_fail(call: u8) -> Vec<usize> {
-    if page::most(call).is_none() {
+    if requests::most(call).is_none() {
         return vec![];
     }
-    let made = judge::entries(&answer(&cases::plain(call)));
+    let made = judge::entries(&requests::answer(&cases::plain(call)));
     (0..made.len()).filter(|&at| made[at][0] != 9 && !page::closes(&made[at])).collect()
 }
 
@@ -185,7 +184,7 @@ fn refusals(call: u8) -> Vec<u8> {
         41 => &[1, 4],
         2 | 4..=9 | 11 | 13..=15 | 18 | 20 => &[1],
         16 => &[1, 4, 8],
-        19 => &[1, 3, 13],
+        19 => &[1, 3, 13, 19],
         27 | 34 => &[4],
         28 => &[3, 4, 13],
         35 => &[3, 4],
@@ -194,9 +193,10 @@ fn refusals(call: u8) -> Vec<u8> {
         36 | 37 => &[7],
         38 => &[12],
         39 | 40 => &[1, 2, 4],
+        42 => &[1, 2, 19],
         _ => &[],
     });
-    match page::most(call) {
+    match requests::most(call) {
         Some((_, 0)) => all.extend([8, 9, 11]),
         Some(_) => all.extend([8, 9, 10, 11]),
         None if requests::answered(call).is_some() => all.push(8),

@@ -4,7 +4,7 @@ use crate::edges;
 use crate::given::{Given, hands_driver, hands_tuner};
 use harness::answer::{takes_driver, takes_tuner};
 use harness::case::Case;
-use harness::cases::{self, MHZ, replies_for};
+use harness::cases::{self, MHZ, built_in, replies_for};
 use harness::dice::Dice;
 use harness::page;
 use harness::records::{Driver, Tuner};
@@ -30,26 +30,29 @@ impl Receiver {
 
 /// The numbers of the calls. 12 was `update_shadow`, which is gone (#106); 10 and 17 were the two corrections, which are 41 since #109.
 pub fn calls() -> impl Iterator<Item = u8> {
-    (1..=41).filter(|call| !matches!(call, 10 | 12 | 17))
+    (1..=42).filter(|call| !matches!(call, 10 | 12 | 17))
 }
 
 /// How often each call is drawn, by its number: those with more to go wrong more often.
 pub fn pick_call(dice: &mut Dice) -> u8 {
-    const HEAVY: [(u8, u64); 13] =
-        [(3, 22), (4, 6), (2, 3), (9, 3), (19, 6), (20, 4), (41, 4), (21, 3), (22, 2), (33, 3), (38, 3), (39, 3), (40, 3)];
-    let mut at = dice.below(HEAVY.iter().map(|heavy| heavy.1).sum::<u64>() + 38);
+    const HEAVY: [(u8, u64); 14] =
+        [(3, 22), (42, 24), (4, 6), (2, 3), (9, 3), (19, 6), (20, 4), (41, 4), (21, 3), (22, 2), (33, 3), (38, 3), (39, 3), (40, 3)];
+    let mut at = dice.below(HEAVY.iter().map(|heavy| heavy.1).sum::<u64>() + 39);
     for (call, weight) in HEAVY {
         if at < weight {
             return call;
         }
         at -= weight;
     }
-    calls().nth(at as usize).expect("38 calls")
+    calls().nth(at as usize).expect("39 calls")
 }
 
 pub fn draw(call: u8, receiver: &Receiver, dice: &mut Dice) -> Given {
     let mut case = cases::random(call, dice);
     records(&mut case, receiver, dice);
+    if call == 19 {
+        table(&mut case, dice);
+    }
     if dice.below(3) == 0 {
         edges::arguments(&mut case, dice);
     } else if call == 7 && dice.below(8) != 0 {
@@ -59,6 +62,9 @@ pub fn draw(call: u8, receiver: &Receiver, dice: &mut Dice) -> Given {
         36 | 37 => coefficients(&mut case, dice),
         38 => section(&mut case, receiver, dice),
         _ => {}
+    }
+    if call == 42 && dice.below(3) == 0 {
+        long(&mut case, dice);
     }
     fit(&mut case);
     script(&mut case, dice);
@@ -82,6 +88,20 @@ fn records(case: &mut Case, receiver: &Receiver, dice: &mut Dice) {
     if takes_driver(case.call) && dice.below(8) == 0 {
         damage_driver(&mut case.driver, dice);
     }
+}
+
+/// Mostly the table of the driver's own board, else any of those that a board tune is drawn with.
+fn table(case: &mut Case, dice: &mut Dice) {
+    case.input = match dice.below(4) {
+        0 | 1 => built_in(case.driver.first().map_or(0, |&board| board as u64)),
+        _ => cases::random(42, dice).input,
+    };
+}
+
+/// A board tune that is taken and has a path, so that its last steps are met too.
+fn long(case: &mut Case, dice: &mut Dice) {
+    let tuner = Tuner { kind: 1, corrected: 28_800_000, intermediate: 2_300_000, ..cases::random_tuner(dice) };
+    (case.tuner, case.input, case.a) = (tuner.bytes(), built_in(1), dice.within(MHZ, 1_700 * MHZ));
 }
 
 fn put(record: &mut [u8], at: usize, bytes: &[u8]) {
@@ -183,10 +203,11 @@ fn fit(case: &mut Case) {
 
 /// All done; or one step failed, whichever; or several.
 fn script(case: &mut Case, dice: &mut Dice) {
-    let Some((entries, _)) = page::most(case.call) else { return };
-    if case.call == 3 && dice.below(3) == 0 {
+    let Some((entries, _)) = requests::most(case.call) else { return };
+    if matches!(case.call, 3 | 42) && dice.below(3) == 0 {
         let lock = dice.pick(&[None, Some(9)]); // no lock, or one at the tenth try: the longest ways
-        case.replies = replies_for(dice.below(4) as u8, lock, dice.byte());
+        let path = if case.call == 42 { dice.bytes(3) } else { vec![] };
+        case.replies = [path, replies_for(dice.below(4) as u8, lock, dice.byte())].concat();
     }
     let failing = match dice.below(10) {
         0..4 => 0,
@@ -195,8 +216,10 @@ fn script(case: &mut Case, dice: &mut Dice) {
         _ => return, // as `cases::random` has drawn them
     };
     case.outcomes.fill(0);
+    // Of the longest call the last steps are rare: they are drawn more often.
+    let from = if case.call == 42 && dice.yes() { 48 } else { 0 };
     for _ in 0..failing {
-        case.outcomes[dice.below(entries as u64) as usize] = dice.within(1, 255) as u8;
+        case.outcomes[dice.within(from, entries as u64 - 1) as usize] = dice.within(1, 255) as u8;
     }
 }
 
@@ -228,7 +251,7 @@ fn lengths(given: &mut Given, dice: &mut Dice) {
         return;
     }
     let which = if dice.below(4) == 0 { dice.byte() } else { 1 << dice.below(5) };
-    let (entries, replies) = page::most(call).unwrap_or((0, 0));
+    let (entries, replies) = requests::most(call).unwrap_or((0, 0));
     let room = if entries > 0 { 16 * entries + 8 } else { requests::answered(call).unwrap_or(0) };
     if which & 1 != 0 {
         given.case.room = shorter(room, dice);

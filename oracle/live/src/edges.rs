@@ -5,6 +5,7 @@ use harness::cases::MHZ;
 use harness::dice::Dice;
 use harness::page;
 use harness::records::{Driver, Tuner};
+use harness::tables::BAND;
 
 /// A number within two of one of these; wraps, so that 0 and 2^64 - 1 are neighbours.
 fn near(dice: &mut Dice, from: &[u64]) -> u64 {
@@ -110,6 +111,21 @@ fn figures(dice: &mut Dice) -> (u64, u64, u64) {
     (lo(dice, &tuner), reference, if dice.below(6) == 0 { dice.pick(&[2, 255, 256, 1 << 32, u64::MAX]) } else { kind as u64 })
 }
 
+/// An hz about an end of one of the table's bands, or that its shift puts at 0, at an edge of the record's tune, or past an end of 64 bits.
+fn hop(dice: &mut Dice, case: &Case) -> u64 {
+    let bands = case.input.as_chunks::<BAND>().0;
+    if bands.is_empty() {
+        return dice.spread();
+    }
+    let band = &bands[dice.below(bands.len() as u64) as usize];
+    let number = |at: usize| u64::from_le_bytes(*band[at..].first_chunk().unwrap());
+    match dice.below(3) {
+        0 => near(dice, &[number(0), number(8), 0u64.wrapping_sub(number(16))]),
+        1 => hz(dice, &case.tuner).wrapping_sub(number(16)),
+        _ => number(0).saturating_add(dice.spread() % number(8).abs_diff(number(0)).max(1)),
+    }
+}
+
 /// Puts edges in the place of a case's arguments. Its records are there already.
 pub fn arguments(case: &mut Case, dice: &mut Dice) {
     match case.call {
@@ -142,6 +158,7 @@ pub fn arguments(case: &mut Case, dice: &mut Dice) {
         31 | 32 => (case.a, case.b) = (dice.pick(&[7, 8, 9, 16, 128, 255]), dice.pick(&[0, 1, 2, 255])),
         33 => (case.a, case.c) = (near(dice, &BANDS), dice.pick(&[0, 1, 1, 1, 2, 255, 256, u64::MAX])),
         39 | 40 => (case.a, case.b, case.c) = figures(dice),
+        42 => case.a = hop(dice, case),
         _ => {}
     }
 }

@@ -10,7 +10,7 @@ pub struct Reply {
     pub count: u32,
 }
 
-/// Tune's answer: #101 adds how many tries there were, and 1 where one of them read the lock bit.
+/// A tune's answer, the board's too: #101 adds how many tries there were, and 1 where one of them read the lock bit.
 #[repr(C)]
 #[derive(Debug, Clone, Copy, Default, PartialEq, Eq)]
 pub struct TuneReply {
@@ -94,7 +94,8 @@ unsafe extern "C" {
     pub fn pasetone_apply_notch(tuner: Out, tn: N, on: u8) -> Reply;
     pub fn pasetone_corrected_xtal_hz(driver: In, dn: N) -> Reply;
     pub fn pasetone_set_ppm(tuner: Out, tn: N, driver: Out, dn: N, ppm: i32) -> Reply;
-    pub fn pasetone_set_sample_rate(driver: In, dn: N, tuner: In, tn: N, rate: u32, outcomes: In, on: N, room: Out, mn: N, next_driver: Out, qn: N, next_tuner: Out, nn: N) -> Reply;
+    pub fn pasetone_set_sample_rate(driver: In, dn: N, tuner: In, tn: N, table: In, bn: N, rate: u32, outcomes: In, on: N, room: Out, mn: N, next_driver: Out, qn: N, next_tuner: Out, nn: N) -> Reply;
+    pub fn pasetone_tune_board(driver: In, dn: N, tuner: In, tn: N, table: In, bn: N, hz: u64, outcomes: In, on: N, replies: In, rn: N, room: Out, mn: N, next_driver: Out, qn: N, next_tuner: Out, nn: N) -> TuneReply;
     pub fn pasetone_apply_input_path(tuner: In, tn: N, path: u64, outcomes: In, on: N, replies: In, rn: N, room: Out, mn: N, next: Out, nn: N) -> Reply;
     pub fn pasetone_init_baseband(outcomes: In, on: N, room: Out, mn: N) -> Reply;
     pub fn pasetone_power_on(outcomes: In, on: N, room: Out, mn: N) -> Reply;

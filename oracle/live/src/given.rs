@@ -14,10 +14,10 @@ pub struct Given {
 }
 
 pub fn hands_tuner(call: u8) -> bool {
-    matches!(call, 1..=9 | 19 | 20)
+    matches!(call, 1..=9 | 19 | 20 | 42)
 }
 pub fn hands_driver(call: u8) -> bool {
-    matches!(call, 16 | 19)
+    matches!(call, 16 | 19 | 42)
 }
 /// The correction and the notch change the caller's tuner record where it lies.
 pub fn in_place(call: u8) -> bool {

@@ -8,7 +8,7 @@ use harness::records::{DRIVER, TUNER};
 #[derive(Debug, Clone)]
 pub struct Found {
     pub reply: Reply,
-    /// Of a tune: its tries, and whether it locked.
+    /// Of a tune, the board's too: its tries, and whether it locked.
     pub seen: (u32, u32),
     /// The room, or the slice lent for answered bytes.
     pub room: Lent,
@@ -38,7 +38,7 @@ pub fn call(given: &Given) -> Found {
     };
     found.reply = match case.call {
         1 | 11 | 13..=18 | 41 => without_steps(case, &mut found),
-        2..=9 | 19 | 20 => on_record(case, &mut found),
+        2..=9 | 19 | 20 | 42 => on_record(case, &mut found),
         21..=32 => on_interface(case, &mut found),
         _ => leaf(case, &mut found),
     };
@@ -66,7 +66,7 @@ fn without_steps(c: &Case, f: &mut Found) -> Reply {
 
 fn on_record(c: &Case, f: &mut Found) -> Reply {
     let ((t, tn), (d, dn)) = (f.tuner.slice(), f.driver.slice());
-    let ((o, on), (r, rn)) = (f.outcomes.slice(), f.replies.slice());
+    let ((o, on), (r, rn), (b, bn)) = (f.outcomes.slice(), f.replies.slice(), f.input.slice());
     let ((m, mn), (n, nn), (q, qn)) = (f.room.slice(), f.next_tuner.slice(), f.next_driver.slice());
     unsafe {
         match c.call {
@@ -83,7 +83,13 @@ fn on_record(c: &Case, f: &mut Found) -> Reply {
             7 => pasetone_set_if_freq(t, tn, c.a, o, on, m, mn, n, nn),
             8 => pasetone_set_input_path(t, tn, c.a, o, on, m, mn, n, nn),
             9 => pasetone_reload(t, tn, o, on, m, mn, n, nn),
-            19 => pasetone_set_sample_rate(d, dn, t, tn, c.a as u32, o, on, m, mn, q, qn, n, nn),
+            19 => pasetone_set_sample_rate(d, dn, t, tn, b, bn, c.a as u32, o, on, m, mn, q, qn, n, nn),
+            42 => {
+                let TuneReply { value, index, refusal, count, tries, locked } =
+                    pasetone_tune_board(d, dn, t, tn, b, bn, c.a, o, on, r, rn, m, mn, q, qn, n, nn);
+                f.seen = (tries, locked);
+                Reply { value, index, refusal, count }
+            }
             _ => pasetone_apply_input_path(t, tn, c.a, o, on, r, rn, m, mn, n, nn),
         }
     }
@@ -146,7 +152,7 @@ impl Found {
     }
     /// Done, or stopped after steps: records are handed back then, and only then.
     fn written(&self, given: &Given) -> bool {
-        self.reply.refusal == 0 || self.reply.refusal == 11 || (given.case.call == 3 && self.reply.count > 0)
+        self.reply.refusal == 0 || self.reply.refusal == 11 || (matches!(given.case.call, 3 | 42) && self.reply.count > 0)
     }
 
     /// What the port answered and left, against what must come back: None if all is the same, else the first difference.

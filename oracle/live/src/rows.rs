@@ -2,10 +2,10 @@
 //! the same scripts, and what the boundary alone costs. The record handed back is given to the next call, as the original's
 //! chip lives on.
 use crate::ffi::*;
-use harness::cases::replies_for;
-use harness::page;
+use harness::cases::{built_in, replies_for};
 use harness::plain;
 use harness::records::{Driver, Tuner};
+use harness::requests;
 use harness::speed::Work;
 use std::hint::black_box;
 
@@ -14,6 +14,7 @@ struct Memory {
     tuner: Vec<u8>,
     next: Vec<u8>,
     driver: Vec<u8>,
+    table: Vec<u8>,
     next_driver: Vec<u8>,
     outcomes: Vec<u8>,
     replies: Vec<u8>,
@@ -22,7 +23,7 @@ struct Memory {
 
 impl Memory {
     fn new(call: u8, replies: Vec<u8>) -> Self {
-        let (entries, _) = page::most(call).unwrap_or((0, 0));
+        let (entries, _) = requests::most(call).unwrap_or((0, 0));
         let driver = Driver { board: 1, nominal: 28_800_000, ppm: 0, frequency: 7_000_000, rate: 0, actual: 0 }.bytes();
         let tuner = Tuner::fresh(1, 28_800_000, 0x74).bytes();
         Self {
@@ -30,6 +31,7 @@ impl Memory {
             tuner,
             next_driver: driver.clone(),
             driver,
+            table: built_in(1),
             outcomes: vec![0; entries],
             replies,
             room: vec![0; 16 * entries + 8],
@@ -85,9 +87,15 @@ unsafe fn gain(m: &mut Memory) -> Reply {
     unsafe { pasetone_set_gain(t, tn, black_box(32.8), o, on, m.room.as_mut_ptr(), m.room.len(), m.next.as_mut_ptr(), m.next.len()) }
 }
 unsafe fn rate(m: &mut Memory) -> Reply {
-    let ((d, dn), (t, tn), (o, on)) = (part(&m.driver), part(&m.tuner), part(&m.outcomes));
+    let ((d, dn), (t, tn), (b, bn), (o, on)) = (part(&m.driver), part(&m.tuner), part(&m.table), part(&m.outcomes));
     let ((q, qn), (n, nn)) = ((m.next_driver.as_mut_ptr(), m.next_driver.len()), (m.next.as_mut_ptr(), m.next.len()));
-    unsafe { pasetone_set_sample_rate(d, dn, t, tn, black_box(2_048_000), o, on, m.room.as_mut_ptr(), m.room.len(), q, qn, n, nn) }
+    unsafe { pasetone_set_sample_rate(d, dn, t, tn, b, bn, black_box(2_048_000), o, on, m.room.as_mut_ptr(), m.room.len(), q, qn, n, nn) }
+}
+unsafe fn board(m: &mut Memory) -> TuneReply {
+    let ((d, dn), (t, tn), (b, bn)) = (part(&m.driver), part(&m.tuner), part(&m.table));
+    let ((o, on), (r, rn), (z, zn)) = (part(&m.outcomes), part(&m.replies), (m.room.as_mut_ptr(), m.room.len()));
+    let ((q, qn), (n, nn)) = ((m.next_driver.as_mut_ptr(), m.next_driver.len()), (m.next.as_mut_ptr(), m.next.len()));
+    unsafe { pasetone_tune_board(d, dn, t, tn, b, bn, black_box(7_000_000), o, on, r, rn, z, zn, q, qn, n, nn) }
 }
 unsafe fn initialise(m: &mut Memory) -> Reply {
     let ((t, tn), (o, on)) = (part(&m.tuner), part(&m.outcomes));
@@ -140,6 +148,7 @@ fn expanded() -> Vec<u8> {
 /// Name, entries, work. The names are those of harness::speed::rows; the last two have no twin there.
 pub fn rows() -> Vec<(&'static str, usize, Work)> {
     let (no_lock, at_once) = (replies_for(0, None, 0), replies_for(0, Some(0), 0));
+    let on_board = [vec![0; 3], no_lock.clone()].concat();
     vec![
         ("tune-no-lock", 53, work(3, no_lock.clone(), 53, tune_inside)),
         ("tune-lock-at-once", 25, work(3, at_once, 25, tune_inside)),
@@ -148,6 +157,7 @@ pub fn rows() -> Vec<(&'static str, usize, Work)> {
         ("sample-rate", 17, work(19, vec![], 17, rate)),
         ("initialise", 19, work(2, vec![], 19, initialise)),
         ("baseband", 45, work(21, vec![], 45, baseband)),
+        ("board-tune", 64, work(42, on_board, 64, board)),
         ("plan-pll", 0, work(39, vec![], 0, plan)),
         ("plan-pll-by-worksheet", 0, work(40, vec![], 0, plan_by_worksheet)),
         ("packets-expand", 0, packets(pasetone_expand, plain::section(4096), 18 * 4096)),

@@ -5,6 +5,7 @@ use crate::given::Given;
 use harness::page;
 use harness::records::{Driver, FIRST, Tuner};
 use harness::requests;
+use harness::tables;
 use original::tuners::r82xx::SEEN_INIT;
 use std::ops::RangeInclusive;
 
@@ -17,7 +18,7 @@ pub struct Rule {
 }
 
 #[rustfmt::skip]
-pub const RULES: [Rule; 22] = [
+pub const RULES: [Rule; 23] = [
     Rule { row: 1, inputs: "tune: hz not 0, hz + IF of 2^64 or more, and the wrapped sum is not tunable" },
     Rule { row: 2, inputs: "tune: the same, and the wrapped sum is tunable" },
     Rule { row: 3, inputs: "tune: lo of 2^58 or more, all lent, entries 0 to 11 done, no wrapped product tunable; differs where overflow panics" },
@@ -40,6 +41,7 @@ pub const RULES: [Rule; 22] = [
     Rule { row: 23, inputs: "initialise: all lent, and a masked write is tried whose register's shadow byte differs from INIT_ARRAY's in a bit that it keeps" },
     Rule { row: 24, inputs: "initialise: the same, none such, and a chunk is tried with a register, no masked write of it tried, whose shadow byte is not INIT_ARRAY's" },
     Rule { row: 25, inputs: "tune: taken, all lent, and 0x14, 0x16 or 0x15 is tried with another byte than the shadow has" },
+    Rule { row: 26, inputs: "sample rate: taken, all lent, the DDC byte tried, and the table inverts the driver's frequency where its board does not, or the other way" },
 ];
 
 /// The row that names this case, if one does.
@@ -51,7 +53,9 @@ pub fn row(given: &Given) -> Option<u8> {
         2 => initialise(given),
         3 => tune(given),
         4 => gain(given),
+        19 if malformed(given) => None,
         19 if requests::not_held(case) => Some(22),
+        19 if other_board(given) => Some(26),
         16 | 18 | 19 => driver(given),
         27 | 34 => (b == 0).then_some(14),
         28 if requests::not_held(case) => Some(22),
@@ -76,6 +80,22 @@ pub fn differs(row: u8, given: &Given) -> bool {
 
 fn done(given: &Given, steps: usize) -> bool {
     given.case.outcomes[..steps].iter().all(|&outcome| outcome == 0)
+}
+
+/// Two records, and a table that 19 refuses: the original has none.
+fn malformed(given: &Given) -> bool {
+    let case = &given.case;
+    Tuner::read(&case.tuner).is_some() && Driver::read(&case.driver).is_some() && !tables::well_formed(&case.input)
+}
+
+/// The DDC byte is entry 16 of a sample rate; entries 3 and 6 are closings.
+fn other_board(given: &Given) -> bool {
+    let case = &given.case;
+    let (Some(_), Some(driver)) = (Tuner::read(&case.tuner), Driver::read(&case.driver)) else { return false };
+    let by_table = tables::plan(&case.input, driver.frequency).is_ok_and(|(_, [inverted, ..])| inverted == 1);
+    let by_board = page::plan(driver.board, driver.frequency).1 == 1;
+    let tried = || (0..16).all(|entry| matches!(entry, 3 | 6) || case.outcomes[entry] == 0);
+    case.a != 0 && all_lent(given) && tried() && by_table != by_board
 }
 
 /// Everything that the call asks for is lent.

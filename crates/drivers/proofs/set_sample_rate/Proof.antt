@@ -1,6 +1,10 @@
 -- `drivers::set_sample_rate` meets its contract: refused before its steps, or made and handed back.
 -- Assumes nothing.
-use mathlib.Core.Path.{sym, _∙_}
+use mathlib.Core.Path.{sym, ap, _∙_}
+use Rattle.bands.specs.declared.Planned.{Planned}
+use Rattle.bands.specs.Tables.{planBy}
+use Rattle.chip.specs.Courses.{argumentOf}
+use Rattle.driver.specs.Calls.{rateArgument, rateResult, rateRow}
 use native.Mathlib.Omega.{arith}
 use denote.Ref.{now}
 use Rattle.drivers.proofs.Passed.{fits, handed-back, refused-by}
@@ -14,6 +18,9 @@ decode-driver-requires c κs = search needs
 decode-tuner-requires : tie.Need-decode-tuner-requires
 decode-tuner-requires c κs = search needs
 
+plan-by-table-requires : tie.Need-plan-by-table-requires
+plan-by-table-requires c κs = search needs
+
 rate-refusal-requires : tie.Need-rate-refusal-requires
 rate-refusal-requires c κs = search needs
 
@@ -25,11 +32,11 @@ refuse-requires c κs = search needs
 
 returns : tie.Need-returns
 returns c =
-    let a = c .before .before .before .before .before .before .before .before .before .before .before .before .before .before .before .args in
-    refused-by (now (a .outcomes)) (a .rate) (now (a .driver)) (now (a .tuner)) (now (a .room)) (now (a .left)) (now (a .next)) _ _ _ _ (c .before .before .before .before .before .before .before .before .decode-driver .ensures) (c .before .before .before .before .before .before .before .decode-tuner .ensures) (c .before .before .before .before .before .rate-refusal .ensures) (c .before .before .ready .ensures) _ (λ z. omega arith) (c .refuse .ensures)
+    let a = c .before .before .before .before .before .before .before .before .before .before .before .before .before .before .before .before .before .args in
+    refused-by (λ u v. argumentOf (rateRow (a .rate) (planBy (now (a .table)) (v .frequency)) u v)) (λ u v. rateResult (a .rate) (planBy (now (a .table)) (v .frequency)) (now (a .outcomes)) u v (now (a .room))) (now (a .driver)) (now (a .tuner)) (now (a .room)) (now (a .left)) (now (a .next)) _ _ _ _ (c .before .before .before .before .before .before .before .before .before .decode-driver .ensures) (c .before .before .before .before .before .before .before .before .decode-tuner .ensures) (c .before .before .before .before .before .rate-refusal .ensures ∙ ap (λ (p : Planned). rateArgument (a .rate) p (c .before .before .before .before .before .before .before .before .before .decode-driver .result .driver)) (c .before .before .before .before .before .before .plan-by-table .ensures)) (c .before .before .ready .ensures) _ (λ z. omega arith) (c .refuse .ensures)
 
-set-sample-rate-requires : tie.Need-set-sample-rate-requires
-set-sample-rate-requires c κs = search needs
+rate-planned-requires : tie.Need-rate-planned-requires
+rate-planned-requires c κs = search needs
 
 hand-requires : tie.Need-hand-requires
 hand-requires c κs = fits _ _ _ _ (sym (c .before .before .before .before .before .before .before .ready .ensures) ∙ omega arith)
@@ -45,8 +52,8 @@ same-length-3 c = search needs
 
 returns-2 : tie.Need-returns-2
 returns-2 c =
-    let a = c .before .before .before .before .before .before .before .before .before .before .before .before .before .before .before .before .before .before .before .before .before .before .before .before .before .args in
-    handed-back (now (a .outcomes)) (a .rate) (now (a .driver)) (now (a .tuner)) (now (a .room)) (now (a .left)) (now (a .next)) _ _ _ _ (c .before .before .before .before .before .before .before .before .before .before .before .before .before .before .before .before .before .before .decode-driver .ensures) (c .before .before .before .before .before .before .before .before .before .before .before .before .before .before .before .before .before .decode-tuner .ensures) (c .before .before .before .before .before .before .before .before .before .before .before .before .before .before .before .rate-refusal .ensures) (c .before .before .before .before .before .before .before .before .before .before .before .before .ready .ensures) (omega arith) _ _ _ _ _ (c .before .before .before .before .before .before .before .before .before .set-sample-rate .ensures) _ _ _ (c .before .before .before .before .hand .ensures)
+    let a = c .before .before .before .before .before .before .before .before .before .before .before .before .before .before .before .before .before .before .before .before .before .before .before .before .before .before .before .args in
+    handed-back (λ u v. argumentOf (rateRow (a .rate) (planBy (now (a .table)) (v .frequency)) u v)) (λ u v. rateResult (a .rate) (planBy (now (a .table)) (v .frequency)) (now (a .outcomes)) u v (now (a .room))) (now (a .driver)) (now (a .tuner)) (now (a .room)) (now (a .left)) (now (a .next)) _ _ _ _ (c .before .before .before .before .before .before .before .before .before .before .before .before .before .before .before .before .before .before .before .decode-driver .ensures) (c .before .before .before .before .before .before .before .before .before .before .before .before .before .before .before .before .before .before .decode-tuner .ensures) (c .before .before .before .before .before .before .before .before .before .before .before .before .before .before .before .rate-refusal .ensures ∙ ap (λ (p : Planned). rateArgument (a .rate) p (c .before .before .before .before .before .before .before .before .before .before .before .before .before .before .before .before .before .before .before .decode-driver .result .driver)) (c .before .before .before .before .before .before .before .before .before .before .before .before .before .before .before .before .plan-by-table .ensures)) (c .before .before .before .before .before .before .before .before .before .before .before .before .ready .ensures) (omega arith) _ _ _ _ _ (c .before .before .before .before .before .before .before .before .before .rate-planned .ensures ∙ ap (λ (p : Planned). rateResult (a .rate) p (now (a .outcomes)) (c .before .before .before .before .before .before .before .before .before .before .before .before .before .before .before .before .before .before .decode-tuner .result .tuner) (c .before .before .before .before .before .before .before .before .before .before .before .before .before .before .before .before .before .before .before .decode-driver .result .driver) (now (a .room))) (c .before .before .before .before .before .before .before .before .before .before .before .before .before .before .before .before .plan-by-table .ensures)) _ _ _ (c .before .before .before .before .hand .ensures)
 
 pub set-sample-rate-spec : {M : Type 1} → statement M
 set-sample-rate-spec =
@@ -54,11 +61,12 @@ set-sample-rate-spec =
     (tie.spec
     decode-driver-requires
     decode-tuner-requires
+    plan-by-table-requires
     rate-refusal-requires
     ready-requires
     refuse-requires
     returns
-    set-sample-rate-requires
+    rate-planned-requires
     hand-requires
     same-length
     same-length-2

@@ -7,7 +7,7 @@ use harness::dice::Dice;
 use harness::judge::Paper;
 use harness::records::{Driver, Tuner};
 use harness::tally::Tally;
-use harness::{judge, page, requests, run, steps};
+use harness::{hops, judge, page, requests, run, steps, tables};
 use original::tuners::r82xx;
 
 const MHZ: u64 = 1_000_000;
@@ -299,6 +299,79 @@ fn corrections(tally: &mut Tally) {
     }
 }
 
+/// The board tune of document 02 (#113), on what the Rust's own parts recorded: against the list of steps written a second time, cut at each entry, most
+/// entries and replies reached; and the order of refusals, by hand.
+fn hops(tally: &mut Tally, dice: &mut Dice) {
+    let (mut reached, mut taken, mut late, mut early) = ([0; 2], [0; 2], 0, 0);
+    for round in 0..3_000 {
+        let mut case = cases::random(42, dice);
+        case.outcomes.fill(0);
+        let mut tuner = Tuner::read(&case.tuner).unwrap();
+        if round % 4 != 0 {
+            (tuner.corrected, tuner.intermediate) = (28_800_000, 2_300_000);
+        }
+        case.tuner = tuner.bytes();
+        let found = requests::answer(&case);
+        judge::all(Paper::Second, &case, &found, tally);
+        if found.section.is_none() {
+            early += 1;
+            continue;
+        }
+        let kind = tuner.kind as usize;
+        (reached[kind], taken[kind]) = (reached[kind].max(found.count), taken[kind].max(run::taken()));
+        tally.same(found.refusal == 2, hops::late(&case), || format!("the PLL's refusal of {case:?}"));
+        late += (found.refusal == 2) as usize;
+        if found.by != By::PageOverRust {
+            let (refusal, line) = steps::hop(&tuner, tables::plan(&case.input, case.a).unwrap(), &case.replies);
+            let wanted = (refusal, if refusal == 0 { case.a } else { 0 }, Some(page::section(&line.entries)));
+            tally.same((found.refusal, found.value, found.section.clone()), wanted, || format!("steps of {case:?}"));
+        }
+        if round % 20 == 0 {
+            for step in 0..found.count {
+                let mut cut = case.clone();
+                cut.outcomes[step] = dice.within(1, 255) as u8;
+                hop_failure(&cut, step, &found, tally);
+            }
+        }
+    }
+    let longest = cases::plain(42);
+    let found = requests::answer(&longest);
+    tally.same((found.count, run::taken()), hops::MOST, || "the longest board tune".into());
+    (0..64).for_each(|step| {
+        let mut cut = longest.clone();
+        cut.outcomes[step] = 1;
+        hop_failure(&cut, step, &found, tally);
+    });
+    tally.same((reached, taken), ([54, 64], [35, 38]), || "most entries and replies of a board tune on each kind".into());
+    tally.that(late > 100 && early > 100, || format!("{late} late, {early} before any step"));
+    let mut want = |case: Case, refusal: u8, what: &str| tally.same(requests::answer(&case).refusal, refusal, || what.to_string());
+    for call in [19, 42] {
+        let nothing = Case { room: 0, outcomes: vec![], replies: vec![], ..plain(call) };
+        for table in cases::boards::malformed() {
+            want(Case { input: table.clone(), driver: vec![0; 29], ..nothing.clone() }, 1, "records before the table");
+            want(Case { input: table, a: 0, ..nothing.clone() }, 19, "the table before rate and frequency");
+        }
+        want(Case { input: vec![], ..plain(call) }, if call == 19 { 0 } else { 2 }, "no band");
+        want(Case { a: 0, input: vec![], ..nothing.clone() }, if call == 19 { 3 } else { 2 }, "rate or frequency before room");
+        want(Case { room: plain(call).room, ..nothing.clone() }, 9, "outcomes after room");
+        want(nothing, 8, "room first of what is lent");
+    }
+    want(Case { replies: vec![0; 37], ..plain(42) }, 10, "replies last");
+}
+
+fn hop_failure(cut: &Case, step: usize, whole: &Answer, tally: &mut Tally) {
+    let found = requests::answer(cut);
+    judge::all(Paper::Second, cut, &found, tally);
+    let entry = judge::entries(whole)[step];
+    if page::closes(&entry) || entry[0] == 9 {
+        let told = |a: &Answer| (a.refusal, a.value, a.count, a.tuner.clone(), a.driver.clone());
+        tally.same(told(&found), told(whole), || format!("a failed closing or wait is ignored: {cut:?}"));
+    } else {
+        tally.same((found.refusal, found.index), (11, step), || format!("failing step: {cut:?}"));
+        tally.same(&found.driver, &Some(cut.driver.clone()), || format!("the driver's record after a failure: {cut:?}"));
+    }
+}
+
 /// The stored list's own cases, all of them, by documents 01 and 02, with the USB transfers of each run held against its entries.
 fn listed(tally: &mut Tally) {
     rusb::rec::with(|r| r.keep = true);
@@ -330,6 +403,7 @@ fn main() {
     order(&mut tally, &mut dice);
     refusals(&mut tally);
     corrections(&mut tally);
+    hops(&mut tally, &mut dice);
     listed(&mut tally);
     tally.end("check", String::new())
 }

@@ -2,7 +2,7 @@
 //! smallest input, as this build does it (run it in debug and in release), with the documents' answer beside it.
 use harness::answer::answer;
 use harness::case::Case;
-use harness::cases::{plain, replies_for};
+use harness::cases::{built_in, plain, replies_for};
 use harness::judge;
 use harness::records::{Driver, FIRST, Tuner, attempts};
 use harness::requests;
@@ -408,6 +408,28 @@ fn aliases() {
     rec::with(|r| r.keep = false);
 }
 
+/// The sample rate's last byte by the driver's board, as the Rust plans, and by a table (#113).
+fn tables() {
+    let last = |made: &[Entry]| {
+        made.last().map_or("no entry".into(), |entry| format!("{:#04x} to page {}, {:#04x}", entry[8], entry[2], entry[4]))
+    };
+    for (number, board, table, what) in
+        [("26", 0, 1, "generic, the V4's table"), ("26a", 1, 0, "V4, the generic table"), ("26b", 1, 1, "V4, its own table")]
+    {
+        let given = Driver { board, nominal: 28_800_000, ppm: 0, frequency: 28_799_999, rate: 0, actual: 0 };
+        let case = Case { driver: given.bytes(), input: built_in(table), ..plain(19) };
+        row(
+            number,
+            &format!("set_sample_rate(2048000), the driver at 28,799,999 Hz: {what}"),
+            rust(|| {
+                let mut driver = run::driver(Arc::new(run::chip(&record(2_300_000))), 1, &given);
+                block_on(driver.set_sample_rate(2_048_000)).map(|()| last(&run::entries()))
+            }),
+            format!("by the board; document 02: {}", last(&judge::entries(&requests::answer(&case)))),
+        );
+    }
+}
+
 /// Calls of the Rust's driver that document 01 leaves out: what a user of it would notice.
 fn left_out() {
     let kinds = |made: &[Entry]| {
@@ -434,6 +456,10 @@ fn left_out() {
             "    {name} Driver::set_frequency(7 MHz): {}",
             rust(|| block_on(fresh().set_frequency(7 * MHZ, None)).map(|_| kinds(&run::entries())))
         );
+        let hop = Case { tuner: Tuner::fresh(kind, 28_800_000, 0x74).bytes(), ..plain(42) };
+        let hop = Case { replies: [vec![0; if kind == 1 { 3 } else { 0 }], replies_for(1, Some(0), 0), vec![0; 3]].concat(), ..hop };
+        let made = judge::entries(&requests::answer(&hop));
+        println!("    {name} document 02's board tune, 7 MHz: {}; {} entries", kinds(&made), made.len());
         println!("    {name} Driver::set_ppm(1): {}", rust(|| block_on(fresh().set_ppm(1)).map(|()| kinds(&run::entries()))));
     }
 }
@@ -451,5 +477,6 @@ fn main() {
     rates();
     shadows();
     second_initialise();
+    tables();
     left_out();
 }

@@ -16,10 +16,14 @@ use live::sabotage::{SPOILS, spoiled};
 use live::{document, ffi, numbers, port, raw, rules};
 use std::collections::BTreeMap;
 
-/// The version that the boundary is written against: 5.0.0.
-const VERSION: u32 = 0x0005_0000;
+/// The version that the boundary is written against: 6.0.0.
+const VERSION: u32 = 0x0006_0000;
 
 fn class(given: &Given, wanted: &Answer, tally: &mut Tally) -> Class {
+    // The original has no board tune of this order: its parts answered (hops.rs), and the rest is document 02's alone.
+    if given.case.call == 42 {
+        return if wanted.by == By::Rust { Class::Same(None) } else { Class::Ours };
+    }
     let row = rules::row(given);
     if row.is_none() && matches!(wanted.by, By::Rust | By::Page) {
         return if wanted.by == By::Page { Class::Ours } else { Class::Same(None) };

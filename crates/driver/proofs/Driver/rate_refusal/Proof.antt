@@ -1,5 +1,8 @@
 -- `Driver::rate_refusal` meets its contract. Assumes nothing.
+use Prim.Native.Nat.{ℕ}
 use mathlib.Core.Path.{ap, _∙_}
+use mathlib.Core.Bool.{cond}
+use lib.Dec.{eqb}
 use mir.Facts.{toZ-ofZ}
 use mir.Syntax.{w32}
 use Rattle.registers.specs.Rates.{rateNumber}
@@ -14,10 +17,16 @@ xtal-by-requires c κs = search needs
 rate-number-requires : tie.Need-rate-number-requires
 rate-number-requires c κs = search needs
 
+rate-argument-requires : tie.Need-rate-argument-requires
+rate-argument-requires c κs = search needs
+
 returns : tie.Need-returns
 returns c =
-    c .rate-number .ensures
-    ∙ ap (rateNumber (c .before .before .before .args .rate)) (c .before .xtal-by .ensures ∙ ap (xtalBy (c .before .before .before .args .self .nominal)) (toZ-ofZ {w = w32} {z = c .before .before .before .args .self .ppm} (record { sfits = c .before .before .struct-told .given .1 .1 .0 .1 })))
+    let a = c .before .before .before .before .args in
+    c .rate-argument .ensures
+    ∙ ap (λ (n : ℕ). cond (eqb (a .planned .refusal) 19) 19 n)
+    (c .before .rate-number .ensures
+    ∙ ap (rateNumber (a .rate)) (c .before .before .xtal-by .ensures ∙ ap (xtalBy (a .self .nominal)) (toZ-ofZ {w = w32} {z = a .self .ppm} (record { sfits = c .before .before .before .struct-told .given .1 .1 .0 .1 }))))
 
 pub rate-refusal-spec : {M : Type 1} → statement M
-rate-refusal-spec = tie.close (tie.spec xtal-by-requires rate-number-requires returns)
+rate-refusal-spec = tie.close (tie.spec xtal-by-requires rate-number-requires rate-argument-requires returns)

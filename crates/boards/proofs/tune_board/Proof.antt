@@ -1,0 +1,32 @@
+-- `boards::tune_board` meets its contract: the plan by the table, then the tune by the plan. Assumes nothing.
+use mathlib.Core.Path.{_≡_, ap, subst, _∙_}
+use denote.Ref.{now}
+use Rattle.bands.specs.declared.Planned.{Planned}
+use Rattle.chip.specs.declared.Seen.{Seen}
+use Rattle.chip.specs.Calls.{Called}
+use Rattle.driver.specs.Calls.{Both}
+use Rattle.boards.specs.Hops.{hopResult, hopSeen}
+use borrow.Author.Needs.{needs}
+use Rattle.boards.proofs.tune_board.Statement.{statement}
+use Rattle.boards.proofs.tune_board.Tie as tie
+
+plan-by-table-requires : tie.Need-plan-by-table-requires
+plan-by-table-requires c κs = search needs
+
+tune-planned-requires : tie.Need-tune-planned-requires
+tune-planned-requires c κs = search needs
+
+same-length : tie.Need-same-length
+same-length c = search needs
+
+returns : tie.Need-returns
+returns c =
+    let a = c .before .before .before .before .before .before .before .before .before .args in
+    let by = c .before .before .before .before .plan-by-table .ensures in
+    let told = c .before .before .tune-planned .ensures in (
+      told .0 ∙ ap (λ (p : Planned). hopResult p (a .hz) (now (a .replies)) (now (a .outcomes)) (a .tuner) (a .driver) (now (a .room))) by,
+      told .1 ∙ ap (λ (p : Planned). hopSeen p (a .hz) (now (a .replies)) (now (a .outcomes)) (a .tuner) (a .driver) (now (a .room))) by,
+    )
+
+pub tune-board-spec : {M : Type 1} → statement M
+tune-board-spec = tie.close (tie.spec plan-by-table-requires tune-planned-requires same-length returns)
