@@ -7,3 +7,4 @@ pub mod Most
 pub mod Demand
 pub mod Worked
 pub mod Tried
+pub mod Listed
