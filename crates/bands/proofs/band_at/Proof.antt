@@ -6,20 +6,20 @@ use borrow.Author.Needs.{needs}
 use Rattle.bands.proofs.band_at.Statement.{statement}
 use Rattle.bands.proofs.band_at.Tie as tie
 
-get-requires : tie.Need-get-requires
-get-requires c κs = search needs
+eight-requires : tie.Need-eight-requires
+eight-requires c κs = search needs
 
-add-get : tie.Need-add-get
-add-get c = search needs
+add-eight : tie.Need-add-eight
+add-eight c = search needs
 
-get-requires-2 : tie.Need-get-requires-2
-get-requires-2 c κs = search needs
+eight-requires-2 : tie.Need-eight-requires-2
+eight-requires-2 c κs = search needs
 
-add-get-2 : tie.Need-add-get-2
-add-get-2 c = search needs
+add-eight-2 : tie.Need-add-eight-2
+add-eight-2 c = search needs
 
-get-requires-3 : tie.Need-get-requires-3
-get-requires-3 c κs = search needs
+eight-requires-3 : tie.Need-eight-requires-3
+eight-requires-3 c κs = search needs
 
 add-t8 : tie.Need-add-t8
 add-t8 c = search needs
@@ -42,17 +42,17 @@ shared-slice-read-t16 c = search needs
 returns : tie.Need-returns
 returns c =
     let a = c .before .before .before .before .before .before .before .args in
-    band-made (now (a .s)) (a .at) _ _ _ (c .before .before .before .before .before .get .ensures .0) (c .before .before .before .before .get2 .ensures .0) (c .before .before .before .get3 .ensures .0)
+    band-made (now (a .s)) (a .at) _ _ _ (c .before .before .before .before .before .eight .ensures) (c .before .before .before .before .eight2 .ensures) (c .before .before .before .eight3 .ensures)
 
 pub band-at-spec : {M : Type 1} → statement M
 band-at-spec =
     tie.close
     (tie.spec
-    get-requires
-    add-get
-    get-requires-2
-    add-get-2
-    get-requires-3
+    eight-requires
+    add-eight
+    eight-requires-2
+    add-eight-2
+    eight-requires-3
     add-t8
     shared-slice-read-t10
     add-t11
