@@ -189,55 +189,6 @@ static void check_lock(void)
     tuner[PASETONE_TUNER_LOCK] = 0;
 }
 
-/*
- * The header's rounds: a receiver that is asked step by step leaves what the whole script leaves at once. `truth` is how the receiver behaves:
- * its outcomes, then its replies.
- */
-static void check_rounds(const uint8_t *truth)
-{
-    uint8_t section[PASETONE_TUNE_ROOM], at_once[PASETONE_TUNER_SIZE];
-    const uint8_t *answers = truth + sizeof outcomes;
-    uint32_t taken = 0;
-    size_t used = 0;
-    pasetone_tune_reply whole = pasetone_set_frequency(TUNER, 100000000, truth, sizeof outcomes, answers, sizeof replies, section,
-                                                       sizeof section, at_once, sizeof at_once);
-    pasetone_tune_reply reply = pasetone_set_frequency(TUNER, 100000000, OUTCOMES, REPLIES, ROOM, NEXT);
-    while (taken < reply.count) {
-        const uint8_t *entry = room + 16 * taken;
-        if (entry[0] == 3) {
-            memcpy(replies + used, answers + used, entry[3]);
-            used += entry[3];
-        }
-        outcomes[taken] = truth[taken];
-        taken++;
-        reply = pasetone_set_frequency(TUNER, 100000000, OUTCOMES, REPLIES, ROOM, NEXT);
-    }
-    same("in rounds: refusal", reply.refusal, whole.refusal);
-    same("in rounds: index", reply.index, whole.index);
-    same("in rounds: entries", reply.count, whole.count);
-    looked("in rounds: tries and lock", reply, whole.tries, whole.locked);
-    same_bytes("in rounds: section", room, section, PASETONE_ROOM_FOR(whole.count));
-    same_bytes("in rounds: record", next, at_once, sizeof next);
-    memset(outcomes, 0, sizeof outcomes);
-    memset(replies, 0, sizeof replies);
-}
-
-/* A receiver that locks at the second try; one that fails at a step in each place. */
-static void check_receivers(void)
-{
-    uint8_t truth[sizeof outcomes + sizeof replies];
-    size_t step;
-    memset(truth, 0, sizeof truth);
-    truth[sizeof outcomes + 4] = 0x08;
-    truth[sizeof outcomes + 10] = 0x02;
-    check_rounds(truth);
-    for (step = 0; step < sizeof outcomes; step++) {
-        truth[step] = 1;
-        check_rounds(truth);
-        truth[step] = 0;
-    }
-}
-
 /* Whether a next record was written, by the bytes that lay there before. */
 static int written(void)
 {
@@ -636,7 +587,6 @@ int main(void)
     check_tuning();
     check_shadow();
     check_lock();
-    check_receivers();
     check_stands();
     check_tuner();
     check_correction();

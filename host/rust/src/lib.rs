@@ -27,46 +27,37 @@
 //!
 //! # On a receiver
 //!
-//! What step i is depends on the outcomes and replies before it alone. So a receiver is driven in rounds: a call with what is known so far, on a
-//! clone of the record, tells the next step; the host takes it and puts its outcome, and what it read, into the script. When no step is left, the
-//! clone is the next record.
+//! A script says in advance how each step ends. A receiver says it when the step is taken: [`Tuner::drive`], [`Driver::drive`] and [`drive`] make any call
+//! that way, and show each step to a closure when its turn comes.
 //!
 //! ```
-//! use pasetone::{Entry, EntryKind, Error, Script, TuneAnswer, Tuner, TunerKind};
+//! use pasetone::{Entry, EntryKind, Error, Outcome, Tuner, TunerKind};
 //!
-//! /// `take` takes one step: whether it was done, and the bytes of a read.
-//! fn tune(tuner: &mut Tuner, hz: u64, mut take: impl FnMut(&Entry) -> (bool, Vec<u8>)) -> TuneAnswer {
-//!     let (mut outcomes, mut replies) = (vec![0; Script::OUTCOMES], vec![0; Script::REPLIES]);
-//!     let (mut taken, mut read) = (0, 0);
-//!     loop {
-//!         let mut next = tuner.clone();
-//!         let answer = next.set_frequency(hz, &Script::new(outcomes.clone(), replies.clone()));
-//!         let Some(entry) = answer.transcript.get(taken) else {
-//!             *tuner = next;
-//!             return answer;
-//!         };
-//!         let (done, bytes) = take(&entry);
-//!         outcomes[taken] = u8::from(!done);
-//!         if matches!(entry.kind, EntryKind::I2cRead | EntryKind::BlockRead) {
-//!             let wanted = entry.bytes.len();
-//!             replies[read..read + wanted].copy_from_slice(&bytes);
-//!             read += wanted;
+//! /// What talks to the hardware.
+//! struct Usb;
+//! impl Usb {
+//!     fn write(&mut self, step: &Entry) -> Result<(), std::io::Error> {
+//!         # let _ = step;
+//!         Ok(()) // by step.kind, step.target, step.address and step.bytes
+//!     }
+//!     fn read(&mut self, step: &Entry) -> Result<Vec<u8>, std::io::Error> {
+//!         Ok(vec![0x0a; step.bytes.len()])
+//!     }
+//!     fn take(&mut self, step: &Entry) -> Outcome {
+//!         match step.kind {
+//!             EntryKind::I2cRead | EntryKind::BlockRead => self.read(step).into(),
+//!             EntryKind::Wait => {
+//!                 std::thread::sleep(std::time::Duration::from_millis(step.address.into()));
+//!                 Outcome::Done
+//!             }
+//!             _ => self.write(step).into(),
 //!         }
-//!         taken += 1;
 //!     }
 //! }
 //!
-//! // A receiver that does every step, with 0x0a in every byte: the first try finds a lock.
-//! let mut tuner = Tuner::new(TunerKind::R828d, 0x74, 28_800_000)?;
-//! let mut steps = Vec::new();
-//! let answer = tune(&mut tuner, 100_000_000, |entry| {
-//!     steps.push(entry.to_string());
-//!     (true, vec![0x0a; entry.bytes.len()])
-//! });
-//! assert_eq!(answer.result, Ok(100_000_000));
-//! assert_eq!(answer.transcript.len(), steps.len());
-//! assert_eq!(answer.lock.to_string(), "locked at try 1");
-//! assert!(tuner.has_lock());
+//! let (mut usb, mut tuner) = (Usb, Tuner::new(TunerKind::R828d, 0x74, 28_800_000)?);
+//! let answer = tuner.drive(|tuner, script| tuner.set_frequency(100_000_000, script), |step| usb.take(step));
+//! assert_eq!((answer.result, answer.lock.to_string().as_str()), (Ok(100_000_000), "locked at try 1"));
 //! # Ok::<(), Error>(())
 //! ```
 
@@ -86,6 +77,7 @@ mod parting;
 mod pll;
 mod raw;
 mod registers;
+mod rounds;
 mod script;
 mod settings;
 mod table;
@@ -98,6 +90,7 @@ pub use need::Need;
 pub use parting::{Part, Whose, parting};
 pub use pll::PllPlan;
 pub use registers::{if_freq_regs, pack_fir, resample_regs, unpack_fir};
+pub use rounds::{Outcome, Stepped, drive};
 pub use script::Script;
 pub use settings::{Settings, Settings2};
 pub use table::{Band, Table};

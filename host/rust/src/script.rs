@@ -60,6 +60,16 @@ impl Script {
         Ok(self)
     }
 
+    /// For a round: step `index` failed. The script is long enough for every call.
+    pub(crate) fn fail(&mut self, index: usize) {
+        self.outcomes[index] = 1;
+    }
+
+    /// For a round: a read gave these replies, behind those that were read before.
+    pub(crate) fn reply(&mut self, from: usize, bytes: &[u8]) {
+        self.replies[from..from + bytes.len()].copy_from_slice(bytes);
+    }
+
     /// The outcomes.
     pub fn outcomes(&self) -> &[u8] {
         &self.outcomes

@@ -1,5 +1,7 @@
 //! What this crate adds to the archive: texts, scripts, records as values. On good, bad and empty input.
-use pasetone::{Answer, Board, Driver, Entry, EntryKind, Error, InputPath, Need, Script, Transcript, Tuner, TunerKind, demod, gpio};
+use pasetone::{
+    Answer, Board, Driver, Entry, EntryKind, Error, InputPath, Need, Outcome, Script, Transcript, Tuner, TunerKind, demod, drive, gpio,
+};
 
 fn r828d() -> Tuner {
     Tuner::new(TunerKind::R828d, 0x74, 28_800_000).unwrap()
@@ -252,28 +254,52 @@ fn transcripts_print_in_words() {
     assert_eq!(format!("{:?}", Transcript::default()), "Transcript []");
 }
 
-/// A receiver that is asked step by step leaves what the whole script leaves at once, wherever it fails. The example of the crate's first page.
+/// `examples/rounds.rs` drives every call; here is what a host may do wrong, and what it is not asked.
 #[test]
-fn rounds_leave_what_one_call_leaves() {
-    for failing in (0..Script::OUTCOMES).map(Some).chain([None]) {
-        let whole = match failing {
-            Some(step) => Script::new([0; Script::OUTCOMES], [0x0a; Script::REPLIES]).failing(step).unwrap(),
-            None => Script::new([0; Script::OUTCOMES], [0x0a; Script::REPLIES]),
-        };
-        let (mut at_once, tuner) = (r828d(), r828d());
-        let wanted = at_once.set_frequency(100_000_000, &whole);
-        let (mut outcomes, mut replies, mut taken, mut read) = ([0; Script::OUTCOMES], [0; Script::REPLIES], 0, 0);
-        let (found, next) = loop {
-            let mut next = tuner.clone();
-            let answer = next.set_frequency(100_000_000, &Script::new(outcomes, replies));
-            let Some(entry) = answer.transcript.get(taken) else { break (answer, next) };
-            outcomes[taken] = whole.outcomes()[taken];
-            if entry.kind == EntryKind::I2cRead {
-                replies[read..read + entry.bytes.len()].fill(0x0a);
-                read += entry.bytes.len();
-            }
-            taken += 1;
-        };
-        assert_eq!((found, next), (wanted, at_once), "step {failing:?}");
+fn a_driven_call_takes_what_the_host_says() {
+    let mut tuner = r828d();
+    let answer = tuner.drive(|tuner, script| tuner.set_frequency(0, script), |_| panic!("a step of a call that takes none"));
+    assert_eq!((answer.result, answer.transcript.len(), &tuner), (Err(Error::Frequency), 0, &r828d()));
+    // The read of a byte: none, two, or bytes that are not said to be read are no answer.
+    for wrong in [Outcome::Read(vec![]), Outcome::Read(vec![1, 2]), Outcome::Done, Outcome::Failed] {
+        let answer = drive(|script| gpio::set_bit(0, true, script), |_| wrong.clone());
+        assert_eq!((answer.result, answer.transcript.len()), (Err(Error::Step { index: 0 }), 1), "{wrong:?}");
     }
+    // The bytes that a write is said to have read are not looked at: the read behind it has its own. Bit 1 is set in the first byte, cleared in the second.
+    let mut given = [vec![0x20], vec![0xff; 9], vec![0x0a], vec![]].into_iter();
+    let answer = drive(|script| gpio::set_output(1, script), |_| Outcome::Read(given.next().unwrap()));
+    assert_eq!(answer.result, Ok(()));
+    let bytes: Vec<_> = answer.transcript.iter().flat_map(|entry| entry.bytes).copied().collect();
+    assert_eq!(bytes, [0x20, 0x22, 0x0a, 0x08]);
+}
+
+#[test]
+fn results_are_outcomes() {
+    assert_eq!(Outcome::from(Ok::<_, Error>(())), Outcome::Done);
+    assert_eq!(Outcome::from(Err::<(), _>(Error::Rate)), Outcome::Failed);
+    assert_eq!(Outcome::from(Ok::<_, Error>(vec![7])), Outcome::Read(vec![7]));
+    assert_eq!(Outcome::from(Err::<Vec<u8>, _>("no bytes")), Outcome::Failed);
+}
+
+/// A step that fails is in the record as the call itself would leave it, and a driver's records go together.
+#[test]
+fn driven_records_are_updated_together() {
+    let (mut tuner, mut driver) = (r828d(), Driver::new(Board::V4, 28_800_000, 0, 0, 0).unwrap());
+    let (mut at_once, mut its_driver, table) = (tuner.clone(), driver.clone(), Board::V4.table());
+    let wanted = its_driver.tune_board(&mut at_once, &table, 7_000_000, &done().failing(12).unwrap());
+    let mut steps = 0;
+    let found = driver.drive(
+        &mut tuner,
+        |driver, tuner, script| driver.tune_board(tuner, &table, 7_000_000, script),
+        |step| {
+            steps += 1;
+            match step.kind {
+                _ if steps == 13 => Outcome::Failed,
+                EntryKind::BlockRead => Outcome::Read(vec![0]),
+                _ => Outcome::Done,
+            }
+        },
+    );
+    assert_eq!(found.result, Err(Error::Step { index: 12 }));
+    assert_eq!((found, tuner, driver), (wanted, at_once, its_driver));
 }
