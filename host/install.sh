@@ -41,7 +41,7 @@ libdir=\${prefix}/lib
 
 Name: pasetone
 Description: Tuner and demodulator control of an RTL2832U receiver
-Version: 6.0.0
+Version: 6.1.0
 Cflags: -I\${includedir}
 Libs: -L\${libdir} -lpasetone
 END

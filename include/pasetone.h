@@ -37,12 +37,13 @@
  * low byte first, but for the data of a transfer. The slices of one call must be disjoint: nothing checks that. Slices by `const` pointer are
  * only read. Nothing is kept between calls and nothing is allocated, so calls for different receivers may run side by side.
  *
- * Refusals. The reply's `refusal` is 0 or one of the numbers below, in this order: a given record that is none (1); an argument (1 to 4, 6 and 7; 13
- * after 3 and 4, 15 after 12); lent slices too short: room, and the slices for records and bytes that come back (8), outcomes (9), replies (10); then the
- * steps (11, or 2 in the PLL of a tuning). Settings on file are refused by their edition (16), then for the rest (17), then for an IF that a move
+ * Refusals. The reply's `refusal` is 0 or one of the numbers below, in this order: a command that is none (14); a given record that is none (1); an argument
+ * (1 to 4, 6 and 7; 13 after 3 and 4, 15 after 12); lent slices too short: room, and the slices for records and bytes that come back (8), outcomes (9), replies
+ * (10); then the steps (11, or 2 in the PLL of a tuning). Settings on file are refused by their edition (16), then for the rest (17), then for an IF that a move
  * cannot say (18), then 8. A malformed table of bands is refused (19) behind a record that is none (1), before a rate (3, 13) and before a frequency that it
- * has no plan for (2), then 8. Refused before any step: value, index and count are 0, and every lent byte is as it was. Refused by a step: value 0, and the section and the next records are written, since
- * the steps taken stand. `pasetone_stands` tells the two apart.
+ * has no plan for (2), then 8. Refused before any step: value, index and count are 0, and every lent byte is as it was, but for the stream bytes of `feed`, which
+ * a refused command has left. Refused by a step: value 0, and the section and the next records are written, since the steps taken stand. `pasetone_stands` tells
+ * the two apart.
  */
 #ifndef PASETONE_H
 #define PASETONE_H
@@ -70,6 +71,7 @@ extern "C" {
 #define PASETONE_STEP 11        /* a step failed: `index` says which entry */
 #define PASETONE_SECTION 12     /* bytes that do not end in a section */
 #define PASETONE_RATIO 13       /* a rate that the resampler cannot hold: xtal * 2^22 / rate is below 4, 2^29 or more, or its bits 27 and 28 differ */
+#define PASETONE_COMMAND 14     /* a command with an operation that is none, or with a nonzero byte past its argument */
 #define PASETONE_EXPANSION 15   /* an entry that has no setup packets of its own, or bytes that no section expands to */
 #define PASETONE_EDITION 16     /* settings of another edition */
 #define PASETONE_SETTINGS 17    /* bytes that do not end in settings of that edition, or a kind, board or gain index that settings do not have */
@@ -262,6 +264,22 @@ typedef struct {
     uint32_t intermediate; /* the IF in Hz, any */
     uint32_t refusal;      /* 0, or 16 or 17: then the other fields are 0 */
 } pasetone_settings_2;
+
+/*
+ * What a feeding answers: 48 bytes without padding. Where it completed a command, all but `used`, `completed` and `pending` is that call's own answer. Where it
+ * did not, `value`, `index`, `count`, `tries` and `locked` are 0, and `refusal` is 0, or 1 for stream bytes that are none.
+ */
+typedef struct {
+    uint64_t value;
+    uint64_t index;
+    uint64_t used;      /* bytes taken from the chunk's start */
+    uint32_t refusal;
+    uint32_t count;     /* entries in the section; where it is not 0, the section is written */
+    uint32_t tries;     /* of operation 1, as a tuning tells them; else 0 */
+    uint32_t locked;
+    uint32_t completed; /* 1 where a command was completed, done or refused, else 0 */
+    uint32_t pending;   /* bytes that wait in the stream bytes for the rest of their command, 0 to 8 */
+} pasetone_feed_reply;
 
 /* The library's version: major * 65536 + minor * 256 + patch. Refuses nothing. */
 uint32_t pasetone_version(void);
@@ -603,6 +621,60 @@ pasetone_reply pasetone_read_packets(const uint8_t *packets, size_t packets_len,
  * Refuses 12 (any section, or bytes before them that are none), 8.
  */
 pasetone_reply pasetone_restore(const uint8_t *sections, size_t sections_len, uint8_t address, uint8_t *out, size_t out_len);
+
+/*
+ * ---- Commands fed as they arrive ----
+ * A command is nine bytes: an operation, then its argument in eight bytes, low byte first, those above it zero.
+ *
+ *   operation       argument                  call
+ *   1 frequency     u64, Hz                   set_frequency: the tuner's tune, no board's. The driver's frequency stays
+ *   2 rate          u32                       set_sample_rate, with the table
+ *   3 gain          binary32 bits, dB         set_gain; every NaN is the one NaN
+ *   4 gain index    u8                        set_gain_by_index: 29 to 255 are 28
+ *   5 bandwidth     u32, Hz                   set_bandwidth
+ *   6 correction    i32, four bytes           set_ppm, of both records
+ *   7 reload        0                         reload
+ *
+ * The stream bytes are what a host keeps between chunks: how many bytes are pending (0 to 8), then eight bytes, the pending ones first and zeros behind them.
+ * Nine zeros are a fresh stream. Cuts can't be seen: however a stream is chopped, the same calls are made, given the same script and room for each command.
+ * A host's loop, which lends each command its own; room lent behind the last section leaves sections end to end, as `restore` takes them:
+ *
+ *   while (n > 0) {
+ *       pasetone_feed_reply r;
+ *       lend(number, &outcomes, &replies, &room);
+ *       r = pasetone_feed(stream, 9, driver, 29, tuner, 78, table, t, bytes, n, outcomes, o, replies, p, room, m);
+ *       if (!r.completed && r.refusal != 0) break;         (the stream bytes are none)
+ *       if (r.completed) answer(number++, r, room);        (done or refused: the next one runs)
+ *       bytes += r.used;
+ *       n -= r.used;
+ *   }
+ *
+ * On a receiver each round of a command has copies of the stream bytes and of both records; those of the last round take the place of the kept ones.
+ */
+#define PASETONE_STREAM_SIZE 9
+#define PASETONE_COMMAND_SIZE 9
+#define PASETONE_OPERATION_FREQUENCY 1
+#define PASETONE_OPERATION_RATE 2
+#define PASETONE_OPERATION_GAIN 3
+#define PASETONE_OPERATION_GAIN_INDEX 4
+#define PASETONE_OPERATION_BANDWIDTH 5
+#define PASETONE_OPERATION_CORRECTION 6
+#define PASETONE_OPERATION_RELOAD 7
+
+/*
+ * Takes a chunk of the stream up to one completed command. CHANGES stream bytes, driver and tuner where they lie. While the pending bytes and the chunk are
+ * fewer than nine, the chunk joins the pending bytes, and nothing else is looked at or changed. Else the command's last bytes are taken, nothing is pending any
+ * more, and the command runs on both records with these outcomes, replies and room, of which its call asks what it asks for when it is called by itself; the
+ * rest of the chunk is for the next feeding. A record changes where that call would have written its next one: done, or once steps were taken. So a refused
+ * command is answered and gone, with its nine bytes. The table is looked at by operation 2 alone. Refuses 1 (stream bytes that are none: then nothing is used
+ * and nothing changes; behind 14, either record, for every operation), 14, 19 (operation 2), 2, 3, 4, 13, 8, 9, 10, 11 (each as the call does).
+ */
+pasetone_feed_reply pasetone_feed(uint8_t *stream, size_t stream_len, uint8_t *driver, size_t driver_len, uint8_t *tuner, size_t tuner_len,
+                                  const uint8_t *table, size_t table_len, const uint8_t *chunk, size_t chunk_len, const uint8_t *outcomes,
+                                  size_t outcomes_len, const uint8_t *replies, size_t replies_len, uint8_t *room, size_t room_len);
+
+/* Value: how many bytes of a command are pending, 0 to 8; at the end of a stream, the length of the one that is not whole. Refuses 1 (bytes that are none). */
+pasetone_reply pasetone_stream_pending(const uint8_t *stream, size_t stream_len);
 
 #ifdef __cplusplus
 }

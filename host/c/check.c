@@ -12,6 +12,9 @@
 #define SAME_AT_COMPILE_TIME(name, a, b) typedef char name[(a) == (b) ? 1 : -1]
 SAME_AT_COMPILE_TIME(reply_is_24, sizeof(pasetone_reply), 24);
 SAME_AT_COMPILE_TIME(tune_reply_is_32, sizeof(pasetone_tune_reply), 32);
+SAME_AT_COMPILE_TIME(feed_reply_is_48, sizeof(pasetone_feed_reply), 48);
+SAME_AT_COMPILE_TIME(feed_reply_refusal_at_24, offsetof(pasetone_feed_reply, refusal), 24);
+SAME_AT_COMPILE_TIME(feed_reply_pending_at_44, offsetof(pasetone_feed_reply, pending), 44);
 SAME_AT_COMPILE_TIME(section_is_24, sizeof(pasetone_section), 24);
 SAME_AT_COMPILE_TIME(settings_1_is_48, sizeof(pasetone_settings_1), 48);
 SAME_AT_COMPILE_TIME(settings_1_refusal_at_40, offsetof(pasetone_settings_1, refusal), 40);
@@ -85,7 +88,7 @@ static void looked(const char *what, pasetone_tune_reply reply, uint32_t tries, 
 static void check_making(void)
 {
     uint8_t old[105] = {0};
-    same("version", pasetone_version(), 0x00060000);
+    same("version", pasetone_version(), 0x00060100);
     done("fresh tuner", pasetone_tuner_new(PASETONE_R828D, 0x74, 28800000, TUNER), 0, 0);
     same("fresh kind", tuner[PASETONE_TUNER_KIND], PASETONE_R828D);
     same("fresh address", tuner[PASETONE_TUNER_ADDRESS], 0x74);
@@ -580,6 +583,86 @@ static void check_settings_2(void)
     same_bytes("as it was", back, one, sizeof one);
 }
 
+static uint8_t stream[PASETONE_STREAM_SIZE];
+
+static pasetone_feed_reply fed(const uint8_t *chunk, size_t n)
+{
+    return pasetone_feed(stream, sizeof stream, DRIVER, TUNER, TABLE, chunk, n, OUTCOMES, REPLIES, ROOM);
+}
+
+/* Of one feeding: its refusal, entries, bytes used, whether a command was completed, bytes pending. */
+static void answered(const char *what, pasetone_feed_reply reply, uint32_t refusal, uint32_t count, uint64_t used, uint32_t completed, uint32_t pending)
+{
+    same(what, reply.refusal, refusal);
+    same(what, reply.count, count);
+    same(what, reply.used, used);
+    same(what, reply.completed, completed);
+    same(what, reply.pending, pending);
+    done(what, pasetone_stream_pending(stream, sizeof stream), pending, 0);
+}
+
+/* Document 02, #105: a command in two chunks and the next one behind it, and stream bytes that are none. */
+static void check_stream(void)
+{
+    static const uint8_t two[18] = {5, 0x00, 0x40, 0x1f, 0, 0, 0, 0, 0, 4, 99}, held[PASETONE_STREAM_SIZE] = {4, 5, 0x00, 0x40, 0x1f};
+    static const uint8_t none[][PASETONE_STREAM_SIZE] = {{9}, {255}, {0, 1}, {4, 5, 6, 7, 8, 9}, {8, 0, 0, 0, 0, 0, 0, 0, 0}};
+    uint8_t direct[PASETONE_TUNER_SIZE], section[PASETONE_TUNE_ROOM];
+    size_t i;
+    done("bandwidth, by itself", pasetone_set_bandwidth(TUNER, 2048000, OUTCOMES, section, sizeof section, direct, sizeof direct), 0, 3);
+    answered("four bytes", fed(two, 4), PASETONE_DONE, 0, 4, 0, 4);
+    same_bytes("four bytes are pending", stream, held, sizeof held);
+    answered("the other five, of fourteen", fed(two + 4, 14), PASETONE_DONE, 3, 5, 1, 0);
+    same_bytes("its section", room, section, PASETONE_BANDWIDTH_ROOM);
+    same_bytes("its record", tuner, direct, sizeof tuner);
+    answered("gain index 99", fed(two + 9, 9), PASETONE_DONE, 7, 9, 1, 0);
+    done("is index 28", pasetone_get_gain(TUNER), 0x42466666, 0);
+    for (i = 0; i < sizeof none / sizeof none[0] - 1; i++) {
+        memcpy(stream, none[i], sizeof stream);
+        same("no stream", fed(two, 18).refusal, PASETONE_SETUP);
+        same("no stream: nothing is used", fed(two, 18).used | fed(two, 18).completed, 0);
+        same_bytes("no stream: as it was", stream, none[i], sizeof stream);
+        refused("no stream: pending", pasetone_stream_pending(stream, sizeof stream), PASETONE_SETUP);
+    }
+    memcpy(stream, none[i], sizeof stream);
+    done("eight zeros are pending", pasetone_stream_pending(stream, sizeof stream), 8, 0);
+    answered("operation 0", fed(two + 8, 1), PASETONE_COMMAND, 0, 1, 1, 0);
+    refused("eight bytes are no stream", pasetone_stream_pending(stream, 8), PASETONE_SETUP);
+}
+
+/* What a command is refused by, in order: 14 before a record that is none, that before its call's own; the stream is empty behind each. */
+static void check_commands(void)
+{
+    static const struct {
+        uint8_t bytes[9];
+        uint32_t refusal;
+    } all[] = {
+        {{8}, PASETONE_COMMAND},
+        {{7, 1}, PASETONE_COMMAND},
+        {{4, 0, 1}, PASETONE_COMMAND},
+        {{6, 0xff, 0xff, 0xff, 0xff, 0xff, 0xff, 0xff, 0xff}, PASETONE_COMMAND},
+        {{2, 0, 0, 0, 0, 1}, PASETONE_COMMAND},
+        {{1}, PASETONE_FREQUENCY},
+        {{1, 0xff, 0xff, 0xff, 0xff, 0xff, 0xff, 0xff, 0xff}, PASETONE_FREQUENCY},
+        {{2}, PASETONE_RATE},
+        {{2, 1}, PASETONE_RATIO},
+        {{6, 0, 0, 0, 0x80}, PASETONE_CORRECTION},
+    };
+    uint8_t before[PASETONE_TUNER_SIZE];
+    size_t i;
+    memcpy(before, tuner, sizeof before);
+    for (i = 0; i < sizeof all / sizeof all[0]; i++) {
+        answered("a refused command", fed(all[i].bytes, 9), all[i].refusal, 0, 9, 1, 0);
+        same_bytes("a refused command: the record", tuner, before, sizeof tuner);
+        driver[0] = 2;
+        answered("no driver", fed(all[i].bytes, 9), all[i].refusal == PASETONE_COMMAND ? PASETONE_COMMAND : PASETONE_SETUP, 0, 9, 1, 0);
+        driver[0] = PASETONE_V4;
+    }
+    v4[24] = 2;
+    answered("no table, and no rate", fed(all[7].bytes, 9), PASETONE_TABLE, 0, 9, 1, 0);
+    answered("no table, no matter", fed(all[5].bytes, 9), PASETONE_FREQUENCY, 0, 9, 1, 0);
+    v4[24] = 1;
+}
+
 int main(void)
 {
     check_making();
@@ -597,6 +680,8 @@ int main(void)
     check_parting();
     check_settings_1();
     check_settings_2();
+    check_stream();
+    check_commands();
     printf("check: %u checks, %u faults\n", checks, faults);
     return faults == 0 ? 0 : 1;
 }

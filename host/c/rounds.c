@@ -246,6 +246,17 @@ CALL(rate_xtal, pasetone_set_sample_rate_xtal(2048000, 28800000, OUTCOMES, ROOM)
 CALL(gpio_output, pasetone_set_gpio_output(5, OUTCOMES, REPLIES, ROOM))
 CALL(gpio_bit, pasetone_set_gpio_bit(5, 1, OUTCOMES, REPLIES, ROOM))
 
+/* A command changes its records where they lie, so each round has copies of them, which `make` has laid out. */
+static pasetone_tune_reply feed(struct host *h)
+{
+    static const uint8_t command[PASETONE_COMMAND_SIZE] = {PASETONE_OPERATION_FREQUENCY, 0x60, 0xf9, 0x18, 0x06}; /* 102,300,000 Hz */
+    uint8_t stream[PASETONE_STREAM_SIZE] = {0};
+    pasetone_feed_reply r =
+        pasetone_feed(stream, sizeof stream, NEXT_DRIVER, NEXT, TABLE, command, sizeof command, OUTCOMES, REPLIES, ROOM);
+    pasetone_tune_reply reply = {r.value, r.index, r.refusal, r.count, r.tries, r.locked};
+    return reply;
+}
+
 /* In the order of pasetone.h. */
 static const struct call calls[] = {
     {"initialize", initialize},
@@ -272,6 +283,7 @@ static const struct call calls[] = {
     {"set_sample_rate_xtal", rate_xtal},
     {"set_gpio_output", gpio_output},
     {"set_gpio_bit", gpio_bit},
+    {"feed, operation 1", feed},
 };
 
 /* A receiver whose chip is initialised, and its host. */

@@ -41,6 +41,20 @@ static pasetone_reply run_hop(struct attempt *a)
     return reply;
 }
 
+static pasetone_reply run_feed(struct attempt *a)
+{
+    pasetone_feed_reply told = pasetone_feed(S(STREAM), S(DRIVER), S(TUNER), S(INPUT), S(CHUNK), S(OUTCOMES), S(REPLIES), S(ROOM));
+    pasetone_reply reply = {told.value, told.index, told.refusal, told.count};
+    a->tries = told.tries;
+    a->locked = told.locked;
+    a->fed.used = told.used;
+    a->fed.completed = told.completed;
+    a->fed.pending = told.pending;
+    return reply;
+}
+
+RUN(run_pending, pasetone_stream_pending(S(STREAM)))
+
 /* A section's start as value; `zero` as index. */
 static pasetone_reply run_read(struct attempt *a)
 {
@@ -180,6 +194,12 @@ static uint32_t read_args(const struct attempt *a)
     return read_model(a->before[INPUT], a->n[INPUT], &start, &count);
 }
 
+static uint32_t stream_args(const struct attempt *a)
+{
+    uint64_t held;
+    return stream_model(a->before[STREAM], a->n[STREAM], &held);
+}
+
 static uint32_t parting_args(const struct attempt *a)
 {
     uint64_t value, count;
@@ -240,7 +260,7 @@ static uint32_t table_args(const struct attempt *a)
     static uint64_t name(const struct attempt *a) { return (void)a, (expression); }
 
 VALUE(nothing, 0)
-VALUE(version_value, 0x00060000)
+VALUE(version_value, 0x00060100)
 VALUE(asked, a->arg[0])
 VALUE(gain_set, number_at(a->at[NEXT] + PASETONE_TUNER_GAIN, 4))
 VALUE(gain_held, number_at(a->before[TUNER] + PASETONE_TUNER_GAIN, 4))
@@ -260,6 +280,13 @@ static uint64_t start_value(const struct attempt *a)
     uint64_t start, count;
     read_model(a->before[INPUT], a->n[INPUT], &start, &count);
     return start;
+}
+
+static uint64_t pending_value(const struct attempt *a)
+{
+    uint64_t held;
+    stream_model(a->before[STREAM], a->n[STREAM], &held);
+    return held;
 }
 
 static uint64_t part_value(const struct attempt *a)
@@ -359,5 +386,7 @@ const struct call calls[] = {
     {"expand", EXPANDING, HAS(INPUT) | HAS(OUT), 0, 0, 0, "12 15 8", run_expand, measured_args, measured_value},
     {"read_packets", HEARING, HAS(INPUT) | HAS(OUT), 0, 0, 0, "15 8", run_hear, measured_args, measured_value},
     {"restore", RESTORING, HAS(INPUT) | HAS(OUT), 0, 0, 0, "12 8", run_restore, measured_args, measured_value},
+    {"feed", FEEDING, HAS(STREAM) | HAS(DRIVER) | HAS(TUNER) | HAS(INPUT) | HAS(CHUNK) | FREE | HAS(REPLIES), 0, 0, 0, "1 14 19 2 3 4 13 8 9 10 11", run_feed, any, nothing},
+    {"stream_pending", COMMON, HAS(STREAM), 0, 0, 0, "1", run_pending, stream_args, pending_value},
 };
 const unsigned call_count = sizeof calls / sizeof *calls;

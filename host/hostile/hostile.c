@@ -5,7 +5,7 @@
  *   - reply, section and script agree, and the reader accepts the section (judge.c);
  *   - given slices, bytes past what was written, and bytes beside each slice are as they were;
  *   - the same call, repeated over other memory, does the same (every eighth: nothing is kept between calls).
- * At the end, whether each function was met done and with each refusal that pasetone.h lists for it, and with no other (1,000,000 calls or more).
+ * At the end, whether each function was met done and with each refusal that pasetone.h lists for it, and with no other (2,000,000 calls or more).
  *
  * What finds what. The archive is not built with sanitizers, so they see this program only. An access of the archive past a slice is found by
  * the pages without access (memory.c), or by valgrind with `--memory heap` in a build without sanitizers; a write that stays inside the slice's
@@ -61,6 +61,20 @@ static void on_signal(int number)
 static int testing(const char *name)
 {
     return strcmp(self_test, name) == 0;
+}
+
+/* Self-tests that damage what a feeding left. */
+static void spoil_feed(void)
+{
+    if (testing("used") && now.fed.completed) {
+        now.fed.used++;
+    } else if (testing("pending") && now.reply.refusal == 14) {
+        now.at[STREAM][0] = 1;
+    } else if (testing("command") && now.reply.refusal == 14) {
+        now.reply.refusal = 1;
+    } else if (testing("left") && now.reply.refusal == 11 && now.reply.index > 0) {
+        memcpy(now.at[TUNER], now.before[TUNER], PASETONE_TUNER_SIZE);
+    }
 }
 
 /* Self-tests that damage what a call left. */
@@ -125,15 +139,20 @@ static void run_once(void)
         now.at[ROOM] -= 16;
     }
     now.tries = now.locked = 0;
+    memset(&now.fed, 0, sizeof now.fed);
     now.reply = now.call->run(&now);
     spoil();
+    if (now.call->way == FEEDING) {
+        spoil_feed();
+    }
 }
 
 /* Once more over other memory: reply and all bytes must be the same. */
 static const char *repeat(void)
 {
     pasetone_reply reply = now.reply;
-    uint32_t tries = now.tries, locked = now.locked;
+    uint32_t tries = now.tries, locked = now.locked, completed = now.fed.completed, pending = now.fed.pending;
+    uint64_t used = now.fed.used;
     const char *wrong = NULL;
     int slot;
     for (slot = 0; slot < SLOTS; slot++) {
@@ -152,7 +171,8 @@ static const char *repeat(void)
             wrong = "repeated, it left other bytes";
         }
     }
-    if (memcmp(&reply, &now.reply, sizeof reply) != 0 || tries != now.tries || locked != now.locked) {
+    if (memcmp(&reply, &now.reply, sizeof reply) != 0 || tries != now.tries || locked != now.locked || used != now.fed.used ||
+        completed != now.fed.completed || pending != now.fed.pending) {
         return "repeated, it answered something else";
     }
     return wrong;
@@ -170,6 +190,7 @@ static const char *one_call(void)
     }
     digest = (digest ^ now.reply.value) * 0x100000001b3u + (now.reply.index << 32 ^ (uint64_t)now.reply.refusal << 16 ^ now.reply.count);
     digest += (uint64_t)now.tries << 48 ^ (uint64_t)now.locked << 56;
+    digest += now.fed.used << 8 ^ (uint64_t)now.fed.completed << 24 ^ (uint64_t)now.fed.pending << 40;
     met[which][now.reply.refusal < NUMBERS ? now.reply.refusal : NUMBERS]++;
     entries_made += now.reply.count;
     if (wrong == NULL) {
@@ -212,7 +233,7 @@ static const char *seen_all(uint64_t total)
     unsigned i;
     for (i = 0; i < call_count && wrong == NULL; i++) {
         now.call = &calls[i];
-        wrong = seen(i, total >= 1000000);
+        wrong = seen(i, total >= 2000000);
     }
     return wrong;
 }

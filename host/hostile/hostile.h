@@ -8,7 +8,7 @@
 #include "pasetone.h"
 
 /* The slices that calls take. */
-enum slot { TUNER, DRIVER, INPUT, SECOND, OUTCOMES, REPLIES, ROOM, NEXT, NEXT_DRIVER, OUT, SLOTS };
+enum slot { TUNER, DRIVER, INPUT, SECOND, STREAM, CHUNK, OUTCOMES, REPLIES, ROOM, NEXT, NEXT_DRIVER, OUT, SLOTS };
 #define HAS(slot) (1u << (slot))
 
 /* Fields of settings on file. */
@@ -32,6 +32,7 @@ enum way {
     BANDS,     /* plans by the table in INPUT */
     BUILT_IN,  /* answers a board's table */
     RATING,    /* plans the driver's frequency by the table in INPUT */
+    FEEDING,   /* runs the command that CHUNK completes on records that it changes where they lie; the table is in INPUT */
     HOPPING,   /* a tuning by the table in INPUT; may be refused 2 by the PLL */
     EXPANDING, /* answers as many bytes as its input asks for, as do those behind it */
     HEARING,
@@ -61,6 +62,10 @@ struct attempt {
     size_t told[SLOTS];     /* how long the call is told it is: n, but for a self-test */
     pasetone_reply reply;
     uint32_t tries, locked; /* of a tuning's reply */
+    struct {
+        uint64_t used;
+        uint32_t completed, pending;
+    } fed; /* of a feeding's */
 };
 
 enum memory { MIXED, HEAP, AT_END, AT_START };
@@ -145,6 +150,12 @@ uint32_t hop_model(const struct attempt *a);
 const char *judge_hop(const struct attempt *a);
 /* the plan or the table that a done call must have left at the start of OUT */
 const char *judge_bands(const struct attempt *a);
+
+/* stream.c: commands as document 02 has them. Stream bytes: 0 with how many are pending, or 1. */
+uint32_t stream_model(const uint8_t *stream, size_t n, uint64_t *held);
+size_t feed_need(const struct attempt *a, enum slot slot);
+void make_feed(struct attempt *a);
+const char *judge_feed(const struct attempt *a);
 
 /* judge.c: what is wrong, or a null pointer */
 const char *judge(const struct attempt *a);

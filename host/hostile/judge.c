@@ -233,7 +233,7 @@ static const char *judge_stepless(const struct attempt *a)
     return a->reply.refusal == 0 && a->reply.count == count ? NULL : "refused, or a wrong count of entries";
 }
 
-const char *judge(const struct attempt *a)
+static const char *judge_call(const struct attempt *a)
 {
     const pasetone_reply *r = &a->reply;
     uint32_t before = refusal_before_steps(a);
@@ -268,4 +268,9 @@ const char *judge(const struct attempt *a)
         wrong = judge_hop(a);
     }
     return wrong != NULL ? wrong : judge_next(a);
+}
+
+const char *judge(const struct attempt *a)
+{
+    return a->call->way == FEEDING ? judge_feed(a) : judge_call(a);
 }

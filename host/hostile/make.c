@@ -24,7 +24,7 @@ void make_records(void)
 void keep_records(const struct attempt *a)
 {
     uint64_t i = 8 + below(KEPT - 8);
-    if (!pasetone_stands(a->reply)) {
+    if (!pasetone_stands(a->reply) || (a->call->way == FEEDING && !a->fed.completed)) {
         return;
     }
     if (a->call->slots & HAS(NEXT)) {
@@ -34,7 +34,7 @@ void keep_records(const struct attempt *a)
     }
     if (a->call->slots & HAS(NEXT_DRIVER)) {
         memcpy(drivers[i], a->at[NEXT_DRIVER], PASETONE_DRIVER_SIZE);
-    } else if (a->call->way == PPM) {
+    } else if (a->call->way == PPM || a->call->way == FEEDING) {
         memcpy(drivers[i], a->at[DRIVER], PASETONE_DRIVER_SIZE);
     }
 }
@@ -178,7 +178,7 @@ static void make_input(struct attempt *a)
         make_sections(a);
         return;
     }
-    if (a->call->way == BANDS || a->call->way == RATING || a->call->way == HOPPING) {
+    if (a->call->way == BANDS || a->call->way == RATING || a->call->way == HOPPING || a->call->way == FEEDING) {
         make_table(a);
         return;
     }
@@ -248,6 +248,7 @@ void make_attempt(struct attempt *a, const struct call *call)
 {
     int slot, enough = below(3) > 0;
     a->call = call;
+    memset(a->n, 0, sizeof a->n);
     for (slot = 0; slot < FIELDS; slot++) {
         a->arg[slot] = hostile_number();
     }
@@ -255,7 +256,6 @@ void make_attempt(struct attempt *a, const struct call *call)
         make_fields(a);
     }
     for (slot = 0; slot < SLOTS; slot++) {
-        a->n[slot] = 0;
         if (!(call->slots & HAS(slot))) {
             continue;
         }
@@ -267,6 +267,10 @@ void make_attempt(struct attempt *a, const struct call *call)
             make_input(a);
         } else if (slot == SECOND) {
             make_second(a);
+        } else if (slot == STREAM) {
+            make_feed(a);
+        } else if (slot == CHUNK) {
+            continue; /* made with the stream */
         } else {
             a->n[slot] = make_length(needed(a, (enum slot)slot), enough || below(3) > 0);
             random_bytes(a->before[slot], a->n[slot]);

@@ -156,6 +156,9 @@ size_t needed(const struct attempt *a, enum slot slot)
     const uint8_t *bytes;
     uint8_t table[PASETONE_TABLE_FOR(PASETONE_TABLE_BANDS)];
     size_t length;
+    if (call->way == FEEDING) {
+        return feed_need(a, slot);
+    }
     switch (slot) {
     case OUTCOMES:
         return call->entries;

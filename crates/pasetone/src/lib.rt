@@ -6,6 +6,7 @@ ghost use Rattle.answers.specs.Lent.{ifInto, packInto, planByInto, planInto, re
 ghost use Rattle.answers.specs.Sheets.{pllInto, worksheetInto};
 ghost use Rattle.bands.specs.Tables.{tableInto};
 ghost use Rattle.board.specs.Numbers.{boardOf};
+ghost use Rattle.commands.specs.Over.{feedOver, feeds, pendingAnswer};
 ghost use Rattle.demod.specs.Calls.{demodCourse};
 ghost use Rattle.demod.specs.Calls.Order.{Baseband, LowIf, ZeroIf, Reset, Direct, Start, Stop, IfXtal, RateXtal};
 ghost use Rattle.device.specs.Calls.{freeResult};
@@ -28,6 +29,7 @@ ghost use Rattle.tuners.specs.Over.{after, overTuner, overTuning, tunedTo};
 ghost use Rattle.tuners.specs.Still as tuner;
 ghost use Rattle.tuners.specs.Still.{answerOver, changedInto, tableOver};
 ghost use Rattle.pasetone.specs.Told.{lent, lentBy, shown, shownBy, yes};
+use commands::FeedReply;
 use parting::Place;
 use replies::Parts;
 use replies::Reply;
@@ -37,12 +39,12 @@ use settings::Reply2;
 use settings::Settings;
 use settings::Settings2;
 
-// 6.0.0: the major number times 65,536, the minor times 256, the patch.
+// 6.1.0: the major number times 65,536, the minor times 256, the patch.
 #[no_mangle]
 pub extern "C" fn pasetone_version() -> u32
-    ensures { λ r. ⌜ r ≡ 393216 ⌝ }
+    ensures { λ r. ⌜ r ≡ 393472 ⌝ }
 {
-    0x0006_0000
+    0x0006_0100
 }
 
 // The tuner: src/tuners/r82xx.rs.
@@ -189,7 +191,7 @@ pub extern "C" fn pasetone_get_gain_table(tuner: &[u8], out: &mut [u8]) -> Reply
     replies::numbers(answer, 0)
 }
 
-// This one and `pasetone_set_ppm` change the caller's bytes where they lie.
+// This one, `pasetone_set_ppm` and `pasetone_feed` change the caller's bytes where they lie.
 #[no_mangle]
 pub extern "C" fn pasetone_apply_notch(tuner: &mut [u8], on: u8) -> Reply
     ensures { λ r. ⌜ lent r (now (tuner .exit)) ≡ lentBy (changedInto (Notch (yes on)) (now (tuner .entry)) (now (tuner .entry))) ⌝ }
@@ -290,6 +292,32 @@ pub extern "C" fn pasetone_apply_input_path(
         ≡ overTuner (boardRow (pathOf path) (now (replies .entry))) (now (outcomes .entry)) (now (tuner .entry)) (now (room .entry)) (now (next .entry)) ⌝ }
 {
     drivers::apply_input_path(tuner, path, outcomes, replies, room, next)
+}
+
+// Commands of a serial line: document 02, #105. The stream's bytes and both records are changed where they lie.
+#[no_mangle]
+pub extern "C" fn pasetone_feed(
+    stream: &mut [u8],
+    driver: &mut [u8],
+    tuner: &mut [u8],
+    table: &[u8],
+    chunk: &[u8],
+    outcomes: &[u8],
+    replies: &[u8],
+    room: &mut [u8],
+) -> FeedReply
+    ensures { λ r. ⌜ feeds r (now (stream .exit)) (now (driver .exit)) (now (tuner .exit)) (now (room .exit))
+        ≡ feedOver (now (table .entry)) (now (chunk .entry)) (now (replies .entry)) (now (outcomes .entry)) (now (stream .entry)) (now (driver .entry)) (now (tuner .entry)) (now (room .entry)) ⌝ }
+{
+    commands::feed(stream, driver, tuner, table, chunk, outcomes, replies, room)
+}
+
+#[no_mangle]
+pub extern "C" fn pasetone_stream_pending(stream: &[u8]) -> Reply
+    ensures { λ r. ⌜ r ≡ replyOf (pendingAnswer (now (stream .entry))) 0 ⌝ }
+{
+    let answer = commands::pending(stream);
+    replies::numbers(answer, 0)
 }
 
 // The demodulator: src/demod.rs.

@@ -2,7 +2,8 @@
 //! that is told in advance how the receiver will behave. host/c/rounds.c does the same in C and prints the same lines, host/rounds.txt. As `rounds lie` a receiver tells another
 //! outcome of its first step than it had, and faults must be found.
 use pasetone::{
-    Board, Driver, Entry, EntryKind, Error, InputPath, Outcome, Script, Stepped, Transcript, Tuner, TunerKind, demod, drive, gpio,
+    Board, Command, Driver, Entry, EntryKind, Error, InputPath, Outcome, Script, Stepped, Stream, Transcript, Tuner, TunerKind, demod,
+    drive, gpio,
 };
 use std::fmt::Debug;
 use std::ops::Range;
@@ -144,11 +145,20 @@ fn on_driver<A: Stepped + Debug>(host: &mut Host, way: Way, call: impl Fn(&mut D
     })
 }
 
+fn by_stream(host: &mut Host, way: Way, command: Command) -> Told {
+    let (table, sent, mut stream) = (Board::V4.table(), command.bytes(), Stream::new());
+    let mut fed = match way {
+        Way::AtOnce(script) => stream.feed(&mut host.driver, &mut host.tuner, &table, &sent, |_| script.clone()),
+        Way::InRounds(receiver) => stream.drive(&mut host.driver, &mut host.tuner, &table, &sent, |step| receiver.take(step)),
+    };
+    told(fed.remove(0))
+}
+
 type Call = fn(&mut Host, Way) -> Told;
 
 /// In the order of pasetone.h.
 #[rustfmt::skip]
-const CALLS: [(&str, Call); 24] = [
+const CALLS: [(&str, Call); 25] = [
     ("initialize", |host, way| on_tuner(host, way, Tuner::initialize)),
     ("set_frequency", |host, way| on_tuner(host, way, |tuner, script| tuner.set_frequency(102_300_000, script))),
     ("set_frequency, refused in the PLL", |host, way| on_tuner(host, way, |tuner, script| tuner.set_frequency(1, script))),
@@ -173,6 +183,7 @@ const CALLS: [(&str, Call); 24] = [
     ("set_sample_rate_xtal", |_, way| plain(way, |script| demod::set_sample_rate_xtal(2_048_000, 28_800_000, script))),
     ("set_gpio_output", |_, way| plain(way, |script| gpio::set_output(5, script))),
     ("set_gpio_bit", |_, way| plain(way, |script| gpio::set_bit(5, true, script))),
+    ("feed, operation 1", |host, way| by_stream(host, way, Command::Frequency(102_300_000))),
 ];
 
 #[derive(Default)]

@@ -87,6 +87,11 @@ impl Driver {
         &self.record
     }
 
+    /// For a call that changes the record where it lies.
+    pub(crate) fn as_bytes_mut(&mut self) -> &mut [u8; Driver::SIZE] {
+        &mut self.record
+    }
+
     /// The correction, of this driver and its tuner at once: each one's corrected reference is nominal + nominal · ppm / 1,000,000 of its own nominal, the
     /// quotient cut toward zero. No step is taken: the next tuning and the next rate go by it.
     ///

@@ -33,6 +33,8 @@ pub enum Error {
     Section,
     /// 13: a rate that the resampler cannot hold with the reference.
     Ratio,
+    /// 14: a command of a [`Stream`](crate::Stream) with an operation that is none, or with a nonzero byte past its argument.
+    Command,
     /// 15: an entry that has no setup packets of its own, or bytes that no section expands to.
     Expansion,
     /// 16: settings of another edition.
@@ -62,6 +64,7 @@ impl Error {
             11 => Error::Step { index: index as usize },
             12 => Error::Section,
             13 => Error::Ratio,
+            14 => Error::Command,
             15 => Error::Expansion,
             16 => Error::Edition,
             17 => Error::Settings,
@@ -86,6 +89,7 @@ impl Error {
             Error::Step { .. } => 11,
             Error::Section => 12,
             Error::Ratio => 13,
+            Error::Command => 14,
             Error::Expansion => 15,
             Error::Edition => 16,
             Error::Settings => 17,
@@ -109,6 +113,7 @@ impl Error {
             Error::Step { .. } => "step",
             Error::Section => "section",
             Error::Ratio => "ratio",
+            Error::Command => "command",
             Error::Expansion => "expansion",
             Error::Edition => "edition",
             Error::Settings => "settings",
@@ -143,6 +148,9 @@ impl Error {
             Error::Section => "the bytes do not end in a section: give a whole one, its trailer last",
             Error::Ratio => {
                 "the resampler cannot hold the ratio of reference and rate: with a reference of 28800000 Hz give a rate from 225001 to 300000, or from 900001"
+            }
+            Error::Command => {
+                "the command has an operation that is none, or a nonzero byte past its argument: send an operation from 1 to 7, and zeros above its argument"
             }
             Error::Expansion => {
                 "a demod register above 0xff, a page above 15, or block 0 or 6 has no setup packets of its own; or the bytes are no section's packets: give all of them, from the first"

@@ -28,7 +28,7 @@
 //! # On a receiver
 //!
 //! A script says in advance how each step ends. A receiver says it when the step is taken: [`Tuner::drive`], [`Driver::drive`] and [`drive`] make any call
-//! that way, and show each step to a closure when its turn comes.
+//! that way, and show each step to a closure when its turn comes. Commands that arrive over a line, chopped anywhere, are fed to a [`Stream`].
 //!
 //! ```
 //! use pasetone::{Entry, EntryKind, Error, Outcome, Tuner, TunerKind};
@@ -80,6 +80,7 @@ mod registers;
 mod rounds;
 mod script;
 mod settings;
+mod stream;
 mod table;
 mod transcript;
 mod tuner;
@@ -93,6 +94,7 @@ pub use registers::{if_freq_regs, pack_fir, resample_regs, unpack_fir};
 pub use rounds::{Outcome, Stepped, drive};
 pub use script::Script;
 pub use settings::{Settings, Settings2};
+pub use stream::{Command, Fed, Stream};
 pub use table::{Band, Table};
 pub use transcript::{Entries, Entry, EntryKind, Transcript};
 pub use tuner::{InputPath, Tuner, TunerKind};

@@ -35,6 +35,28 @@ impl TuneReply {
     }
 }
 
+/// `pasetone_feed_reply`: a call's answer, and what was taken of the chunk.
+#[repr(C)]
+#[derive(Clone, Copy)]
+pub struct FeedReply {
+    pub value: u64,
+    pub index: u64,
+    pub used: u64,
+    pub refusal: u32,
+    pub count: u32,
+    pub tries: u32,
+    pub locked: u32,
+    pub completed: u32,
+    pub pending: u32,
+}
+
+impl FeedReply {
+    /// What every call tells.
+    pub fn reply(self) -> Reply {
+        Reply { value: self.value, index: self.index, refusal: self.refusal, count: self.count }
+    }
+}
+
 /// `pasetone_section`.
 #[repr(C)]
 pub struct Section {
@@ -282,6 +304,25 @@ unsafe extern "C" {
     pub fn pasetone_expand(section: Bytes, s: usize, out: BytesMut, n: usize) -> Reply;
     pub fn pasetone_read_packets(packets: Bytes, p: usize, out: BytesMut, n: usize) -> Reply;
     pub fn pasetone_restore(sections: Bytes, s: usize, address: u8, out: BytesMut, n: usize) -> Reply;
+    pub fn pasetone_feed(
+        stream: BytesMut,
+        s: usize,
+        driver: BytesMut,
+        d: usize,
+        tuner: BytesMut,
+        t: usize,
+        table: Bytes,
+        b: usize,
+        chunk: Bytes,
+        c: usize,
+        outcomes: Bytes,
+        o: usize,
+        replies: Bytes,
+        p: usize,
+        room: BytesMut,
+        r: usize,
+    ) -> FeedReply;
+    pub fn pasetone_stream_pending(stream: Bytes, s: usize) -> Reply;
 }
 
 impl Reply {

@@ -40,9 +40,10 @@ mod sealed {
     pub trait Sealed {}
     impl<T> Sealed for crate::Answer<T> {}
     impl Sealed for crate::TuneAnswer {}
+    impl Sealed for crate::Fed {}
 }
 
-/// What a call with steps answers: [`Answer`] and [`TuneAnswer`].
+/// What a call with steps answers: [`Answer`] and [`TuneAnswer`], and [`Fed`](crate::Fed) a command of a stream.
 pub trait Stepped: sealed::Sealed {
     /// The steps taken.
     fn transcript(&self) -> &Transcript;
@@ -61,7 +62,7 @@ impl Stepped for TuneAnswer {
 }
 
 /// The rounds of a call, whose answer comes with the records that it leaves: those of the last round are handed back.
-fn rounds<A: Stepped, R>(call: impl Fn(&Script) -> (A, R), mut take: impl FnMut(&Entry<'_>) -> Outcome) -> (A, R) {
+pub(crate) fn rounds<A: Stepped, R>(call: impl Fn(&Script) -> (A, R), mut take: impl FnMut(&Entry<'_>) -> Outcome) -> (A, R) {
     let (mut script, mut taken, mut read) = (Script::all_done(), 0, 0);
     loop {
         let (answer, records) = call(&script);

@@ -341,6 +341,11 @@ impl Tuner {
     pub(crate) fn replace(&mut self, record: [u8; Tuner::SIZE]) {
         self.record = record;
     }
+
+    /// For a call that changes the record where it lies.
+    pub(crate) fn as_bytes_mut(&mut self) -> &mut [u8; Tuner::SIZE] {
+        &mut self.record
+    }
 }
 
 impl TryFrom<&[u8]> for Tuner {

@@ -108,7 +108,7 @@ fn errors_say_what_to_do() {
         Error::Section,
     ];
     // 5 is not used.
-    for (number, error) in (1..).filter(|&number| number != 5).zip(all) {
+    for (number, error) in (1..).filter(|&number| number != 5).zip(all).chain([(14, Error::Command)]) {
         assert_eq!(error.number(), number);
         let text = error.to_string();
         assert!(text.starts_with(&format!("refusal {number} ({})", error.word())), "{text}");

@@ -1,7 +1,7 @@
 //! Document 01's worked numbers, and what a call leaves where it is refused.
 use pasetone::{
-    Band, Board, Driver, EntryKind, Error, InputPath, Lock, Need, PllPlan, Script, Table, Transcript, Tuner, TunerKind, Whose, demod, gpio,
-    if_freq_regs, pack_fir, parting, resample_regs, unpack_fir,
+    Answer, Band, Board, Command, Driver, EntryKind, Error, InputPath, Lock, Need, Outcome, PllPlan, Script, Stream, Table, Transcript,
+    Tuner, TunerKind, Whose, demod, gpio, if_freq_regs, pack_fir, parting, resample_regs, unpack_fir,
 };
 
 fn r828d() -> Tuner {
@@ -477,8 +477,105 @@ fn errors_have_numbers_and_words() {
     assert_eq!((Error::Coefficient.number(), Error::Coefficient.word()), (7, "coefficient"));
     assert_eq!((Error::Ratio.number(), Error::Ratio.word()), (13, "ratio"));
     assert_eq!(Transcript::read(&[]).map(|_| ()).unwrap_err().number(), 12);
-    assert_eq!(pasetone::version(), (6, 0, 0));
+    assert_eq!(pasetone::version(), (6, 1, 0));
+    assert_eq!((Error::Command.number(), Error::Command.word()), (14, "command"));
     assert_eq!((Error::Expansion.number(), Error::Expansion.word()), (15, "expansion"));
+}
+
+/// #105: "one operation byte and eight argument bytes, low byte first"; "unused high bytes are zero".
+#[test]
+fn commands_as_bytes() {
+    let bytes = |command: Command| command.bytes();
+    assert_eq!(bytes(Command::Frequency(0x0102_0304_0506_0708)), [1, 8, 7, 6, 5, 4, 3, 2, 1]);
+    assert_eq!(bytes(Command::Rate(2_048_000)), [2, 0x00, 0x40, 0x1f, 0, 0, 0, 0, 0]);
+    assert_eq!(bytes(Command::Gain(-1.0)), [3, 0, 0, 0x80, 0xbf, 0, 0, 0, 0]);
+    assert_eq!(bytes(Command::GainIndex(255)), [4, 255, 0, 0, 0, 0, 0, 0, 0]);
+    assert_eq!(bytes(Command::Bandwidth(u32::MAX)), [5, 255, 255, 255, 255, 0, 0, 0, 0]);
+    assert_eq!(bytes(Command::Correction(-1)), [6, 255, 255, 255, 255, 0, 0, 0, 0]);
+    assert_eq!(bytes(Command::Reload), [7, 0, 0, 0, 0, 0, 0, 0, 0]);
+}
+
+type Told = (Result<u64, Error>, Transcript, Lock);
+
+/// What the calls by themselves answer to the stream below, and the records that they leave.
+fn called(scripts: &[Script]) -> (Vec<Told>, Driver, Tuner) {
+    let (mut tuner, mut driver) = (r828d(), Driver::new(Board::V4, 28_800_000, 0, 7_000_000, 0).unwrap());
+    let bits = |answer: Answer<f32>| (answer.result.map(|db| db.to_bits().into()), answer.transcript, Lock::default());
+    let none = |answer: Answer<()>| (answer.result.map(|()| 0), answer.transcript, Lock::default());
+    let mut all = vec![none(driver.set_sample_rate(&mut tuner, &Board::V4.table(), 2_048_000, &scripts[0]))];
+    all.push((Err(Error::Command), Transcript::default(), Lock::default()));
+    all.push(bits(tuner.set_gain(29.7, &scripts[2])));
+    all.push(bits(tuner.set_gain_by_index(255, &scripts[3])));
+    all.push((driver.set_ppm(&mut tuner, -50).map(|()| 0), Transcript::default(), Lock::default()));
+    let tuned = tuner.set_frequency(102_300_000, &scripts[5]);
+    all.push((tuned.result, tuned.transcript, tuned.lock));
+    all.push(none(tuner.set_bandwidth(6_500_000, &scripts[6])));
+    all.push(none(tuner.reload(&scripts[7])));
+    (all, driver, tuner)
+}
+
+/// "Feeding the stream in any cuts gives the same transcripts, answers and end record as feeding it whole"; "A refused or cut command is answered and the next
+/// one runs"; "An incomplete command at the end is reported with its length, 1 to 8, and does nothing". One command is cut by a step, one has too few outcomes.
+#[test]
+fn commands_fed_in_any_cuts() {
+    let mut sent =
+        [Command::Rate(2_048_000).bytes(), [8, 0, 0, 0, 0, 0, 0, 0, 0], Command::Gain(29.7).bytes(), Command::GainIndex(255).bytes()]
+            .concat();
+    let last = [Command::Correction(-50), Command::Frequency(102_300_000), Command::Bandwidth(6_500_000), Command::Reload];
+    sent.extend(last.map(Command::bytes).concat());
+    sent.extend(&Command::Reload.bytes()[..5]);
+    let mut scripts = vec![done(); 8];
+    scripts[2] = done().failing(3).unwrap();
+    scripts[3] = Script::new([0; 6], []);
+    scripts[5] = done().replying(7, 0x02).unwrap();
+    let (wanted, driver, tuner) = called(&scripts);
+    let results: Vec<_> = wanted.iter().map(|fed| fed.0).collect();
+    let step = Err(Error::Step { index: 3 });
+    assert_eq!(results, [Ok(0), Err(Error::Command), step, Err(Error::Outcomes), Ok(0), Ok(102_300_000), Ok(0), Ok(0)]);
+    for length in 1..=sent.len() {
+        let (mut stream, mut found) = (Stream::new(), Vec::new());
+        let (mut next, mut next_driver) = (r828d(), Driver::new(Board::V4, 28_800_000, 0, 7_000_000, 0).unwrap());
+        let mut lent = scripts.iter().cloned();
+        for chunk in sent.chunks(length) {
+            found.extend(stream.feed(&mut next_driver, &mut next, &Board::V4.table(), chunk, |_| lent.next().unwrap()));
+        }
+        assert!(found.iter().map(|fed| &fed.command[..]).eq(sent.chunks_exact(9)));
+        let found: Vec<_> = found.into_iter().map(|fed| (fed.result, fed.transcript, fed.lock)).collect();
+        assert_eq!((&found, &next_driver, &next, stream.pending()), (&wanted, &driver, &tuner, 5), "in chunks of {length}");
+    }
+}
+
+#[test]
+fn stream_bytes() {
+    assert_eq!(Stream::new().as_bytes(), &[0; 9]);
+    let (mut stream, mut tuner, mut driver) = (Stream::new(), r828d(), Driver::new(Board::V4, 28_800_000, 0, 0, 0).unwrap());
+    for k in 1..=8u8 {
+        let fed = stream.feed(&mut driver, &mut tuner, &Board::V4.table(), &[k], |_| unreachable!("no command is whole"));
+        assert_eq!((fed.len(), stream.pending(), stream.as_bytes()[0]), (0, usize::from(k), k));
+        assert_eq!(Stream::from_bytes(stream.as_bytes()), Ok(stream.clone()));
+    }
+    assert_eq!((format!("{stream:?}").as_str(), &tuner), ("Stream([1, 2, 3, 4, 5, 6, 7, 8])", &r828d()));
+    // Another length, more than eight pending, a byte behind the pending ones.
+    for none in [&[0; 8][..], &[0; 10], &[9, 1, 1, 1, 1, 1, 1, 1, 1], &[2, 1, 1, 1, 0, 0, 0, 0, 0], &[]] {
+        assert_eq!(Stream::from_bytes(none), Err(Error::Setup), "{none:?}");
+    }
+}
+
+/// A receiver whose seventh step fails: the command is cut there and closes the repeater, and the one behind it runs on what it left.
+#[test]
+fn commands_driven_on_a_receiver() {
+    let (mut stream, mut tuner, mut driver) = (Stream::new(), r828d(), Driver::new(Board::V4, 28_800_000, 0, 0, 0).unwrap());
+    let sent = [Command::Reload.bytes(), Command::Bandwidth(6_500_000).bytes()].concat();
+    let mut steps = 0;
+    let fed = stream.drive(&mut driver, &mut tuner, &Board::V4.table(), &sent, |_| {
+        steps += 1;
+        if steps == 7 { Outcome::Failed } else { Outcome::Done }
+    });
+    let mut at_once = r828d();
+    let wanted = [at_once.reload(&done().failing(6).unwrap()), at_once.set_bandwidth(6_500_000, &done())];
+    assert_eq!(fed.iter().map(|fed| fed.result).collect::<Vec<_>>(), [Err(Error::Step { index: 6 }), Ok(0)]);
+    assert!(fed.iter().map(|fed| &fed.transcript).eq(wanted.iter().map(|answer| &answer.transcript)));
+    assert_eq!((tuner, steps), (at_once, 8 + 3));
 }
 
 /// Where two nights part: a write's data count, outcomes and read data do not, and the longer one goes on.

@@ -22,6 +22,21 @@ pub struct TuneReply {
     pub locked: u32,
 }
 
+/// A feeding's answer (#105): a tune's fields, and what was taken of the chunk.
+#[repr(C)]
+#[derive(Debug, Clone, Copy, Default, PartialEq, Eq)]
+pub struct FeedReply {
+    pub value: u64,
+    pub index: u64,
+    pub used: u64,
+    pub refusal: u32,
+    pub count: u32,
+    pub tries: u32,
+    pub locked: u32,
+    pub completed: u32,
+    pub pending: u32,
+}
+
 /// What the section reader answers.
 #[repr(C)]
 #[derive(Debug, Clone, Copy, Default, PartialEq, Eq)]
@@ -129,4 +144,6 @@ unsafe extern "C" {
     pub fn pasetone_expand(section: In, sn: N, out: Out, mn: N) -> Reply;
     pub fn pasetone_read_packets(packets: In, pn: N, out: Out, mn: N) -> Reply;
     pub fn pasetone_restore(sections: In, sn: N, address: u8, out: Out, mn: N) -> Reply;
+    pub fn pasetone_feed(stream: Out, sn: N, driver: Out, dn: N, tuner: Out, tn: N, table: In, bn: N, chunk: In, cn: N, outcomes: In, on: N, replies: In, rn: N, room: Out, mn: N) -> FeedReply;
+    pub fn pasetone_stream_pending(stream: In, sn: N) -> Reply;
 }

@@ -16,8 +16,8 @@ use live::sabotage::{SPOILS, spoiled};
 use live::{document, ffi, numbers, port, raw, rules};
 use std::collections::BTreeMap;
 
-/// The version that the boundary is written against: 6.0.0.
-const VERSION: u32 = 0x0006_0000;
+/// The version that the boundary is written against: 6.1.0.
+const VERSION: u32 = 0x0006_0100;
 
 fn class(given: &Given, wanted: &Answer, tally: &mut Tally) -> Class {
     // The original has no board tune of this order: its parts answered (hops.rs), and the rest is document 02's alone.

@@ -1,0 +1,18 @@
+-- `commands::driver_copy` meets its contract. Assumes nothing.
+use denote.Ref.{now}
+use Rattle.commands.proofs.Overs.{copied}
+use borrow.Author.Needs.{needs}
+use Rattle.commands.proofs.driver_copy.Statement.{statement}
+use Rattle.commands.proofs.driver_copy.Tie as tie
+
+slice-aggregate-copy : tie.Need-slice-aggregate-copy
+slice-aggregate-copy c = search needs
+
+copy-requires : tie.Need-copy-requires
+copy-requires c κs = search needs
+
+returns : tie.Need-returns
+returns c = copied (now (c .before .before .before .before .args .driver)) _ _ (c .before .before .before .before .pre) (c .before .copy .ensures)
+
+pub driver-copy-spec : {M : Type 1} → statement M
+driver-copy-spec = tie.close (tie.spec slice-aggregate-copy copy-requires returns)
