@@ -37,7 +37,7 @@ set-done os k = go (ltb k (length os)) refl
         ap (λ (l : List ℕ). getD l k 0) (set-out os k 0 over) ∙ List·getD-eq-default os 0 over
 
 -- "all other outcomes equal"
-ok-same : (os other : List ℕ) (k : ℕ) (s : Step) → getD os k 0 ≡ getD other k 0 → okFor os k s ≡ okFor other k s
+pub ok-same : (os other : List ℕ) (k : ℕ) (s : Step) → getD os k 0 ≡ getD other k 0 → okFor os k s ≡ okFor other k s
 ok-same os other k Open h = ap (λ (o : ℕ). eqb o 0) h
 ok-same os other k Close h = ap (λ (o : ℕ). eqb o 0) h
 ok-same os other k (Send n bytes) h = ap (λ (o : ℕ). eqb o 0) h

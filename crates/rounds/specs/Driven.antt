@@ -1,0 +1,49 @@
+-- A receiver driven in rounds. include/pasetone.h: "call with what is known so far (done and 0 for the rest), take the first step that was not taken yet, put its
+-- outcome and what it read into the script, call again with the same record."
+-- Assumes nothing.
+use Prim.Native.Nat.{ℕ}
+use mathlib.Core.Path.{_≡_}
+use mathlib.Core.Bool.{_&&_, _||_, cond, true}
+use mathlib.Core.List.{List, [], _∷_, _++_}
+use lib.Dec.{eqb}
+use lib.ListN.{length, take}
+use lib.Seq.{sets}
+use Rattle.transcript.specs.declared.Entry.{Entry}
+use Rattle.transcript.specs.Entries.{zeros8}
+use Rattle.transcript.specs.Table.{isRead}
+use Rattle.chip.specs.Entries.{flagOf}
+use Rattle.chip.specs.Steps.{every}
+use Rattle.sequences.specs.Calls.{isByte}
+use Rattle.rounds.specs.Scripts.{Ask, Script, made, refusal, stepAt, took}
+
+-- a script that begins with these outcomes and replies: "what is known so far", and anything for the rest. "A script must be long enough": with it the call is
+-- not refused before any step
+pub record Knows (a : Ask) (os rs : List ℕ) (s : Script) : Type 0 where
+  pub outcomes : take (length os) (s .outcomes) ≡ os
+  pub replies : take (length rs) (s .replies) ≡ rs
+  pub taken : refusal a s ≡ 0
+
+-- a step as it ended on the receiver, with the bytes that it gave: its entry. "0 done, any other failed; a wait's is ignored"
+abbrev pub ended : Entry → ℕ → List ℕ → Entry
+ended e o bs =
+    record {
+      kind = e .kind;
+      outcome = flagOf (eqb o 0 || eqb (e .kind) 9);
+      target = e .target;
+      n = e .n;
+      address = e .address;
+      bytes = cond (isRead (e .kind)) (sets zeros8 0 bs) (e .bytes);
+    }
+
+-- rounds of a call: the outcomes and the replies known after them, and what was done on the receiver, in order. The receiver is any: nothing is said of the outcome o and of the bytes bs but that a read that is done gives n of them, and any other step none
+pub data Rounds (a : Ask) : List ℕ → List ℕ → List Entry → Type 0 where
+  begun : Rounds a [] [] []
+  round : (os rs : List ℕ) (es : List Entry) → Rounds a os rs es → (s : Script) → Knows a os rs s
+      → (e : Entry) → stepAt (length os) (made a s) ≡ e ∷ []
+      → (o : ℕ) (bs : List ℕ) → length bs ≡ cond (isRead (e .kind) && eqb o 0) (e .n) 0 → every isByte bs ≡ true
+      → Rounds a (os ++ (o ∷ [])) (rs ++ bs) (es ++ (ended e o bs ∷ []))
+
+-- what a script gives after them: the entries so far are what was done, and their reads took the replies so far
+pub record Told (a : Ask) (os rs : List ℕ) (es : List Entry) (s : Script) : Type 0 where
+  pub entries : take (length os) (made a s) ≡ es
+  pub replies : took es ≡ length rs
