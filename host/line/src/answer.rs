@@ -1,8 +1,9 @@
 //! The answer that a run ends with: its number, its words, and what to do about a refusal.
 use crate::json;
+use crate::out::Out;
 use crate::reach;
-use crate::run::{Made, Run};
-use pasetone::{Error, Plan};
+use crate::run::{Call, Made, Run};
+use pasetone::{Error, Table};
 use std::ops::RangeInclusive;
 
 pub struct Told {
@@ -17,30 +18,38 @@ pub struct Told {
     pub step: Option<(usize, usize)>,
 }
 
-/// What the words have asked for, as far as an advice hangs on it.
-pub struct Wish {
+/// What the words have asked for, as far as an answer hangs on it.
+pub struct Wish<'a> {
     pub hz: u64,
     pub rate: u32,
+    pub table: &'a Table,
     /// The file of --keep.
     pub keep: Option<String>,
 }
 
 /// The answer of the run's last call.
-pub fn of(run: &Run, plan: &Plan, wish: &Wish) -> Told {
+pub fn of(run: &Run, wish: &Wish) -> Told {
     match run.made.last() {
         Some(made) => match made.result {
-            Ok(()) => done(run, plan),
+            Ok(()) => done(run, made, wish),
             Err(error) => refused(run, made, error, wish),
         },
-        // A run makes the notch's call at least.
-        None => done(run, plan),
+        // A run makes one call at least.
+        None => simply(String::from("done")),
     }
 }
 
-fn done(run: &Run, plan: &Plan) -> Told {
-    let lock = lock(run).map_or_else(String::new, |lock| format!(", {lock}"));
-    let text = format!("done: {} steps, tuner at {} Hz{lock}", run.steps, plan.hz);
+fn simply(text: String) -> Told {
     Told { number: 0, word: "done", text, lock: None, to_do: None, step: None }
+}
+
+fn done(run: &Run, made: &Made, wish: &Wish) -> Told {
+    let lock = lock(run).map_or_else(String::new, |lock| format!(", {lock}"));
+    let what = match (made.call, wish.table.plan_tuning(wish.hz)) {
+        (Call::Reload, _) | (_, Err(_)) => String::from("every register sent again"),
+        (_, Ok(plan)) => format!("tuner at {} Hz", plan.hz),
+    };
+    simply(format!("done: {} steps, {what}{lock}", run.steps))
 }
 
 /// How the tuning's waiting for a lock went: a log is looked through for the word in capitals.
@@ -55,17 +64,18 @@ fn refused(run: &Run, made: &Made, error: Error, wish: &Wish) -> Told {
     let (text, lock, step) = match error {
         Error::Step { index } => {
             let whole = made.first + index;
-            let text = format!("{}, step {whole} of the run; {call} stopped at its own step {index}", words(error));
+            let text = format!("{}, step {whole} of the run; {call} stopped at its own step {index}", words(error, wish));
             (text, lock(run), Some((whole, index)))
         }
-        _ => (format!("{}; refused by {call}", words(error)), None, None),
+        _ => (format!("{}; refused by {call}", words(error, wish)), None, None),
     };
     Told { number: error.number(), word: error.word(), text, lock, to_do: Some(to_do(run, made, error, wish)), step }
 }
 
-fn words(error: Error) -> &'static str {
+fn words(error: Error, wish: &Wish) -> &'static str {
     match error {
         Error::Setup => "setup: a record, kind or reference is out of its range",
+        Error::Frequency if wish.table.plan_tuning(wish.hz).is_err() => "frequency: no band of the table has it",
         Error::Frequency => "frequency: 0, or one that the PLL does not reach",
         Error::Rate => "rate: 0",
         Error::Correction => "correction: the corrected reference is out of its range",
@@ -82,15 +92,15 @@ fn to_do(run: &Run, made: &Made, error: Error, wish: &Wish) -> String {
     let (call, need, left) = (made.call.name(), made.call.need(), made.left);
     match error {
         Error::Setup => String::from("give --reference from 1 to 4294967295 Hz"),
-        Error::Frequency => frequencies(run, wish.hz),
+        Error::Frequency => frequencies(run, wish),
         Error::Rate => String::from("give --rate from 1 to 4294967295"),
         Error::Correction => corrections(run),
         Error::Ratio => rates(run, wish.rate),
         Error::Outcomes => longer(call, "outcomes", need.outcomes, left.outcomes),
         Error::Replies => longer(call, "replies", need.replies, left.replies),
         Error::Step { .. } => match &wish.keep {
-            Some(file) => format!("--record {file} --initialise starts from the kept record, and sends every register again"),
-            None => String::from("keep the record (--keep FILE); then --record FILE --initialise sends every register again"),
+            Some(file) => format!("`./pasetone reload {file} --keep {file}` sends every register again"),
+            None => String::from("keep the record (--keep FILE); then `./pasetone reload FILE` sends every register again"),
         },
         other => other.to_string(),
     }
@@ -104,9 +114,12 @@ fn longer(call: &str, what: &str, need: usize, left: usize) -> String {
 }
 
 /// The frequencies next to the one asked for, below and above it, that can be reached.
-fn frequencies(run: &Run, hz: u64) -> String {
-    let Some((tuner, driver)) = &run.records else { return String::new() };
-    let next = beside(&reach::reached(tuner, driver.board()), hz);
+fn frequencies(run: &Run, wish: &Wish) -> String {
+    let Some((tuner, _)) = &run.records else { return String::new() };
+    let next = beside(&reach::reached(tuner, wish.table), wish.hz);
+    if wish.table.bands().len() == 0 {
+        return String::from("the table has no bands: give one that has");
+    }
     if next.is_empty() {
         return format!("no frequency can be reached with a reference of {} Hz: give another by --reference", tuner.corrected());
     }
@@ -138,6 +151,26 @@ fn corrections(run: &Run) -> String {
 }
 
 impl Told {
+    /// The refusal for somebody who asked for nothing else.
+    pub fn in_one_line(&self) -> String {
+        let more = |name: &str, text: &Option<String>| text.as_ref().map_or_else(String::new, |text| format!("; {name}: {text}"));
+        let (lock, to_do) = (more("lock", &self.lock), more("to do", &self.to_do));
+        format!("answer: {} {}{lock}{to_do}", self.number, self.text)
+    }
+
+    /// The lines behind a run's steps.
+    pub fn lines(&self, out: &mut Out) {
+        let answer = format!("answer: {}", self.number);
+        let answer = if self.number == 0 { answer } else { out.loud(&answer) };
+        out.line(&format!("{answer} {}", self.text));
+        if let Some(lock) = &self.lock {
+            out.line(&format!("lock: {lock}"));
+        }
+        if let Some(to_do) = &self.to_do {
+            out.line(&format!("to do: {to_do}"));
+        }
+    }
+
     pub fn json(&self, run: &Run) -> String {
         json::object(&[
             ("number", self.number.to_string()),

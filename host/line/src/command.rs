@@ -1,9 +1,9 @@
 //! The two tables, of commands and of options, and the words that are read by them. All help is made from these tables too (help.rs).
 //!
 //! A new command is a file with its `run`, a row in `COMMANDS`, and a row in `OPTIONS` for an option that none has yet.
-use crate::files::{is_standard, shown};
+use crate::files::{self, Sink, is_standard, shown};
 use crate::out::Out;
-use crate::{help, hop, show};
+use crate::{help, hop, reload, show};
 use std::ffi::{OsStr, OsString};
 use std::os::unix::ffi::OsStrExt;
 
@@ -15,6 +15,8 @@ pub struct Command {
     pub about: &'static str,
     /// The lines of its own page.
     pub more: &'static [&'static str],
+    /// Words behind `./pasetone` that a reader can try.
+    pub example: &'static str,
     pub options: &'static [Key],
     /// Does nothing where `out` is mistaken already, but for reading its words.
     pub run: fn(&Given, &mut Out),
@@ -23,17 +25,28 @@ pub struct Command {
 pub const COMMANDS: &[Command] = &[
     Command {
         name: "hop",
-        operands: "HZ",
+        operands: "[HZ]",
         about: "the calls that lead to a frequency, in words",
         more: hop::MORE,
+        example: "hop 102.3M --fail 60 --keep record --section sections",
         options: hop::OPTIONS,
         run: hop::run,
+    },
+    Command {
+        name: "reload",
+        operands: "RECORD",
+        about: "every register of a kept record, sent again",
+        more: reload::MORE,
+        example: "reload record --keep record",
+        options: reload::OPTIONS,
+        run: reload::run,
     },
     Command {
         name: "show",
         operands: "FILE..",
         about: "sections of transcripts, in words",
         more: show::MORE,
+        example: "show sections",
         options: &[Key::Json, Key::Quiet],
         run: show::run,
     },
@@ -42,6 +55,7 @@ pub const COMMANDS: &[Command] = &[
         operands: "[COMMAND]",
         about: "this page, or a command's",
         more: &["The same as `./pasetone --help` and `./pasetone COMMAND --help`."],
+        example: "help hop",
         options: &[],
         run: help::run,
     },
@@ -52,10 +66,13 @@ pub enum Key {
     Kind,
     Address,
     Board,
+    Table,
+    Settings,
     Reference,
     Ppm,
     Rate,
     Gain,
+    If,
     Initialise,
     Fail,
     Outcomes,
@@ -99,14 +116,17 @@ pub const OPTIONS: &[Opt] = &[
     row(Key::Kind, "--kind", Some("r828d|r820t"), "r828d or r820t", "the tuner's kind", "r828d"),
     row(Key::Address, "--address", Some("N"), "a number to 255 (0xff)", "its address on the bus", "0x74; r820t: 0x34"),
     row(Key::Board, "--board", Some("v4|generic"), "v4 or generic", "the board", "v4"),
+    row(Key::Table, "--table", Some("FILE"), A_SCRIPT, "the board as a table of bands, as `table write` makes it", "the board's own"),
+    row(Key::Settings, "--settings", Some("FILE"), A_SCRIPT, "what no word says is taken from these settings", "none"),
     row(Key::Reference, "--reference", Some("HZ"), "a whole number of Hz to 4294967295, as 28800000 or 28.8M", "the reference", "28.8M"),
     row(Key::Ppm, "--ppm", Some("N"), "a number from -2147483648 to 2147483647", "the reference's correction, parts per million", "not called"),
     row(Key::Rate, "--rate", Some("N"), "a whole number to 4294967295, as 2048000 or 2.4M", "samples a second", "2.048M; --record: not called"),
     row(Key::Gain, "--gain", Some("DB"), "dB from -6553.5 to 6553.5, as 29.7", "at most one digit behind the point", "29.7; --record: not called"),
+    row(Key::If, "--if", Some("HZ"), "a whole number of Hz to 4294967295, as 2300000 or 2.3M", "the IF, of tuner and demodulator", "the rate's own"),
     row(Key::Initialise, "--initialise", None, "", "initialise is called over the record of --record too", ""),
     row(Key::Fail, "--fail", Some("N"), "a step's number, to 4095", "step N fails, counted from 0 over the whole run", "none"),
     row(Key::Outcomes, "--outcomes", Some("FILE"), A_SCRIPT, "a byte for each step: 0 done, any other failed", "all done"),
-    row(Key::Replies, "--replies", Some("FILE"), A_SCRIPT, "what is read: 3 bytes for the board's path, 35 for the tuning", "a lock"),
+    row(Key::Replies, "--replies", Some("FILE"), A_SCRIPT, "what is read: 3 bytes where the board has paths, then 35", "a lock"),
     row(Key::Record, "--record", Some("FILE"), A_SCRIPT, "the record to start from, as --keep has left it", "a fresh one"),
     row(Key::Keep, "--keep", Some("FILE"), A_FILE, "the record is written there at the end, also of a stopped run", "none"),
     row(Key::Section, "--section", Some("FILE"), A_FILE, "the sections, end to end, are written there; a file there is replaced", "none"),
@@ -153,8 +173,47 @@ impl Given {
         value
     }
 
+    /// The first bytes of a file that an option names. Nothing is read where words are at fault already: standard input might wait for somebody.
+    pub fn start(&self, key: Key, most: usize, out: &mut Out) -> Option<Vec<u8>> {
+        self.read(key, out, |name| files::start(name, most))
+    }
+
+    /// All bytes of a file that an option names.
+    pub fn whole(&self, key: Key, out: &mut Out) -> Option<Vec<u8>> {
+        self.read(key, out, files::read)
+    }
+
+    fn read(&self, key: Key, out: &mut Out, read: impl Fn(&OsStr) -> Result<Vec<u8>, String>) -> Option<Vec<u8>> {
+        let name = self.word(key)?;
+        if out.is_mistaken() && is_standard(name) {
+            return None;
+        }
+        read(name).map_err(|why| out.mistake(&format!("{} {why}", option(key).name))).ok()
+    }
+
+    /// A file to be written, opened before anything is done.
+    pub fn sink(&self, key: Key, out: &mut Out) -> Option<Sink> {
+        let name = self.target(key, out)?;
+        Sink::open(name).map_err(|why| out.mistake(&format!("{} {why}", option(key).name))).ok()
+    }
+
+    /// Told where more than one of these options is to read standard input.
+    pub fn reads_once(&self, keys: &[Key], out: &mut Out) {
+        let given: Vec<&str> = keys.iter().filter(|key| self.word(**key).is_some_and(is_standard)).map(|key| option(*key).name).collect();
+        if given.len() > 1 {
+            out.mistake(&format!("standard input can be read once: give - to one of {}", given.join(" and ")));
+        }
+    }
+
+    /// Told where the files of a run's sections and of its record are one.
+    pub fn names_two_files(&self, out: &mut Out) {
+        if self.has(Key::Section) && self.word(Key::Section) == self.word(Key::Keep) {
+            out.mistake("--section and --keep name one file: name two");
+        }
+    }
+
     /// The name of a file to be written.
-    pub fn target(&self, key: Key, out: &mut Out) -> Option<&OsStr> {
+    fn target(&self, key: Key, out: &mut Out) -> Option<&OsStr> {
         let word = self.word(key)?;
         if !is_standard(word) {
             return Some(word);

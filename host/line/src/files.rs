@@ -1,5 +1,6 @@
 //! Files: read whole, from standard input too, and written so that a name never holds half of something. What goes wrong comes back as one line that
 //! says what would be right.
+use crate::out::Out;
 use std::ffi::{OsStr, OsString};
 use std::fs::{self, File, OpenOptions};
 use std::io::{self, ErrorKind, Read, Write};
@@ -134,6 +135,15 @@ impl Sink {
             self.place = None;
         }
         kept.map_err(|error| unwritten(&self.name, &error))
+    }
+}
+
+impl Sink {
+    /// The same, told as a mistake of the option that names the file.
+    pub fn keep_or_tell(self, bytes: &[u8], option: &str, out: &mut Out) {
+        if let Err(why) = self.keep(bytes) {
+            out.mistake(&format!("{option} {why}"));
+        }
     }
 }
 

@@ -57,6 +57,8 @@ fn of_command(command: &Command, out: &mut Out) {
         let default = if row.default.is_empty() { String::new() } else { format!(" ({})", row.default) };
         out.line(&format!("  {words:<20} {}{default}", row.about));
     }
+    out.line("");
+    out.line(&format!("example: ./pasetone {}", command.example));
     ends(out);
 }
 

@@ -24,6 +24,18 @@ pub fn object(fields: &[(&str, String)]) -> String {
     format!("{{{}}}", fields.join(", "))
 }
 
+/// An array with a line for each part.
+pub fn lines(parts: impl Iterator<Item = String>) -> String {
+    let parts: Vec<String> = parts.collect();
+    if parts.is_empty() { String::from("[]") } else { format!("[\n{}\n]", parts.join(",\n")) }
+}
+
+/// An object with a line for each field: all that a command prints.
+pub fn document(fields: &[(&str, String)]) -> String {
+    let fields: Vec<String> = fields.iter().map(|(name, value)| format!("{}: {value}", string(name))).collect();
+    format!("{{\n{}\n}}", fields.join(",\n"))
+}
+
 /// The value, or null.
 pub fn maybe(value: Option<impl Display>) -> String {
     value.map_or_else(|| String::from("null"), |value| value.to_string())

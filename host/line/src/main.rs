@@ -3,18 +3,24 @@
 #![forbid(unsafe_code)]
 
 mod answer;
+mod boards;
 mod command;
 mod files;
 mod help;
 mod hop;
 mod json;
+mod names;
 mod numbers;
 mod out;
 mod reach;
+mod receiver;
 mod record;
+mod registers;
+mod reload;
 mod report;
 mod rows;
 mod run;
+mod script;
 mod sections;
 mod show;
 

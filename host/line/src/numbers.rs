@@ -1,4 +1,7 @@
 //! Numbers as people write them, read exactly: nothing here goes through a floating point number. `None` is for what is no such number.
+use crate::files::shown;
+use crate::out::Out;
+use std::ffi::OsString;
 
 /// A whole number: decimal, or hexadecimal behind 0x.
 pub fn whole(text: &str) -> Option<u64> {
@@ -21,6 +24,24 @@ pub fn hertz(text: &str) -> Option<u64> {
         _ => (text, 0),
     };
     shifted(number, zeros)
+}
+
+/// The one frequency behind a command; told as a mistake where there is none or more.
+pub fn one_hertz(command: &str, operands: &[OsString], out: &mut Out) -> Option<u64> {
+    let wants = format!("{command} wants a whole number of Hz to 18446744073709551615, as 102300000, 102300k or 102.3M");
+    match operands {
+        [] => out.mistake(&wants),
+        [word] => match word.to_str().and_then(hertz) {
+            Some(hz) => return Some(hz),
+            None => out.mistake(&format!("{wants}, not `{}`", shown(word))),
+        },
+        [_, more @ ..] => {
+            for word in more {
+                out.mistake(&format!("{command} wants one frequency, and no `{}` behind it", shown(word)));
+            }
+        }
+    }
+    None
 }
 
 /// A number with a minus or without.

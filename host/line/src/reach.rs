@@ -3,30 +3,27 @@
 //! The divider of the oscillator changes at lo = 1,770,000,000 / m, m from 64 down to 2, and none is left from 1,800,000,000 on; lo is the tuner's Hz plus
 //! the IF. Between two such borders N grows with lo, and a bound on N cuts off one end of the stretch at most (both ends at once would want a reference
 //! above and below the same Hz). So where the two ends answer alike the stretch does, and where they do not, halving finds the one border.
-use pasetone::{Board, Driver, Error, Script, Tuner};
+use pasetone::{Driver, Error, Script, Table, Tuner};
 use std::ops::RangeInclusive;
 
 const OSCILLATOR: u64 = 1_770_000_000;
 const PAST: u64 = 1_800_000_000;
-/// Where the V4 changes from its upconverter to its tuner alone.
-const UPCONVERTED: u64 = 28_800_000;
 
 type Stretch = RangeInclusive<u64>;
 
-/// The frequencies that this board reaches with this tuner, ascending, none touching the next.
-pub fn reached(tuner: &Tuner, board: Board) -> Vec<Stretch> {
+/// The frequencies that the board of a table reaches with this tuner, ascending, none touching the next. Within a band the shift is one.
+pub fn reached(tuner: &Tuner, table: &Table) -> Vec<Stretch> {
     let lo: Vec<u64> = [64, 32, 16, 8, 4, 2].iter().map(|m| OSCILLATOR.div_ceil(*m)).chain([PAST]).collect();
     let mut found = Vec::new();
-    for first in [0, UPCONVERTED] {
-        let last = if first == 0 { UPCONVERTED - 1 } else { u64::MAX };
-        let shift = board.plan_tuning(first).hz - first;
+    for band in table.bands() {
+        let shift = i128::from(band.shift);
+        // In Hz as they are asked for; 0 Hz for the tuner is none.
+        let asked = |lo: u64| i128::from(lo) - i128::from(tuner.if_freq()) - shift;
         for border in lo.windows(2) {
-            // In Hz as they are asked for. An IF above lo leaves nothing, and 0 Hz for the tuner is none.
-            let asked = |lo: u64| lo.checked_sub(tuner.if_freq()).and_then(|hz| hz.checked_sub(shift));
-            let low = asked(border[0]).unwrap_or(0).max(first).max(u64::from(shift == 0));
-            let high = asked(border[1] - 1).unwrap_or(0).min(last);
-            if asked(border[1] - 1).is_some() && low <= high {
-                found.extend(stretch(low, high, |hz| is_reached(tuner, board, hz)));
+            let low = asked(border[0]).max(1 - shift).max(band.first.into());
+            let high = asked(border[1] - 1).min(band.last.into());
+            if let (true, Ok(low), Ok(high)) = (low <= high, u64::try_from(low), u64::try_from(high)) {
+                found.extend(stretch(low, high, |hz| is_reached(tuner, table, hz)));
             }
         }
     }
@@ -56,8 +53,8 @@ fn border(mut inside: u64, mut outside: u64, reached: impl Fn(u64) -> bool) -> u
     inside
 }
 
-pub fn is_reached(tuner: &Tuner, board: Board, hz: u64) -> bool {
-    tuner.clone().set_frequency(board.plan_tuning(hz).hz, &Script::all_done()).result != Err(Error::Frequency)
+fn is_reached(tuner: &Tuner, table: &Table, hz: u64) -> bool {
+    table.plan_tuning(hz).is_ok_and(|plan| tuner.clone().set_frequency(plan.hz, &Script::all_done()).result != Err(Error::Frequency))
 }
 
 fn joined(mut found: Vec<Stretch>) -> Vec<Stretch> {
@@ -100,7 +97,7 @@ pub fn corrections(tuner: &Tuner, driver: &Driver) -> (i32, i32) {
 #[cfg(test)]
 mod tests {
     use super::*;
-    use pasetone::TunerKind;
+    use pasetone::{Band, Board, TunerKind};
 
     fn tuner(kind: TunerKind, reference: u32) -> Tuner {
         Tuner::new(kind, 0x74, reference).unwrap()
@@ -110,8 +107,8 @@ mod tests {
     #[test]
     fn usual_reference() {
         for kind in [TunerKind::R828d, TunerKind::R820t] {
-            assert_eq!(reached(&tuner(kind, 28_800_000), Board::Generic), [25_356_250..=1_797_699_999]);
-            assert_eq!(reached(&tuner(kind, 28_800_000), Board::V4), [0..=1_797_699_999]);
+            assert_eq!(reached(&tuner(kind, 28_800_000), &Board::Generic.table()), [25_356_250..=1_797_699_999]);
+            assert_eq!(reached(&tuner(kind, 28_800_000), &Board::V4.table()), [0..=1_797_699_999]);
         }
     }
 
@@ -119,13 +116,13 @@ mod tests {
     fn another_if() {
         let mut tuner = tuner(TunerKind::R828d, 28_800_000);
         tuner.set_if_freq(0, &Script::all_done()).result.unwrap();
-        assert_eq!(reached(&tuner, Board::Generic), [27_656_250..=1_799_999_999]);
+        assert_eq!(reached(&tuner, &Board::Generic.table()), [27_656_250..=1_799_999_999]);
         tuner.set_if_freq(27_656_250, &Script::all_done()).result.unwrap();
-        assert_eq!(reached(&tuner, Board::Generic), [1..=1_772_343_749]);
+        assert_eq!(reached(&tuner, &Board::Generic.table()), [1..=1_772_343_749]);
         tuner.set_if_freq(1_800_000_000, &Script::all_done()).result.unwrap();
-        assert_eq!(reached(&tuner, Board::Generic), []);
+        assert_eq!(reached(&tuner, &Board::Generic.table()), []);
         tuner.set_if_freq(u64::MAX, &Script::all_done()).result.unwrap();
-        assert_eq!(reached(&tuner, Board::V4), []);
+        assert_eq!(reached(&tuner, &Board::V4.table()), []);
     }
 
     /// N = lo * m / 2R to 63: at 14,400,000 Hz lo * m is below 64 * 28,800,000 = 1,843,200,000, so each divider keeps the low end of its stretch.
@@ -134,9 +131,9 @@ mod tests {
         let tuner = tuner(TunerKind::R820t, 14_400_000);
         let wanted: Vec<Stretch> =
             [64, 32, 16, 8, 4, 2].iter().map(|m| OSCILLATOR.div_ceil(*m) - 2_300_000..=(1_843_200_000 - 1) / m - 2_300_000).collect();
-        assert_eq!(reached(&tuner, Board::Generic), wanted);
+        assert_eq!(reached(&tuner, &Board::Generic.table()), wanted);
         assert_eq!(wanted[0], 25_356_250..=26_499_999);
-        assert_eq!(reached(&super::tests::tuner(TunerKind::R820t, 1), Board::V4), []);
+        assert_eq!(reached(&super::tests::tuner(TunerKind::R820t, 1), &Board::V4.table()), []);
     }
 
     /// N from 13: at 100,000,000 Hz lo * m is from 2,600,000,000, so each divider keeps the high end of its stretch. From 138,461,539 Hz on nothing is left.
@@ -146,11 +143,11 @@ mod tests {
         let wanted: Vec<Stretch> =
             [64, 32, 16, 8, 4, 2].iter().zip(last).map(|(m, last)| 2_600_000_000 / m - 2_300_000..=last - 2_300_000).collect();
         for kind in [TunerKind::R820t, TunerKind::R828d] {
-            assert_eq!(reached(&tuner(kind, 100_000_000), Board::Generic), wanted);
-            assert_eq!(reached(&tuner(kind, 68_076_923), Board::Generic), [25_356_250..=1_797_699_999]);
-            assert_eq!(reached(&tuner(kind, 68_076_924), Board::Generic)[0], 25_356_251..=53_012_499);
-            assert_eq!(reached(&tuner(kind, 138_461_538), Board::Generic), [1_797_699_994..=1_797_699_999]);
-            assert_eq!(reached(&tuner(kind, 138_461_539), Board::Generic), []);
+            assert_eq!(reached(&tuner(kind, 100_000_000), &Board::Generic.table()), wanted);
+            assert_eq!(reached(&tuner(kind, 68_076_923), &Board::Generic.table()), [25_356_250..=1_797_699_999]);
+            assert_eq!(reached(&tuner(kind, 68_076_924), &Board::Generic.table())[0], 25_356_251..=53_012_499);
+            assert_eq!(reached(&tuner(kind, 138_461_538), &Board::Generic.table()), [1_797_699_994..=1_797_699_999]);
+            assert_eq!(reached(&tuner(kind, 138_461_539), &Board::Generic.table()), []);
         }
     }
 
@@ -166,11 +163,11 @@ mod tests {
             (TunerKind::R828d, 68_076_924),
         ] {
             for board in [Board::Generic, Board::V4] {
-                let tuner = tuner(kind, reference);
-                for stretch in reached(&tuner, board) {
+                let (tuner, table) = (tuner(kind, reference), board.table());
+                for stretch in reached(&tuner, &table) {
                     let (low, high) = (*stretch.start(), *stretch.end());
-                    assert!(is_reached(&tuner, board, low) && is_reached(&tuner, board, high) && !is_reached(&tuner, board, high + 1));
-                    assert!(low == 0 || !is_reached(&tuner, board, low - 1), "{low}");
+                    assert!(is_reached(&tuner, &table, low) && is_reached(&tuner, &table, high) && !is_reached(&tuner, &table, high + 1));
+                    assert!(low == 0 || !is_reached(&tuner, &table, low - 1), "{low}");
                 }
             }
         }
@@ -184,12 +181,29 @@ mod tests {
             (TunerKind::R828d, 7_000_000, Board::Generic),
             (TunerKind::R828d, 100_000_000, Board::V4),
         ] {
-            let tuner = tuner(kind, reference);
-            let stretches = reached(&tuner, board);
+            let (tuner, table) = (tuner(kind, reference), board.table());
+            let stretches = reached(&tuner, &table);
             for hz in (0..1_900_000_000).step_by(9_973) {
-                assert_eq!(is_reached(&tuner, board, hz), stretches.iter().any(|stretch| stretch.contains(&hz)), "{hz}");
+                assert_eq!(is_reached(&tuner, &table, hz), stretches.iter().any(|stretch| stretch.contains(&hz)), "{hz}");
             }
         }
+    }
+
+    /// A table's bands, each with its shift: below the first nothing, between the bands nothing, and what a shift takes below 0, to 0 or past the PLL is none.
+    #[test]
+    fn by_a_table() {
+        let band = |first, last, shift| Band { first, last, shift, inverted: false, path: None, notch: false };
+        let reached = |bands: &[Band]| reached(&tuner(TunerKind::R828d, 28_800_000), &Table::new(bands).unwrap());
+        assert_eq!(reached(&[]), []);
+        assert_eq!(reached(&[band(0, u64::MAX, 0)]), [25_356_250..=1_797_699_999]);
+        assert_eq!(reached(&[band(2_400_000_000, 2_500_000_000, -2_000_000_000)]), [2_400_000_000..=2_500_000_000]);
+        assert_eq!(reached(&[band(1_000, u64::MAX, -1_000)]), [25_357_250..=1_797_700_999]);
+        assert_eq!(
+            reached(&[band(0, 50_000_000, 1_760_000_000), band(60_000_000, 70_000_000, 0)]),
+            [0..=37_699_999, 60_000_000..=70_000_000]
+        );
+        assert_eq!(reached(&[band(0, u64::MAX, i64::MIN)]), [(1 << 63) + 25_356_250..=(1 << 63) + 1_797_699_999]);
+        assert_eq!(reached(&[band(0, u64::MAX, i64::MAX)]), []);
     }
 
     /// By document 02's rule: a ratio from 4 below 2^27, or from 3 * 2^27 below 2^29.

@@ -1,5 +1,6 @@
 //! A kept record: the bytes of the tuner's record, then those of the driver's, and nothing else. Both sizes are the library's.
-use pasetone::{Driver, Error, Tuner};
+use crate::out::Out;
+use pasetone::{Driver, Tuner};
 
 pub const SIZE: usize = Tuner::SIZE + Driver::SIZE;
 
@@ -25,11 +26,9 @@ pub fn read(bytes: &[u8]) -> Result<(Tuner, Driver), String> {
     Ok((Tuner::from_bytes(tuner).map_err(|_| none("tuner"))?, Driver::from_bytes(driver).map_err(|_| none("driver"))?))
 }
 
-/// The driver's record for another frequency, which stands in its bytes 9 to 16; its rates stay.
-pub fn at(driver: &Driver, hz: u64) -> Result<Driver, Error> {
-    let mut bytes = *driver.as_bytes();
-    bytes[9..17].copy_from_slice(&hz.to_le_bytes());
-    Driver::from_bytes(&bytes)
+/// The same, told as a mistake of what `named` the file.
+pub fn judged(bytes: &[u8], named: &str, out: &mut Out) -> Option<(Tuner, Driver)> {
+    read(bytes).map_err(|why| out.mistake(&format!("{named}: {why}"))).ok()
 }
 
 pub fn write(tuner: &Tuner, driver: &Driver) -> Vec<u8> {

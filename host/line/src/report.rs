@@ -1,43 +1,55 @@
 //! A run of `hop` that has ended, printed: the table, or JSON; and its files.
 use crate::answer::Told;
-use crate::files::Sink;
-use crate::out::{End, Out};
-use crate::run::{Asked, Call, Made, Run, Start, decibels};
-use crate::{json, record, rows};
-use pasetone::{Board, InputPath, Plan, Script, Tuner, TunerKind};
+use crate::boards::Place;
+use crate::names::{self, Gain, gain_step};
+use crate::out::Out;
+use crate::run::{Asked, Call, Made, Run, Start};
+use crate::{json, rows};
+use pasetone::{Plan, Tuner, TunerKind};
 
 /// What the first lines tell of the receiver, before any call.
 pub struct Head {
     kind: TunerKind,
     address: u8,
-    pub board: Board,
+    place: String,
     reference: u32,
+    /// The file of --settings, and its edition.
+    settings: Option<(String, u8)>,
     /// Rate and gain of a kept record.
     kept: Option<(u32, f32)>,
 }
 
 impl Head {
-    pub fn of(start: &Start) -> Head {
+    pub fn of(start: &Start, place: &Place, settings: Option<(String, u8)>) -> Head {
+        let place = place.name();
         match start {
-            Start::Fresh { kind, address, board, reference } => {
-                Head { kind: *kind, address: *address, board: *board, reference: *reference, kept: None }
+            Start::Fresh { kind, address, reference, .. } => {
+                Head { kind: *kind, address: *address, place, reference: *reference, settings, kept: None }
             }
             Start::Kept { tuner, driver } => Head {
                 kind: tuner.kind(),
                 address: tuner.address(),
-                board: driver.board(),
+                place,
                 reference: tuner.nominal(),
+                settings,
                 kept: Some((driver.rate(), tuner.gain())),
             },
         }
     }
+
+    fn line(&self, corrected: Option<u32>) -> String {
+        let corrected = corrected.map_or_else(String::new, |hz| format!(", corrected {hz} Hz"));
+        format!("{} at 0x{:02x} on {}, reference {} Hz{corrected}", names::kind(self.kind), self.address, self.place, self.reference)
+    }
 }
 
-/// A run that has ended, to be printed.
+/// A run of `hop` that has ended, to be printed.
 pub struct Report {
     pub head: Head,
+    pub place: Place,
     pub asked: Asked,
-    pub plan: Plan,
+    /// `None` where the table has none for the frequency.
+    pub plan: Option<Plan>,
     pub run: Run,
     pub told: Told,
     /// The step of --fail, where the run did not come to it.
@@ -46,55 +58,26 @@ pub struct Report {
 
 impl Report {
     pub fn table(&self, out: &mut Out) {
+        if let Some((file, edition)) = &self.head.settings {
+            out.line(&format!("settings of {file} (edition {edition}), where no word says otherwise"));
+        }
         for line in self.head_lines() {
             out.line(&line);
         }
-        out.line("");
-        rows::head(out);
-        for made in &self.run.made {
-            made_rows(made, out);
-        }
-        out.line("");
-        let answer = format!("answer: {}", self.told.number);
-        let answer = if self.told.number == 0 { answer } else { out.loud(&answer) };
-        out.line(&format!("{answer} {}", self.told.text));
-        if let Some(lock) = &self.told.lock {
-            out.line(&format!("lock: {lock}"));
-        }
-        if let Some(to_do) = &self.told.to_do {
-            out.line(&format!("to do: {to_do}"));
-        }
-        if let Some(step) = self.unreached {
-            out.line(&format!("note: step {step} was not reached, so nothing was made to fail by --fail"));
-        }
-        if let Some((tuner, _)) = &self.run.records {
-            out.line("");
-            rows::registers(tuner, out);
-        }
+        table(&self.run, &self.told, self.unreached, out);
     }
 
     fn head_lines(&self) -> [String; 3] {
-        let (head, plan) = (&self.head, &self.plan);
-        let corrected = self.corrected().map_or_else(String::new, |hz| format!(", corrected {hz} Hz"));
-        let place = format!("{} at 0x{:02x} on a {} board", kind(head.kind), head.address, board(head.board));
-        let rate = match (self.asked.rate, head.kept) {
+        let rate = match (self.asked.rate, self.head.kept) {
             (None, Some((rate, _))) => format!("rate {rate} as kept{}", self.true_rate(rate)),
             (rate, _) => format!("rate {}{}", rate.unwrap_or(0), self.true_rate(rate.unwrap_or(0))),
         };
-        let gain = match (self.asked.gain, head.kept) {
+        let gain = match (self.asked.gain, self.head.kept) {
             (None, Some((_, gain))) => format!("gain {gain:.1} dB as kept"),
-            (gain, _) => {
-                format!("gain {} dB, which is step {:.1} dB", json::tenths(gain.unwrap_or(0)), gain_step(gain.unwrap_or(0)))
-            }
+            (gain, _) => gain_words(gain.unwrap_or(Gain::Index(0))),
         };
-        let notch = if plan.notch { "notch on" } else { "notch off" };
-        let inverted = if plan.inverted { ", spectrum inverted" } else { "" };
-        let path = plan.path.map_or_else(|| String::from("no path to choose"), |path| format!("path {}", path_name(path)));
-        [
-            format!("{place}, reference {} Hz{corrected}", head.reference),
-            format!("{rate}, {gain}"),
-            format!("{} Hz: the tuner goes to {} Hz, {path}, {notch}{inverted}", self.asked.hz, plan.hz),
-        ]
+        let if_hz = self.asked.if_hz.map_or_else(String::new, |hz| format!(", IF {hz} Hz"));
+        [self.head.line(self.corrected()), format!("{rate}, {gain}{if_hz}"), plan_line(self.asked.hz, self.plan.as_ref())]
     }
 
     /// The true rate beside a rate, where the record has it.
@@ -111,72 +94,103 @@ impl Report {
         (taken || tuner.corrected() != tuner.nominal()).then(|| tuner.corrected())
     }
 
-    /// The refusal for somebody who asked for nothing else.
-    pub fn in_one_line(&self) -> String {
-        let more = |name: &str, text: &Option<String>| text.as_ref().map_or_else(String::new, |text| format!("; {name}: {text}"));
-        let (lock, to_do) = (more("lock", &self.told.lock), more("to do", &self.told.to_do));
-        format!("answer: {} {}{lock}{to_do}", self.told.number, self.told.text)
-    }
-
-    /// The sections and the record into their files, also of a run that stopped.
-    pub fn keep(&self, section: Option<Sink>, keep: Option<Sink>, out: &mut Out) {
-        if let Some(sink) = section {
-            kept_or_told(sink.keep(&self.run.sections()), "--section", out);
-        }
-        match (keep, &self.run.records) {
-            (Some(sink), Some((tuner, driver))) => kept_or_told(sink.keep(&record::write(tuner, driver)), "--keep", out),
-            (Some(_), None) => out.tell(End::Refused, "--keep: no record was made, so none is written: see the answer"),
-            (None, _) => {}
-        }
-    }
-
     pub fn json(&self, out: &mut Out) {
-        let registers = |tuner: &Tuner| lines(Tuner::registers().map(|register| rows::register_json(tuner, register)));
         let records = self.run.records.as_ref();
-        let fields = [
+        let mut fields = vec![
             ("receiver", self.receiver_json()),
             ("asked", self.asked_json()),
-            ("plan", plan_json(&self.plan)),
-            ("calls", lines(self.run.made.iter().map(made_json))),
-            ("answer", self.told.json(&self.run)),
-            ("steps", self.run.steps.to_string()),
-            ("unreached", json::maybe(self.unreached)),
+            ("plan", json::maybe(self.plan.as_ref().map(plan_json))),
+        ];
+        fields.extend(run_json(&self.run, &self.told, self.unreached));
+        fields.extend([
             ("rate", json::maybe(records.map(|(_, driver)| driver.rate()))),
             ("true_rate", json::maybe(records.map(|(_, driver)| driver.true_rate()))),
             ("tries", json::maybe(self.run.lock().map(|lock| lock.tries))),
             ("locked", json::maybe(self.run.lock().map(|lock| lock.locked))),
-            ("registers", records.map_or_else(|| String::from("[]"), |(tuner, _)| registers(tuner))),
-        ];
-        let fields: Vec<String> = fields.iter().map(|(name, value)| format!("{}: {value}", json::string(name))).collect();
-        out.line(&format!("{{\n{}\n}}", fields.join(",\n")));
+            ("registers", records.map_or_else(|| String::from("[]"), |(tuner, _)| registers_json(tuner))),
+        ]);
+        out.line(&json::document(&fields));
     }
 
     fn receiver_json(&self) -> String {
+        let file = self.place.file.as_ref();
+        let board = if file.is_some() { None } else { Some(json::string(names::board(self.place.board))) };
         json::object(&[
-            ("kind", json::string(kind(self.head.kind))),
+            ("kind", json::string(names::kind(self.head.kind))),
             ("address", self.head.address.to_string()),
-            ("board", json::string(board(self.head.board))),
+            ("board", json::maybe(board)),
+            ("table", json::maybe(file.map(|file| json::string(file)))),
             ("reference", self.head.reference.to_string()),
             ("corrected", json::maybe(self.corrected())),
+            ("settings", json::maybe(self.head.settings.as_ref().map(|(file, _)| json::string(file)))),
+            ("edition", json::maybe(self.head.settings.as_ref().map(|(_, edition)| edition))),
         ])
     }
 
     fn asked_json(&self) -> String {
+        let step = self.asked.gain.map(gain_step);
+        let decibels = self.asked.gain.and_then(|gain| if let Gain::Tenths(tenths) = gain { Some(json::tenths(tenths)) } else { None });
         json::object(&[
             ("hz", self.asked.hz.to_string()),
             ("ppm", json::maybe(self.asked.ppm)),
             ("initialise", self.asked.initialise.to_string()),
             ("rate", json::maybe(self.asked.rate)),
-            ("gain", json::maybe(self.asked.gain.map(json::tenths))),
-            ("gain_step", json::maybe(self.asked.gain.map(|gain| format!("{:.1}", gain_step(gain))))),
+            ("gain", json::maybe(decibels)),
+            ("gain_index", json::maybe(step.map(|(index, _)| index))),
+            ("gain_step", json::maybe(step.map(|(_, tenths)| json::tenths(tenths)))),
+            ("if", json::maybe(self.asked.if_hz)),
         ])
     }
 }
 
-fn kept_or_told(kept: Result<(), String>, option: &str, out: &mut Out) {
-    if let Err(why) = kept {
-        out.mistake(&format!("{option} {why}"));
+/// The steps, the answer and the registers of a run.
+pub fn table(run: &Run, told: &Told, unreached: Option<usize>, out: &mut Out) {
+    out.line("");
+    rows::head(out);
+    for made in &run.made {
+        made_rows(made, out);
     }
+    out.line("");
+    told.lines(out);
+    if let Some(step) = unreached {
+        out.line(&format!("note: step {step} was not reached, so nothing was made to fail by --fail"));
+    }
+    if let Some((tuner, _)) = &run.records {
+        out.line("");
+        rows::registers(tuner, out);
+    }
+}
+
+/// What runs tell alike.
+pub fn run_json(run: &Run, told: &Told, unreached: Option<usize>) -> [(&'static str, String); 4] {
+    [
+        ("calls", json::lines(run.made.iter().map(made_json))),
+        ("answer", told.json(run)),
+        ("steps", run.steps.to_string()),
+        ("unreached", json::maybe(unreached)),
+    ]
+}
+
+pub fn registers_json(tuner: &Tuner) -> String {
+    json::lines(Tuner::registers().map(|register| rows::register_json(tuner, register)))
+}
+
+fn gain_words(gain: Gain) -> String {
+    let (index, tenths) = gain_step(gain);
+    let step = json::tenths(tenths);
+    match gain {
+        Gain::Tenths(asked) => format!("gain {} dB, which is step {step} dB", json::tenths(asked)),
+        Gain::Index(_) => format!("gain index {index}, which is step {step} dB"),
+    }
+}
+
+/// How a board is tuned to a frequency, in one line.
+pub fn plan_line(hz: u64, plan: Option<&Plan>) -> String {
+    let Some(plan) = plan else { return format!("{hz} Hz: no band of the table has it, or its shift takes it out of 64 bits") };
+    let notch = if plan.notch { "notch on" } else { "notch off" };
+    let inverted = if plan.inverted { ", spectrum inverted" } else { "" };
+    let path = plan.path.map_or_else(|| String::from("no path to choose"), |path| format!("path {}", names::path(path)));
+    format!("{hz} Hz: the tuner goes to {} Hz, {path}, {notch}{inverted}", plan.hz)
 }
 
 fn made_rows(made: &Made, out: &mut Out) {
@@ -193,50 +207,15 @@ fn made_json(made: &Made) -> String {
     json::object(&[
         ("call", json::string(made.call.name())),
         ("refusal", made.result.err().map_or(0, |error| error.number()).to_string()),
-        ("steps", lines(made.transcript.iter().enumerate().map(|(at, entry)| rows::step_json(made.first + at, &entry)))),
+        ("steps", json::lines(made.transcript.iter().enumerate().map(|(at, entry)| rows::step_json(made.first + at, &entry)))),
     ])
 }
 
-fn plan_json(plan: &Plan) -> String {
+pub fn plan_json(plan: &Plan) -> String {
     json::object(&[
         ("hz", plan.hz.to_string()),
-        ("path", json::maybe(plan.path.map(|path| json::string(path_name(path))))),
+        ("path", json::maybe(plan.path.map(|path| json::string(names::path(path))))),
         ("notch", plan.notch.to_string()),
         ("inverted", plan.inverted.to_string()),
     ])
-}
-
-/// An array with a line for each part.
-fn lines(parts: impl Iterator<Item = String>) -> String {
-    let parts: Vec<String> = parts.collect();
-    if parts.is_empty() { String::from("[]") } else { format!("[\n{}\n]", parts.join(",\n")) }
-}
-
-/// The step that a gain is set to, by the library: tried on a record that nothing else is done with.
-fn gain_step(tenths: i32) -> f32 {
-    let tried =
-        Tuner::new(TunerKind::R828d, 0x74, 28_800_000).and_then(|mut tuner| tuner.set_gain(decibels(tenths), &Script::all_done()).result);
-    tried.unwrap_or(0.0)
-}
-
-fn kind(kind: TunerKind) -> &'static str {
-    match kind {
-        TunerKind::R820t => "R820T",
-        TunerKind::R828d => "R828D",
-    }
-}
-
-fn board(board: Board) -> &'static str {
-    match board {
-        Board::Generic => "generic",
-        Board::V4 => "V4",
-    }
-}
-
-fn path_name(path: InputPath) -> &'static str {
-    match path {
-        InputPath::Hf => "HF",
-        InputPath::Vhf => "VHF",
-        InputPath::Uhf => "UHF",
-    }
 }

@@ -1,6 +1,7 @@
 //! What a run and a file of sections print alike: the table's rows, and the register table.
 use crate::json;
 use crate::out::Out;
+use crate::registers::purpose;
 use pasetone::{Entry, Tuner};
 
 pub fn head(out: &mut Out) {
@@ -23,34 +24,29 @@ pub fn other(label: &str, what: &str, outcome: &str, out: &mut Out) {
     out.line(row.trim_end());
 }
 
+/// The width of the left one of two registers that stand side by side.
+const CELL: usize = 49;
+
+/// All registers, two side by side: the byte last sent, a mark where it is doubtful, and what the register is for.
 pub fn registers(tuner: &Tuner, out: &mut Out) {
     out.line("registers: the byte last sent, ? where the chip may hold another");
     let all: Vec<u8> = Tuner::registers().collect();
-    // Three stand side by side.
-    let high = all.len().div_ceil(3);
+    let high = all.len().div_ceil(2);
     for row in 0..high {
-        let cells: Vec<&u8> = all.iter().skip(row).step_by(high).collect();
-        let mut line = String::new();
-        for (at, register) in cells.iter().enumerate() {
-            let doubtful = tuner.is_doubtful(**register);
-            let cell = format!("  0x{register:02x}  {}", byte(tuner.shadow(**register)));
-            let last = at + 1 == cells.len();
-            line += &cell;
-            line += &if doubtful { format!(" {}", out.loud("?")) } else { String::new() };
-            line += if last {
-                ""
-            } else if doubtful {
-                "    "
-            } else {
-                "      "
-            };
-        }
-        out.line(&line);
+        let cells: Vec<String> = all.iter().skip(row).step_by(high).map(|register| cell(tuner, *register)).collect();
+        let line = match cells.as_slice() {
+            [left, right] => format!("{left:<CELL$}{right}"),
+            left => left.concat(),
+        };
+        // The mark is made loud behind the padding, which would count its colour.
+        out.line(&line.trim_end().replace('?', &out.loud("?")));
     }
 }
 
-fn byte(value: Option<u8>) -> String {
-    value.map_or_else(|| String::from("--"), |byte| format!("{byte:02x}"))
+fn cell(tuner: &Tuner, register: u8) -> String {
+    let mark = if tuner.is_doubtful(register) { "?" } else { " " };
+    let byte = tuner.shadow(register).unwrap_or(0);
+    format!("  0x{register:02x}  {byte:02x} {mark}  {}", purpose(register))
 }
 
 /// A step as JSON.
@@ -72,5 +68,6 @@ pub fn register_json(tuner: &Tuner, register: u8) -> String {
         ("register", register.to_string()),
         ("shadow", json::maybe(tuner.shadow(register))),
         ("doubtful", tuner.is_doubtful(register).to_string()),
+        ("what", json::string(purpose(register))),
     ])
 }

@@ -1,6 +1,9 @@
 //! The calls of a run, one after the other over the same records. Each is made only while none before it was refused or stopped.
+use crate::files::Sink;
+use crate::names::{Gain, decibels};
+use crate::out::{End, Out};
 use crate::record;
-use pasetone::{Answer, Board, Driver, Error, InputPath, Lock, Need, Plan, Script, Transcript, Tuner, TunerKind};
+use pasetone::{Answer, Board, Driver, Error, Lock, Need, Script, Table, Transcript, Tuner, TunerKind, demod};
 
 /// The calls by the names that are printed.
 #[derive(Clone, Copy, PartialEq, Eq)]
@@ -11,9 +14,10 @@ pub enum Call {
     Initialise,
     SampleRate,
     Gain,
-    BoardPath,
-    Notch,
+    If,
+    DemodIf,
     Tune,
+    Reload,
 }
 
 impl Call {
@@ -25,9 +29,10 @@ impl Call {
             Call::Initialise => "initialise",
             Call::SampleRate => "sample rate",
             Call::Gain => "gain",
-            Call::BoardPath => "board path",
-            Call::Notch => "notch",
+            Call::If => "IF",
+            Call::DemodIf => "demod IF",
             Call::Tune => "tune",
+            Call::Reload => "reload",
         }
     }
 
@@ -37,8 +42,10 @@ impl Call {
             Call::Initialise => Need::INITIALIZE,
             Call::SampleRate => Need::SAMPLE_RATE,
             Call::Gain => Need::GAIN,
-            Call::BoardPath => Need::BOARD_PATH,
-            Call::Tune => Need::TUNE,
+            Call::If => Need::IF_FREQ,
+            Call::DemodIf => Need::IF_XTAL,
+            Call::Tune => Need::TUNE_BOARD,
+            Call::Reload => Need::RELOAD,
             _ => Need { outcomes: 0, replies: 0 },
         }
     }
@@ -50,14 +57,23 @@ pub enum Start {
     Kept { tuner: Tuner, driver: Driver },
 }
 
+impl Start {
+    pub fn kind(&self) -> TunerKind {
+        match self {
+            Start::Fresh { kind, .. } => *kind,
+            Start::Kept { tuner, .. } => tuner.kind(),
+        }
+    }
+}
+
 /// The calls that are asked for. A fresh record is initialised, and gets a rate and a gain; over a kept one each is called where it is asked for.
 pub struct Asked {
     pub hz: u64,
     pub ppm: Option<i32>,
     pub initialise: bool,
     pub rate: Option<u32>,
-    /// Tenths of a dB.
-    pub gain: Option<i32>,
+    pub gain: Option<Gain>,
+    pub if_hz: Option<u32>,
 }
 
 /// A call that was made.
@@ -79,36 +95,40 @@ pub struct Run {
     pub made: Vec<Made>,
     pub steps: usize,
     outcomes: Vec<u8>,
+    /// For the tuning, which alone reads.
     replies: Vec<u8>,
-    taken: usize,
-}
-
-/// A gain in tenths of a dB: the one division is by binary32's own rule.
-pub fn decibels(tenths: i32) -> f32 {
-    tenths as f32 / 10.0
 }
 
 impl Run {
-    /// Makes all calls over what a run begins with.
-    pub fn of(start: Start, asked: &Asked, plan: &Plan, outcomes: Vec<u8>, replies: Vec<u8>) -> Run {
-        let mut run = Run { records: None, made: Vec::new(), steps: 0, outcomes, replies, taken: 0 };
+    /// Makes all calls that lead to a frequency, over what a run begins with.
+    pub fn hop(start: Start, asked: &Asked, table: &Table, outcomes: Vec<u8>, replies: Vec<u8>) -> Run {
+        let mut run = Run { records: None, made: Vec::new(), steps: 0, outcomes, replies };
         if let Some((mut tuner, mut driver)) = run.begin(start, asked.hz) {
-            run.sequence(&mut tuner, &mut driver, asked, plan);
+            run.sequence(&mut tuner, &mut driver, asked, table);
             run.records = Some((tuner, driver));
         }
         run
     }
 
-    /// The records. A driver is made for the frequency that is asked for, a kept one too: its frequency says how the sample rate turns the spectrum.
+    /// Sends a kept record's shadow again.
+    pub fn reload(mut tuner: Tuner, driver: Driver, outcomes: Vec<u8>) -> Run {
+        let mut run = Run { records: None, made: Vec::new(), steps: 0, outcomes, replies: Vec::new() };
+        let answer = tuner.reload(&run.script());
+        run.stepped(Call::Reload, answer);
+        run.records = Some((tuner, driver));
+        run
+    }
+
+    /// The records. A fresh driver is made for the frequency that is asked for, which says how the sample rate turns the spectrum; a kept one is where its last
+    /// tuning went, and the tuning to come turns the spectrum by itself.
     fn begin(&mut self, start: Start, hz: u64) -> Option<(Tuner, Driver)> {
-        let (tuner, driver) = match start {
+        match start {
             Start::Fresh { kind, address, board, reference } => {
-                (Tuner::new(kind, address, reference), Driver::new(board, reference, 0, hz, 0))
+                let tuner = self.fresh(Call::FreshTuner, Tuner::new(kind, address, reference))?;
+                Some((tuner, self.fresh(Call::FreshDriver, Driver::new(board, reference, 0, hz, 0))?))
             }
-            Start::Kept { tuner, driver } => (Ok(tuner), record::at(&driver, hz)),
-        };
-        let tuner = self.fresh(Call::FreshTuner, tuner)?;
-        Some((tuner, self.fresh(Call::FreshDriver, driver)?))
+            Start::Kept { tuner, driver } => Some((tuner, driver)),
+        }
     }
 
     /// A record that was made is not told of; one that was not is.
@@ -116,7 +136,7 @@ impl Run {
         made.map_err(|error| self.after(call, Err(error), Transcript::default())).ok()
     }
 
-    fn sequence(&mut self, tuner: &mut Tuner, driver: &mut Driver, asked: &Asked, plan: &Plan) -> Option<()> {
+    fn sequence(&mut self, tuner: &mut Tuner, driver: &mut Driver, asked: &Asked, table: &Table) -> Option<()> {
         if let Some(ppm) = asked.ppm {
             let corrected = driver.set_ppm(tuner, ppm);
             self.after(Call::Correction, corrected, Transcript::default())?;
@@ -126,20 +146,23 @@ impl Run {
             self.stepped(Call::Initialise, answer)?;
         }
         if let Some(rate) = asked.rate {
-            let table = driver.board().table();
-            let answer = driver.set_sample_rate(tuner, &table, rate, &self.script());
+            let answer = driver.set_sample_rate(tuner, table, rate, &self.script());
             self.stepped(Call::SampleRate, answer)?;
         }
         if let Some(gain) = asked.gain {
-            let answer = tuner.set_gain(decibels(gain), &self.script());
+            let answer = match gain {
+                Gain::Tenths(tenths) => tuner.set_gain(decibels(tenths), &self.script()),
+                Gain::Index(index) => tuner.set_gain_by_index(usize::from(index), &self.script()),
+            };
             self.stepped(Call::Gain, answer)?;
         }
-        if let Some(path) = plan.path {
-            self.board_path(tuner, path)?;
+        if let Some(hz) = asked.if_hz.filter(|hz| u64::from(*hz) != tuner.if_freq()) {
+            let answer = tuner.set_if_freq(hz.into(), &self.script());
+            self.stepped(Call::If, answer)?;
+            let answer = demod::set_if_freq_xtal(hz, driver.corrected_xtal_hz(), &self.script());
+            self.stepped(Call::DemodIf, answer)?;
         }
-        tuner.apply_notch(plan.notch);
-        self.after(Call::Notch, Ok(()), Transcript::default())?;
-        let answer = tuner.set_frequency(plan.hz, &self.script());
+        let answer = driver.tune_board(tuner, table, asked.hz, &self.script());
         let lock = answer.lock;
         let ended = self.stepped(Call::Tune, answer.into());
         if let Some(made) = self.made.last_mut() {
@@ -148,18 +171,10 @@ impl Run {
         ended
     }
 
-    /// It takes its replies whether its reads were done or not.
-    fn board_path(&mut self, tuner: &mut Tuner, path: InputPath) -> Option<()> {
-        let answer = tuner.apply_input_path(path, &self.script());
-        let ended = self.stepped(Call::BoardPath, answer);
-        self.taken = Need::BOARD_PATH.replies;
-        ended
-    }
-
     /// What is left of the script for the next call: no call needs more than `Script` has.
     fn script(&self) -> Script {
         let left = |bytes: &[u8], from: usize, most: usize| bytes.iter().skip(from).take(most).copied().collect::<Vec<u8>>();
-        Script::new(left(&self.outcomes, self.steps, Script::OUTCOMES), left(&self.replies, self.taken, Script::REPLIES))
+        Script::new(left(&self.outcomes, self.steps, Script::OUTCOMES), left(&self.replies, 0, Script::REPLIES))
     }
 
     fn stepped<T>(&mut self, call: Call, answer: Answer<T>) -> Option<()> {
@@ -169,7 +184,7 @@ impl Run {
     /// Behind a call: what it made. `None` where the run is at its end.
     fn after(&mut self, call: Call, result: Result<(), Error>, transcript: Transcript) -> Option<()> {
         let first = self.steps;
-        let left = Need { outcomes: self.outcomes.len().saturating_sub(first), replies: self.replies.len().saturating_sub(self.taken) };
+        let left = Need { outcomes: self.outcomes.len().saturating_sub(first), replies: self.replies.len() };
         self.steps += transcript.len();
         self.made.push(Made { call, first, transcript, result, lock: None, left });
         result.ok()
@@ -183,5 +198,17 @@ impl Run {
     /// The sections end to end.
     pub fn sections(&self) -> Vec<u8> {
         self.made.iter().flat_map(|made| made.transcript.bytes()).copied().collect()
+    }
+
+    /// The sections and the record into their files, also of a run that stopped.
+    pub fn keep(&self, section: Option<Sink>, keep: Option<Sink>, out: &mut Out) {
+        if let Some(sink) = section {
+            sink.keep_or_tell(&self.sections(), "--section", out);
+        }
+        match (keep, &self.records) {
+            (Some(sink), Some((tuner, driver))) => sink.keep_or_tell(&record::write(tuner, driver), "--keep", out),
+            (Some(_), None) => out.tell(End::Refused, "--keep: no record was made, so none is written: see the answer"),
+            (None, _) => {}
+        }
     }
 }

@@ -193,7 +193,7 @@ impl File {
             count.steps += usize::from(whole.is_some());
             count.next += 1;
         }
-        let steps = if steps.is_empty() { String::from("[]") } else { format!("[\n{}\n]", steps.join(",\n")) };
+        let steps = json::lines(steps.into_iter());
         json::object(&[
             ("section", json::maybe((number > 0).then_some(number))),
             ("start", start.to_string()),

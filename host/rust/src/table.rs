@@ -93,6 +93,24 @@ impl Table {
         &self.bytes
     }
 
+    /// The bands, ascending: what [`Table::new`] makes this table of.
+    ///
+    /// ```
+    /// use pasetone::{Board, Table};
+    ///
+    /// let v4 = Board::V4.table();
+    /// assert_eq!(v4.bands().count(), 8);
+    /// assert_eq!(Table::new(&v4.bands().collect::<Vec<_>>()), Ok(v4));
+    /// ```
+    pub fn bands(&self) -> impl ExactSizeIterator<Item = Band> + '_ {
+        self.bytes.chunks_exact(Table::BAND).map(|band| {
+            let number = |at: usize| u64::from_le_bytes(core::array::from_fn(|i| band[at + i]));
+            let plan = Plan::told(0, [band[24], band[25], band[26]]);
+            let (first, last, shift) = (number(0), number(8), number(16) as i64);
+            Band { first, last, shift, inverted: plan.inverted, path: plan.path, notch: plan.notch }
+        })
+    }
+
     /// How the board is to be tuned to `hz`: by the one band that holds it.
     ///
     /// # Errors
