@@ -1,6 +1,7 @@
 //! The answer that a run ends with: its number, its words, and what to do about a refusal.
+use crate::command::{Given, Key};
 use crate::json;
-use crate::out::Out;
+use crate::out::{End, Out};
 use crate::reach;
 use crate::run::{Call, Made, Run};
 use pasetone::{Error, Table};
@@ -18,6 +19,20 @@ pub struct Told {
     pub step: Option<(usize, usize)>,
 }
 
+/// A refusal of a command that makes no run: one line, and as JSON where that is asked for.
+pub fn refused(given: &Given, error: Error, text: &str, out: &mut Out) {
+    if given.has(Key::Json) {
+        let (number, word) = (error.number().to_string(), json::string(error.word()));
+        out.line(&json::document(&[("refusal", number), ("word", word), ("text", json::string(text))]));
+    }
+    out.tell(End::Refused, text);
+}
+
+/// The first field of such a command's JSON where it is done.
+pub fn done_json() -> (&'static str, String) {
+    ("refusal", String::from("0"))
+}
+
 /// What the words have asked for, as far as an answer hangs on it.
 pub struct Wish<'a> {
     pub hz: u64,
@@ -32,7 +47,7 @@ pub fn of(run: &Run, wish: &Wish) -> Told {
     match run.made.last() {
         Some(made) => match made.result {
             Ok(()) => done(run, made, wish),
-            Err(error) => refused(run, made, error, wish),
+            Err(error) => stopped(run, made, error, wish),
         },
         // A run makes one call at least.
         None => simply(String::from("done")),
@@ -59,7 +74,7 @@ fn lock(run: &Run) -> Option<String> {
     Some(if lock.locked { text } else { text.replacen("not", "NOT", 1) })
 }
 
-fn refused(run: &Run, made: &Made, error: Error, wish: &Wish) -> Told {
+fn stopped(run: &Run, made: &Made, error: Error, wish: &Wish) -> Told {
     let call = made.call.name();
     let (text, lock, step) = match error {
         Error::Step { index } => {

@@ -3,7 +3,7 @@
 //! A new command is a file with its `run`, a row in `COMMANDS`, and a row in `OPTIONS` for an option that none has yet.
 use crate::files::{self, Sink, is_standard, shown};
 use crate::out::Out;
-use crate::{help, hop, reload, show};
+use crate::{held, help, hop, parting, reload, restore, show};
 use std::ffi::{OsStr, OsString};
 use std::os::unix::ffi::OsStrExt;
 
@@ -51,6 +51,33 @@ pub const COMMANDS: &[Command] = &[
         run: show::run,
     },
     Command {
+        name: "held",
+        operands: "FILE.. --address N",
+        about: "what a chip holds behind sections",
+        more: held::MORE,
+        example: "held sections --address 0x74",
+        options: &[Key::Chip, Key::Json, Key::Quiet],
+        run: held::run,
+    },
+    Command {
+        name: "restore",
+        operands: "FILE.. --address N",
+        about: "the fewest writes that bring a chip there",
+        more: restore::MORE,
+        example: "restore sections --address 0x74 --out list",
+        options: restore::OPTIONS,
+        run: restore::run,
+    },
+    Command {
+        name: "parting",
+        operands: "LAST TONIGHT",
+        about: "where the sections of two nights part",
+        more: parting::MORE,
+        example: "parting monday tuesday",
+        options: &[Key::Json, Key::Quiet],
+        run: parting::run,
+    },
+    Command {
         name: "help",
         operands: "[COMMAND]",
         about: "this page, or a command's",
@@ -65,6 +92,8 @@ pub const COMMANDS: &[Command] = &[
 pub enum Key {
     Kind,
     Address,
+    /// The same word where it is asked for: a chip in a transcript has no kind that it could be known by.
+    Chip,
     Board,
     Table,
     Settings,
@@ -78,6 +107,7 @@ pub enum Key {
     Outcomes,
     Replies,
     Section,
+    Out,
     Record,
     Keep,
     Json,
@@ -115,6 +145,7 @@ const A_SCRIPT: &str = "a file's name, or - for standard input";
 pub const OPTIONS: &[Opt] = &[
     row(Key::Kind, "--kind", Some("r828d|r820t"), "r828d or r820t", "the tuner's kind", "r828d"),
     row(Key::Address, "--address", Some("N"), "a number to 255 (0xff)", "its address on the bus", "0x74; r820t: 0x34"),
+    row(Key::Chip, "--address", Some("N"), "a number to 255 (0xff)", "the chip's address on I2C, as 0x74 (R828D) or 0x34 (R820T)", "must be given"),
     row(Key::Board, "--board", Some("v4|generic"), "v4 or generic", "the board", "v4"),
     row(Key::Table, "--table", Some("FILE"), A_SCRIPT, "the board as a table of bands, as `table write` makes it", "the board's own"),
     row(Key::Settings, "--settings", Some("FILE"), A_SCRIPT, "what no word says is taken from these settings", "none"),
@@ -130,6 +161,7 @@ pub const OPTIONS: &[Opt] = &[
     row(Key::Record, "--record", Some("FILE"), A_SCRIPT, "the record to start from, as --keep has left it", "a fresh one"),
     row(Key::Keep, "--keep", Some("FILE"), A_FILE, "the record is written there at the end, also of a stopped run", "none"),
     row(Key::Section, "--section", Some("FILE"), A_FILE, "the sections, end to end, are written there; a file there is replaced", "none"),
+    row(Key::Out, "--out", Some("FILE"), A_FILE, "the answer's bytes are written there; a file there is replaced", "none"),
     row(Key::Json, "--json", None, "", "the same as JSON in place of the table", ""),
     row(Key::Quiet, "--quiet", None, "", "print nothing but what went wrong; the exit status tells the rest", ""),
 ];
@@ -202,6 +234,20 @@ impl Given {
         let given: Vec<&str> = keys.iter().filter(|key| self.word(**key).is_some_and(is_standard)).map(|key| option(*key).name).collect();
         if given.len() > 1 {
             out.mistake(&format!("standard input can be read once: give - to one of {}", given.join(" and ")));
+        }
+    }
+
+    /// Told where there is no file behind a command that takes files of sections, or standard input twice.
+    pub fn wants_files(&self, command: &str, out: &mut Out) {
+        if self.operands.is_empty() {
+            out.mistake(&format!("{command} wants files of sections, or - for standard input"));
+        }
+        self.reads_operands_once(out);
+    }
+
+    pub fn reads_operands_once(&self, out: &mut Out) {
+        if self.operands.iter().filter(|name| is_standard(name)).count() > 1 {
+            out.mistake("standard input can be read once: give - once");
         }
     }
 
@@ -307,12 +353,15 @@ mod tests {
 
     #[test]
     fn every_option_has_its_row() {
-        for (at, row) in OPTIONS.iter().enumerate() {
-            assert!(option(row.key).name == row.name && OPTIONS[..at].iter().all(|other| other.name != row.name), "{}", row.name);
+        for row in OPTIONS {
+            assert!(option(row.key).about == row.about, "{}", row.name);
             assert!(COMMANDS.iter().any(|command| command.options.contains(&row.key)), "no command has {}", row.name);
         }
-        for key in COMMANDS.iter().flat_map(|command| command.options) {
-            assert!(option(*key).key == *key);
+        for command in COMMANDS {
+            for (at, key) in command.options.iter().enumerate() {
+                assert!(option(*key).key == *key);
+                assert!(command.options[..at].iter().all(|other| option(*other).name != option(*key).name), "{}", option(*key).name);
+            }
         }
     }
 }

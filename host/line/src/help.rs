@@ -32,7 +32,7 @@ fn of_all(out: &mut Out) {
     for (at, command) in COMMANDS.iter().enumerate() {
         let lead = if at == 0 { "use: " } else { "     " };
         let words = format!("{} {}", command.name, command.operands);
-        out.line(&format!("{lead}./pasetone {words:<18} {}", command.about));
+        out.line(&format!("{lead}./pasetone {words:<27} {}", command.about));
     }
     out.line("");
     out.line("`./pasetone COMMAND --help` has its options, `./pasetone --version` the library's version.");

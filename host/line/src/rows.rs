@@ -71,3 +71,8 @@ pub fn register_json(tuner: &Tuner, register: u8) -> String {
         ("what", json::string(purpose(register))),
     ])
 }
+
+/// Bytes in hexadecimal.
+pub fn hex(bytes: &[u8]) -> String {
+    bytes.iter().map(|byte| format!("{byte:02x}")).collect::<Vec<_>>().join(" ")
+}

@@ -131,8 +131,18 @@ impl Walk {
         self.damages.len()
     }
 
+    /// The parts in the order of the file, each with its section's number; 0 where it counts as none.
+    pub fn numbered(&self) -> impl Iterator<Item = (usize, Part<'_>)> {
+        let mut sections = 0;
+        self.parts().map(move |part| {
+            let counts = !matches!(part, Part::Damaged(Damage { flaw: Flaw::Shapeless { counts: false }, .. }));
+            sections += usize::from(counts);
+            (if counts { sections } else { 0 }, part)
+        })
+    }
+
     /// The parts in the order of the file.
-    pub fn parts(&self) -> impl Iterator<Item = Part<'_>> {
+    fn parts(&self) -> impl Iterator<Item = Part<'_>> {
         let mut damages = self.damages.iter().rev().peekable();
         let ends = self.starts.iter().rev().skip(1).copied().chain([self.length]);
         self.starts.iter().rev().copied().zip(ends).map(move |(start, end)| match damages.next_if(|damage| damage.start == start) {

@@ -1,10 +1,10 @@
 //! `show`: sections of files, in words. A file is read whole, then walked from its end (sections.rs), then printed from its start.
 use crate::command::{Given, Key};
-use crate::files::{self, is_standard, shown};
+use crate::filed::{File, span};
 use crate::json;
 use crate::out::{End, Out};
-use crate::rows;
-use crate::sections::{Damage, ENTRY, Flaw, Part, TRAILER, Walk, alone};
+use crate::rows::{self, hex};
+use crate::sections::{Damage, ENTRY, Flaw, Part, TRAILER, Walk};
 use pasetone::Transcript;
 
 pub const MORE: &[&str] = &[
@@ -14,20 +14,14 @@ pub const MORE: &[&str] = &[
 ];
 
 pub fn run(given: &Given, out: &mut Out) {
-    if given.operands.is_empty() {
-        out.mistake("show wants files of sections, or - for standard input");
-    }
-    if given.operands.iter().filter(|name| is_standard(name)).count() > 1 {
-        out.mistake("standard input can be read once: give - once");
-    }
+    given.wants_files("show", out);
     if out.is_mistaken() {
         return;
     }
     let mut shown_before = 0;
     for name in &given.operands {
-        match files::read(name) {
-            Ok(bytes) => {
-                let file = File { name: if is_standard(name) { String::from("standard input") } else { shown(name) }, bytes };
+        match File::read(name) {
+            Ok(file) => {
                 file.show(given, shown_before, out);
                 shown_before += 1;
             }
@@ -37,11 +31,6 @@ pub fn run(given: &Given, out: &mut Out) {
     if given.has(Key::Json) {
         out.line(if shown_before == 0 { "[]" } else { "\n]" });
     }
-}
-
-struct File {
-    name: String,
-    bytes: Vec<u8>,
 }
 
 /// How far a file has been shown.
@@ -76,10 +65,8 @@ impl File {
 
     /// Each part with its number, 0 where it counts as no section, to `each`. Damage is told to standard error as it is met.
     fn parts(&self, walk: &Walk, count: &mut Count, each: &mut dyn FnMut(&Part, usize, &mut Count, &mut Out), out: &mut Out) {
-        for part in walk.parts() {
-            let counts = !matches!(part, Part::Damaged(Damage { flaw: Flaw::Shapeless { counts: false }, .. }));
-            count.sections += usize::from(counts);
-            let number = if counts { count.sections } else { 0 };
+        for (number, part) in walk.numbered() {
+            count.sections = count.sections.max(number);
             if !out.is_closed() {
                 each(&part, number, count, out);
             }
@@ -131,41 +118,6 @@ impl File {
         }
     }
 
-    fn entry(&self, at: usize) -> Option<Transcript> {
-        let section = alone(self.bytes.get(at..at + ENTRY)?);
-        Transcript::read(&section).ok().map(|(_, transcript)| transcript)
-    }
-
-    /// What is wrong with a damaged part, and what would be right.
-    fn told(&self, damage: &Damage, number: usize) -> String {
-        let (name, bytes, entries) = (&self.name, span(damage.start, damage.end), damage.entries);
-        let named = format!("{name}: section {number} ({bytes}) is damaged");
-        match damage.flaw {
-            Flaw::Entry(at) => {
-                let place = damage.start + ENTRY * at;
-                format!("{named}: its entry {at}, at byte {place}, is none that include/pasetone.h allows")
-            }
-            Flaw::Trailer => {
-                let (place, distance) = (damage.end - TRAILER, ENTRY * entries);
-                let cut = if damage.end == self.bytes.len() { ", or the file was cut there" } else { "" };
-                format!("{named}: its last 8 bytes, at byte {place}, are no trailer ({entries} and {distance} would be one){cut}")
-            }
-            Flaw::Shapeless { counts: true } if damage.end == self.bytes.len() => {
-                format!("{named}: {entries} entries are whole, and no trailer ends it")
-            }
-            Flaw::Shapeless { counts: true } => {
-                format!("{named}: no section has so many bytes; it counts as one of {entries} steps, so later numbers may be too low")
-            }
-            Flaw::Shapeless { counts: false } if damage.end - damage.start == self.bytes.len() => {
-                format!("{name}: it holds no section: give a file that --section of hop has written")
-            }
-            Flaw::Shapeless { counts: false } => {
-                let verb = if damage.end - damage.start == 1 { "is" } else { "are" };
-                format!("{name}: {bytes} {verb} of no section, which has 16 bytes for each entry and 8 behind them")
-            }
-        }
-    }
-
     fn json(&self, walk: &Walk, before: usize, out: &mut Out) {
         let mut count = Count::default();
         let mut first = true;
@@ -202,17 +154,4 @@ impl File {
             ("steps", steps),
         ])
     }
-}
-
-/// From the first to the last byte of a part; one that has none has no last.
-fn span(start: usize, end: usize) -> String {
-    match end - start {
-        0 => format!("no trailer at byte {start}"),
-        1 => format!("byte {start}"),
-        _ => format!("bytes {start} to {}", end - 1),
-    }
-}
-
-fn hex(bytes: &[u8]) -> String {
-    bytes.iter().map(|byte| format!("{byte:02x}")).collect::<Vec<_>>().join(" ")
 }

@@ -1,0 +1,225 @@
+//! A day: the sections of some files end to end, oldest first, and where they left a chip's registers. Which registers are sure is the library's answer (its
+//! restore list); of the others the last write tells why they are not.
+use crate::answer;
+use crate::boards::counted;
+use crate::command::{Given, Key};
+use crate::filed::File;
+use crate::json;
+use crate::numbers;
+use crate::out::Out;
+use crate::sections::{ENTRY, Part, TRAILER, Walk};
+use pasetone::{Entry, EntryKind, Error, Transcript, Tuner};
+use std::collections::{BTreeMap, BTreeSet};
+
+/// All of it is sections.
+pub struct Day {
+    bytes: Vec<u8>,
+    files: usize,
+    sections: usize,
+    steps: usize,
+}
+
+/// The last write of a register.
+struct Last {
+    byte: u8,
+    failed: bool,
+    /// Its step, counted from 0 over the whole day.
+    step: usize,
+}
+
+/// What a day says of one register.
+pub enum Held {
+    /// Its last write was done: this byte, at this step.
+    Sure(u8, usize),
+    /// Its last write failed.
+    Failed(u8, usize),
+    Never,
+}
+
+/// A chip at the end of a day.
+pub struct Chip {
+    pub address: u8,
+    /// The fewest writes that bring another chip there.
+    pub list: Transcript,
+    pub registers: Vec<(u8, Held)>,
+    /// The chips that were written to, this one and others.
+    written: BTreeSet<u8>,
+}
+
+/// The chip that `--address` names, at the end of the day in the files behind a command. `None` where something is wrong, which has then been told.
+pub fn of(command: &str, given: &Given, out: &mut Out) -> Option<(Day, Chip)> {
+    given.wants_files(command, out);
+    if !given.has(Key::Chip) {
+        out.mistake(&format!("{command} wants --address with the chip's address on I2C, as 0x74 (R828D) or 0x34 (R820T)"));
+    }
+    let address = given.value(Key::Chip, out, |text| u8::try_from(numbers::whole(text)?).ok());
+    let day = Day::read(command, given, out)?;
+    match day.chip(address?) {
+        Ok(chip) => Some((day, chip)),
+        // All of it was found whole before.
+        Err(error) => {
+            answer::refused(given, error, &format!("{command}: {error}"), out);
+            None
+        }
+    }
+}
+
+impl Day {
+    fn read(command: &str, given: &Given, out: &mut Out) -> Option<Day> {
+        let files = File::all(command, given, out)?;
+        let mut day = Day { bytes: Vec::new(), files: files.len(), sections: 0, steps: 0 };
+        let mut damaged = 0;
+        for file in files {
+            let walk = Walk::of(&file.bytes);
+            damaged += file.damaged(&walk, out);
+            day.sections += walk.numbered().last().map_or(0, |(number, _)| number);
+            day.steps += file.bytes.len().saturating_sub(TRAILER * walk.numbered().count()) / ENTRY;
+            // The usual day is one file, and may be a large one.
+            if day.bytes.is_empty() { day.bytes = file.bytes } else { day.bytes.extend(file.bytes) }
+        }
+        if damaged > 0 {
+            let (parts, verb) = (counted(damaged, "part"), if damaged == 1 { "is" } else { "are" });
+            let text = format!("{command}: {parts} of the files {verb} no section (refusal 12): give files that `show` finds whole");
+            answer::refused(given, Error::Section, &text, out);
+            return None;
+        }
+        Some(day)
+    }
+
+    /// Where the day left a chip.
+    fn chip(&self, address: u8) -> Result<Chip, Error> {
+        let list = Transcript::restore(&self.bytes, address)?;
+        let sure: BTreeMap<u8, u8> = list.iter().flat_map(|entry| writes(&entry).collect::<Vec<_>>()).collect();
+        let mut last: BTreeMap<u8, Last> = BTreeMap::new();
+        let mut written = BTreeSet::new();
+        self.each(|step, entry| {
+            if entry.kind == EntryKind::I2cWrite && entry.bytes.len() > 1 {
+                written.insert(entry.target);
+            }
+            if entry.kind == EntryKind::I2cWrite && entry.target == address {
+                last.extend(writes(entry).map(|(register, byte)| (register, Last { byte, failed: entry.failed, step })));
+            }
+        });
+        let held = |register: u8| match (sure.get(&register), last.get(&register)) {
+            (Some(byte), Some(last)) => Held::Sure(*byte, last.step),
+            (None, Some(last)) if last.failed => Held::Failed(last.byte, last.step),
+            _ => Held::Never,
+        };
+        Ok(Chip { address, list, registers: Tuner::registers().map(|register| (register, held(register))).collect(), written })
+    }
+
+    /// Every entry with its number, in order.
+    fn each(&self, mut see: impl FnMut(usize, &Entry)) {
+        let mut step = 0;
+        for (_, part) in Walk::of(&self.bytes).numbered() {
+            let Part::Good { start, end } = part else { continue };
+            let Ok((_, transcript)) = Transcript::read(&self.bytes[start..end]) else { continue };
+            for entry in &transcript {
+                see(step, &entry);
+                step += 1;
+            }
+        }
+    }
+
+    pub fn line(&self, chip: &Chip) -> String {
+        let (files, sections) = (counted(self.files, "file"), counted(self.sections, "section"));
+        format!("chip 0x{:02x} behind {sections} and {} of {files}", chip.address, counted(self.steps, "step"))
+    }
+
+    pub fn json(&self, chip: &Chip) -> [(&'static str, String); 5] {
+        [
+            answer::done_json(),
+            ("address", chip.address.to_string()),
+            ("files", self.files.to_string()),
+            ("sections", self.sections.to_string()),
+            ("steps", self.steps.to_string()),
+        ]
+    }
+}
+
+/// The registers that an I2C write names, each with its byte. Numbers past 0xff do not wrap, and nothing is kept of a register out of 0x05..=0x1f.
+fn writes<'a>(entry: &Entry<'a>) -> impl Iterator<Item = (u8, u8)> + 'a {
+    let (first, bytes) = entry.bytes.split_first().map_or((0, &entry.bytes[..0]), |(first, bytes)| (*first, bytes));
+    (first..=u8::MAX).zip(bytes.iter().copied()).filter(|(register, _)| Tuner::registers().any(|known| known == *register))
+}
+
+impl Chip {
+    pub fn sure(&self) -> Vec<u8> {
+        self.those(|held| matches!(held, Held::Sure(..)))
+    }
+
+    pub fn those(&self, is: impl Fn(&Held) -> bool) -> Vec<u8> {
+        self.registers.iter().filter(|(_, held)| is(held)).map(|(register, _)| *register).collect()
+    }
+
+    /// What to do where nothing was written to this chip, and something to others.
+    pub fn note(&self) -> Option<String> {
+        if self.written.is_empty() || self.written.contains(&self.address) {
+            return None;
+        }
+        let others: Vec<String> = self.written.iter().map(|chip| format!("0x{chip:02x}")).collect();
+        Some(format!("note: nothing is written to 0x{:02x} here, but to {}: give that as --address", self.address, others.join(" and ")))
+    }
+
+    pub fn registers_json(&self) -> String {
+        json::lines(self.registers.iter().map(|(register, held)| {
+            let (byte, step, sure) = match held {
+                Held::Sure(byte, step) => (Some(*byte), Some(*step), true),
+                Held::Failed(byte, step) => (Some(*byte), Some(*step), false),
+                Held::Never => (None, None, false),
+            };
+            json::object(&[
+                ("register", register.to_string()),
+                ("sent", json::maybe(byte)),
+                ("step", json::maybe(step)),
+                ("doubtful", (!sure).to_string()),
+                ("what", json::string(crate::registers::purpose(*register))),
+            ])
+        }))
+    }
+}
+
+/// Registers as runs: `0x05 to 0x08, 0x0a`.
+pub fn runs(registers: &[u8]) -> String {
+    let mut runs: Vec<(u8, u8)> = Vec::new();
+    for register in registers {
+        match runs.last_mut() {
+            Some((_, last)) if *last + 1 == *register => *last = *register,
+            _ => runs.push((*register, *register)),
+        }
+    }
+    let told = |(first, last): &(u8, u8)| if first == last { format!("0x{first:02x}") } else { format!("0x{first:02x} to 0x{last:02x}") };
+    runs.iter().map(told).collect::<Vec<_>>().join(", ")
+}
+
+#[cfg(test)]
+mod tests {
+    use super::*;
+    use pasetone::{Script, TunerKind};
+
+    #[test]
+    fn runs_of_registers() {
+        assert_eq!(runs(&[5, 6, 7, 9, 0x1e, 0x1f]), "0x05 to 0x07, 0x09, 0x1e to 0x1f");
+        assert_eq!(runs(&[]), "");
+    }
+
+    /// What the sections say is what the record says, whatever failed: every step of an initialisation and of a tuning behind it fails once.
+    #[test]
+    fn a_day_is_what_the_record_says() {
+        for fail in 0..100 {
+            let mut tuner = Tuner::new(TunerKind::R828d, 0x74, 28_800_000).unwrap();
+            let script = |at: usize| if at < 60 { Script::all_done().failing(at).unwrap() } else { Script::all_done() };
+            let first = tuner.initialize(&script(fail)).transcript;
+            let second = tuner.set_frequency(102_300_000, &script(fail.saturating_sub(19))).transcript;
+            let bytes = [first.bytes(), second.bytes()].concat();
+            let day = Day { bytes, files: 1, sections: 2, steps: first.len() + second.len() };
+            for (register, held) in day.chip(0x74).unwrap().registers {
+                assert_eq!(tuner.is_doubtful(register), !matches!(held, Held::Sure(..)), "{fail} {register}");
+                if let Held::Sure(byte, _) | Held::Failed(byte, _) = held {
+                    assert_eq!(tuner.shadow(register), Some(byte));
+                }
+            }
+            assert!(day.chip(0x34).unwrap().registers.iter().all(|(_, held)| matches!(held, Held::Never)));
+        }
+    }
+}

@@ -1,0 +1,50 @@
+//! `held`: what a chip holds behind all sections of some files, register by register, and what is doubtful.
+use crate::command::{Given, Key};
+use crate::day::{self, Chip, Held};
+use crate::json;
+use crate::out::Out;
+use crate::registers::purpose;
+
+pub const MORE: &[&str] = &[
+    "The files hold sections end to end, as --section of hop writes them, the oldest first; - is",
+    "standard input. A register is sure if its last write was done: the chip holds that byte. It is",
+    "DOUBTFUL if its last write failed, or if none of the sections writes it. Steps are counted from 0",
+    "over all files. Where a section is damaged nothing is said, and the exit status is 1.",
+];
+
+pub fn run(given: &Given, out: &mut Out) {
+    let Some((day, chip)) = day::of("held", given, out) else { return };
+    if given.has(Key::Quiet) {
+        return;
+    }
+    let doubtful = chip.registers.len() - chip.sure().len();
+    if given.has(Key::Json) {
+        let mut fields = Vec::from(day.json(&chip));
+        fields.extend([("doubtful", doubtful.to_string()), ("registers", chip.registers_json())]);
+        out.line(&json::document(&fields));
+        return;
+    }
+    out.line(&day.line(&chip));
+    out.line("");
+    out.line("  reg   sent  held                           what it is for");
+    rows(&chip, out);
+    out.line("");
+    out.line(&format!("held: {} of {} registers are sure, {doubtful} doubtful", chip.sure().len(), chip.registers.len()));
+    if let Some(note) = chip.note() {
+        out.line(&note);
+    }
+}
+
+fn rows(chip: &Chip, out: &mut Out) {
+    for (register, held) in &chip.registers {
+        let (sent, word, since) = match held {
+            Held::Sure(byte, step) => (format!("{byte:02x}"), String::from("sure"), format!("since step {step}")),
+            Held::Failed(byte, step) => (format!("{byte:02x} ?"), out.loud("DOUBTFUL"), format!("step {step} FAILED")),
+            Held::Never => (String::from("-- ?"), out.loud("DOUBTFUL"), String::from("never written")),
+        };
+        // The word comes first, so that its colour counts for no padding.
+        let pad = if matches!(held, Held::Sure(..)) { "    " } else { "" };
+        let line = format!("  0x{register:02x}  {sent:<4}  {word}{pad}  {since:<20} {}", purpose(*register));
+        out.line(line.trim_end());
+    }
+}
