@@ -4,7 +4,7 @@ use crate::json;
 use crate::out::{End, Out};
 use crate::reach;
 use crate::run::{Call, Made, Run};
-use pasetone::{Error, Table};
+use pasetone::{Error, Table, Tuner};
 use std::ops::RangeInclusive;
 
 pub struct Told {
@@ -26,6 +26,16 @@ pub fn refused(given: &Given, error: Error, text: &str, out: &mut Out) {
         out.line(&json::document(&[("refusal", number), ("word", word), ("text", json::string(text))]));
     }
     out.tell(End::Refused, text);
+}
+
+/// The last lines of such a command that has printed all the same: behind the table, or to standard error where there is none.
+pub fn last_lines(given: &Given, answer: &str, to_do: &str, out: &mut Out) {
+    if given.has(Key::Json) || given.has(Key::Quiet) {
+        return out.tell(End::Refused, &format!("answer: {answer}; to do: {to_do}"));
+    }
+    out.line(&format!("answer: {answer}"));
+    out.line(&format!("to do: {to_do}"));
+    out.ends(End::Refused);
 }
 
 /// The first field of such a command's JSON where it is done.
@@ -90,8 +100,7 @@ fn stopped(run: &Run, made: &Made, error: Error, wish: &Wish) -> Told {
 fn words(error: Error, wish: &Wish) -> &'static str {
     match error {
         Error::Setup => "setup: a record, kind or reference is out of its range",
-        Error::Frequency if wish.table.plan_tuning(wish.hz).is_err() => "frequency: no band of the table has it",
-        Error::Frequency => "frequency: 0, or one that the PLL does not reach",
+        Error::Frequency => frequency_words(wish.table, wish.hz),
         Error::Rate => "rate: 0",
         Error::Correction => "correction: the corrected reference is out of its range",
         Error::Ratio => "ratio: the resampler cannot hold this rate with this reference",
@@ -107,7 +116,7 @@ fn to_do(run: &Run, made: &Made, error: Error, wish: &Wish) -> String {
     let (call, need, left) = (made.call.name(), made.call.need(), made.left);
     match error {
         Error::Setup => String::from("give --reference from 1 to 4294967295 Hz"),
-        Error::Frequency => frequencies(run, wish),
+        Error::Frequency => run.records.as_ref().map_or_else(String::new, |(tuner, _)| reachable(tuner, wish.table, wish.hz)),
         Error::Rate => String::from("give --rate from 1 to 4294967295"),
         Error::Correction => corrections(run),
         Error::Ratio => rates(run, wish.rate),
@@ -129,16 +138,23 @@ fn longer(call: &str, what: &str, need: usize, left: usize) -> String {
 }
 
 /// The frequencies next to the one asked for, below and above it, that can be reached.
-fn frequencies(run: &Run, wish: &Wish) -> String {
-    let Some((tuner, _)) = &run.records else { return String::new() };
-    let next = beside(&reach::reached(tuner, wish.table), wish.hz);
-    if wish.table.bands().len() == 0 {
+pub fn reachable(tuner: &Tuner, table: &Table, hz: u64) -> String {
+    if table.bands().len() == 0 {
         return String::from("the table has no bands: give one that has");
     }
+    let next = beside(&reach::reached(tuner, table), hz);
     if next.is_empty() {
         return format!("no frequency can be reached with a reference of {} Hz: give another by --reference", tuner.corrected());
     }
     format!("ask for {next} Hz")
+}
+
+/// Why a frequency is refused: by the table, or by the PLL.
+pub fn frequency_words(table: &Table, hz: u64) -> &'static str {
+    match table.plan_tuning(hz) {
+        Err(_) => "frequency: no band of the table has it",
+        Ok(_) => "frequency: 0, or one that the PLL does not reach",
+    }
 }
 
 /// The stretches next to a number, below and above it.

@@ -1,10 +1,11 @@
 //! Boards: one that is built in, or one of a table in a file. A table's bytes are the library's; what is wrong with bytes that are none is told here, band by
 //! band, in the order of docs: length, then each band.
 use crate::command::{Given, Key};
-use crate::files::shown;
+use crate::files::{self, shown};
 use crate::names;
 use crate::out::Out;
 use pasetone::{Board, Table};
+use std::ffi::OsStr;
 
 /// How much of a file tells whether it is a table.
 const LOOKED_AT: usize = Table::BAND * Table::BANDS + 1;
@@ -106,6 +107,11 @@ pub fn edges_fault(first: u64, last: u64, before: Option<u64>) -> Option<String>
     }
     let before = before.filter(|before| first <= *before)?;
     Some(format!("begins at {first} Hz, and the one before it ends at {before}: bands ascend and do not overlap"))
+}
+
+/// The bytes of a file, as far as a table's reader has to see them.
+pub fn read(name: &OsStr) -> Result<Vec<u8>, String> {
+    files::start(name, LOOKED_AT)
 }
 
 #[cfg(test)]

@@ -3,7 +3,7 @@
 //! A new command is a file with its `run`, a row in `COMMANDS`, and a row in `OPTIONS` for an option that none has yet.
 use crate::files::{self, Sink, is_standard, shown};
 use crate::out::Out;
-use crate::{held, help, hop, parting, reload, restore, show};
+use crate::{entries, held, help, hop, packets, parting, plan, reload, restore, settings, show, table, worksheet};
 use std::ffi::{OsStr, OsString};
 use std::os::unix::ffi::OsStrExt;
 
@@ -78,6 +78,60 @@ pub const COMMANDS: &[Command] = &[
         run: parting::run,
     },
     Command {
+        name: "plan",
+        operands: "[HZ]",
+        about: "how a board is tuned to a frequency",
+        more: plan::MORE,
+        example: "plan 7.1M --board v4",
+        options: plan::OPTIONS,
+        run: plan::run,
+    },
+    Command {
+        name: "worksheet",
+        operands: "LO",
+        about: "the PLL's numbers, row by row",
+        more: worksheet::MORE,
+        example: "worksheet 104.6M",
+        options: worksheet::OPTIONS,
+        run: worksheet::run,
+    },
+    Command {
+        name: "table",
+        operands: "show|write [FILE]",
+        about: "a board's bands, as text and as bytes",
+        more: table::MORE,
+        example: "table write bands.txt --out board.table",
+        options: table::OPTIONS,
+        run: table::run,
+    },
+    Command {
+        name: "settings",
+        operands: "show|write|move FILE",
+        about: "a receiver's settings on file",
+        more: settings::MORE,
+        example: "settings write site 102.3M --ppm -3 --gain 29.7",
+        options: settings::OPTIONS,
+        run: settings::run,
+    },
+    Command {
+        name: "packets",
+        operands: "FILE",
+        about: "sections as USB setup packets",
+        more: packets::MORE,
+        example: "packets sections --out packets",
+        options: packets::OPTIONS,
+        run: packets::run,
+    },
+    Command {
+        name: "entries",
+        operands: "FILE",
+        about: "setup packets, back as a section",
+        more: entries::MORE,
+        example: "entries packets --out section",
+        options: entries::OPTIONS,
+        run: entries::run,
+    },
+    Command {
         name: "help",
         operands: "[COMMAND]",
         about: "this page, or a command's",
@@ -102,6 +156,7 @@ pub enum Key {
     Rate,
     Gain,
     If,
+    Edition,
     Initialise,
     Fail,
     Outcomes,
@@ -153,7 +208,8 @@ pub const OPTIONS: &[Opt] = &[
     row(Key::Ppm, "--ppm", Some("N"), "a number from -2147483648 to 2147483647", "the reference's correction, parts per million", "not called"),
     row(Key::Rate, "--rate", Some("N"), "a whole number to 4294967295, as 2048000 or 2.4M", "samples a second", "2.048M; --record: not called"),
     row(Key::Gain, "--gain", Some("DB"), "dB from -6553.5 to 6553.5, as 29.7", "at most one digit behind the point", "29.7; --record: not called"),
-    row(Key::If, "--if", Some("HZ"), "a whole number of Hz to 4294967295, as 2300000 or 2.3M", "the IF, of tuner and demodulator", "the rate's own"),
+    row(Key::If, "--if", Some("HZ"), "a whole number of Hz to 4294967295, as 2300000 or 2.3M", "the IF, of tuner and demodulator", "the rate's own; plan: 2.3M"),
+    row(Key::Edition, "--edition", Some("1|2"), "1 or 2", "the edition to be written", "2; move: must be given"),
     row(Key::Initialise, "--initialise", None, "", "initialise is called over the record of --record too", ""),
     row(Key::Fail, "--fail", Some("N"), "a step's number, to 4095", "step N fails, counted from 0 over the whole run", "none"),
     row(Key::Outcomes, "--outcomes", Some("FILE"), A_SCRIPT, "a byte for each step: 0 done, any other failed", "all done"),

@@ -51,6 +51,13 @@ pub fn signed(text: &str) -> Option<i32> {
     i32::try_from(if minus { -magnitude } else { magnitude }).ok()
 }
 
+/// Hz with a minus or without, of 64 bits.
+pub fn shift(text: &str) -> Option<i64> {
+    let (minus, number) = sign(text);
+    let magnitude = i128::from(hertz(number)?);
+    i64::try_from(if minus { -magnitude } else { magnitude }).ok()
+}
+
 /// Tenths, as 29.7, 30 or -1.5 spell them: a point has one digit behind it. To 6553.5 on both sides, so that a tenth is one binary32.
 pub fn tenths(text: &str) -> Option<i32> {
     let (minus, number) = sign(text);
@@ -108,6 +115,15 @@ mod tests {
         assert_eq!(hertz("18446744073709551615"), Some(u64::MAX));
         assert_eq!(hertz("18446744073.709551615G"), Some(u64::MAX));
         assert_eq!(hertz("0xffffffffffffffff"), Some(u64::MAX));
+    }
+
+    #[test]
+    fn shifts() {
+        assert_eq!((shift("-2G"), shift("28.8M"), shift("0"), shift("-0")), (Some(-2_000_000_000), Some(28_800_000), Some(0), Some(0)));
+        assert_eq!((shift("-9223372036854775808"), shift("9223372036854775807")), (Some(i64::MIN), Some(i64::MAX)));
+        for text in ["-9223372036854775809", "9223372036854775808", "--1", "-", "", "1.5"] {
+            assert_eq!(shift(text), None, "{text}");
+        }
     }
 
     #[test]
