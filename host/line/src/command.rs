@@ -162,6 +162,7 @@ pub enum Key {
     Outcomes,
     Replies,
     Section,
+    Append,
     Out,
     Record,
     Keep,
@@ -217,6 +218,7 @@ pub const OPTIONS: &[Opt] = &[
     row(Key::Record, "--record", Some("FILE"), A_SCRIPT, "the record to start from, as --keep has left it", "a fresh one"),
     row(Key::Keep, "--keep", Some("FILE"), A_FILE, "the record is written there at the end, also of a stopped run", "none"),
     row(Key::Section, "--section", Some("FILE"), A_FILE, "the sections, end to end, are written there; a file there is replaced", "none"),
+    row(Key::Append, "--append", Some("FILE"), A_FILE, "the sections are written there behind what the file holds", "none"),
     row(Key::Out, "--out", Some("FILE"), A_FILE, "the answer's bytes are written there; a file there is replaced", "none"),
     row(Key::Json, "--json", None, "", "the same as JSON in place of the table", ""),
     row(Key::Quiet, "--quiet", None, "", "print nothing but what went wrong; the exit status tells the rest", ""),
@@ -307,11 +309,21 @@ impl Given {
         }
     }
 
-    /// Told where the files of a run's sections and of its record are one.
-    pub fn names_two_files(&self, out: &mut Out) {
-        if self.has(Key::Section) && self.word(Key::Section) == self.word(Key::Keep) {
-            out.mistake("--section and --keep name one file: name two");
+    /// Told where two of the files that a run writes are one.
+    pub fn names_other_files(&self, out: &mut Out) {
+        let written = [Key::Section, Key::Append, Key::Keep];
+        for (at, key) in written.iter().enumerate().filter(|(_, key)| self.has(**key)) {
+            for other in written[at + 1..].iter().filter(|other| self.word(**other) == self.word(*key)) {
+                out.mistake(&format!("{} and {} name one file: name two", option(*key).name, option(*other).name));
+            }
         }
+    }
+
+    /// The files that a run writes, opened before its first call.
+    pub fn kept_files(&self, out: &mut Out) -> Kept {
+        let behind = self.target(Key::Append, out).map(Sink::open_behind);
+        let append = behind.and_then(|sink| sink.map_err(|why| out.mistake(&format!("--append {why}"))).ok());
+        Kept { section: self.sink(Key::Section, out), append, record: self.sink(Key::Keep, out) }
     }
 
     /// The name of a file to be written.
@@ -323,6 +335,13 @@ impl Given {
         out.mistake(&format!("{} wants {}: - is standard input, which is only read", option(key).name, A_FILE));
         None
     }
+}
+
+/// The files that a run writes when it has ended.
+pub struct Kept {
+    pub section: Option<Sink>,
+    pub append: Option<Sink>,
+    pub record: Option<Sink>,
 }
 
 /// Reads the words. `None` where there is no command, which has then been told.

@@ -87,6 +87,8 @@ pub struct Sink {
     name: OsString,
     file: File,
     place: Option<Place>,
+    /// Of a file that is written behind what it holds: how much that is.
+    behind: Option<u64>,
 }
 
 struct Place {
@@ -110,7 +112,7 @@ impl Sink {
                 sink.file.set_permissions(is.permissions())?;
                 Ok(sink)
             }
-            Ok(_) => Ok(Sink { name: owned, file: OpenOptions::new().write(true).open(name)?, place: None }),
+            Ok(_) => Ok(Sink { name: owned, file: OpenOptions::new().write(true).open(name)?, place: None, behind: None }),
             Err(_) => Sink::beside(owned, PathBuf::from(name)),
         }
     }
@@ -122,7 +124,18 @@ impl Sink {
         own.push(format!(".{}", process::id()));
         let beside = folder_of(&real).join(own);
         let file = OpenOptions::new().write(true).create_new(true).open(&beside)?;
-        Ok(Sink { name, file, place: Some(Place { beside, real }) })
+        Ok(Sink { name, file, place: Some(Place { beside, real }), behind: None })
+    }
+
+    /// A file that is written behind what it holds, and made where it is not there: a night's sections, hop by hop. It is not written anew, so that a long
+    /// night costs no more for each hop.
+    pub fn open_behind(name: &OsStr) -> Result<Sink, String> {
+        let opened = || {
+            let file = OpenOptions::new().append(true).create(true).open(name)?;
+            let is = file.metadata()?;
+            Ok(Sink { name: name.to_os_string(), file, place: None, behind: is.is_file().then_some(is.len()) })
+        };
+        opened().map_err(|error| unwritten(name, &error))
     }
 
     /// Writes all of it and puts it into its place.
@@ -133,6 +146,9 @@ impl Sink {
         });
         if kept.is_ok() {
             self.place = None;
+        } else if let Some(length) = self.behind {
+            // Half of a section is none: the file is as it was, where that can still be had.
+            let _ = self.file.set_len(length);
         }
         kept.map_err(|error| unwritten(&self.name, &error))
     }

@@ -1,8 +1,8 @@
 //! `hop`: the calls that lead to a frequency, over a fresh record or a kept one, with a script in place of a receiver.
 use crate::answer::{self, Wish};
 use crate::boards::Place;
-use crate::command::{Given, Key, option};
-use crate::files::{Sink, shown};
+use crate::command::{Given, Kept, Key, option};
+use crate::files::shown;
 use crate::names::Gain;
 use crate::out::{End, Out};
 use crate::receiver::{self, Receiver};
@@ -41,6 +41,7 @@ pub const OPTIONS: &[Key] = &[
     Key::Record,
     Key::Keep,
     Key::Section,
+    Key::Append,
     Key::Json,
     Key::Quiet,
 ];
@@ -55,13 +56,12 @@ struct Request {
     outcomes: Vec<u8>,
     replies: Vec<u8>,
     fail: Option<usize>,
-    section: Option<Sink>,
-    keep: Option<Sink>,
+    files: Kept,
 }
 
 pub fn run(given: &Given, out: &mut Out) {
     let Some(request) = request(given, out).filter(|_| !out.is_mistaken()) else { return };
-    let Request { asked, start, place, settings, outcomes, replies, fail, section, keep } = request;
+    let Request { asked, start, place, settings, outcomes, replies, fail, files } = request;
     let head = Head::of(&start, &place, settings);
     let run = Run::hop(start, &asked, &place.table, outcomes, replies);
     let wish = Wish { hz: asked.hz, rate: asked.rate.unwrap_or(0), table: &place.table, keep: given.word(Key::Keep).map(shown) };
@@ -79,7 +79,7 @@ pub fn run(given: &Given, out: &mut Out) {
     if report.told.number > 0 {
         out.ends(End::Refused);
     }
-    report.run.keep(section, keep, out);
+    report.run.keep(files, out);
 }
 
 /// Reads all words, and only then opens files, so that one line is told for each mistake.
@@ -110,9 +110,9 @@ fn request(given: &Given, out: &mut Out) -> Option<Request> {
     if out.is_mistaken() {
         return None;
     }
-    let (section, keep) = (given.sink(Key::Section, out), given.sink(Key::Keep, out));
+    let files = given.kept_files(out);
     let settings = settings.map(|kept| (given.word(Key::Settings).map(shown).unwrap_or_default(), kept.edition));
-    Some(Request { asked, start: start?, place, settings, outcomes, replies, fail, section, keep })
+    Some(Request { asked, start: start?, place, settings, outcomes, replies, fail, files })
 }
 
 /// The frequency; it may be left out where settings have one.
@@ -145,7 +145,7 @@ fn together(given: &Given, out: &mut Out) {
         out.mistake("--initialise goes with --record: a fresh record is initialised anyway");
     }
     given.reads_once(&[Key::Outcomes, Key::Replies, Key::Record, Key::Table, Key::Settings], out);
-    given.names_two_files(out);
+    given.names_other_files(out);
 }
 
 fn kept(given: &Given, out: &mut Out) -> Option<Start> {

@@ -8,6 +8,7 @@ use crate::numbers;
 use crate::out::Out;
 use crate::receiver::{self, Receiver};
 use crate::report::{plan_json, plan_line};
+use crate::worksheet::{numbered, pll_json};
 use pasetone::{Board, Driver, Error, Plan, PllPlan, Script, Tuner, TunerKind};
 
 pub const MORE: &[&str] = &[
@@ -106,15 +107,6 @@ impl Planned {
     }
 
     fn json(&self, out: &mut Out) {
-        let pll = |pll: &PllPlan| {
-            json::object(&[
-                ("m", pll.divider.to_string()),
-                ("n", pll.n.to_string()),
-                ("setting", pll.setting.to_string()),
-                ("sum", pll.sum.to_string()),
-                ("rest", pll.rest.to_string()),
-            ])
-        };
         let refusal = match self.pll {
             Ok(_) => answer::done_json(),
             Err(error) => ("refusal", error.number().to_string()),
@@ -127,7 +119,7 @@ impl Planned {
             ("reference", self.reference.to_string()),
             ("if", self.if_hz.to_string()),
             ("plan", json::maybe(self.plan.as_ref().map(plan_json))),
-            ("pll", json::maybe(self.pll.as_ref().ok().map(pll))),
+            ("pll", json::maybe(self.pll.as_ref().ok().map(|pll| pll_json(&numbered(pll))))),
         ]));
     }
 }

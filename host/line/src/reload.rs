@@ -15,18 +15,18 @@ pub const MORE: &[&str] = &[
     "stays as it is; --keep writes the next record, and may name the same file.",
 ];
 
-pub const OPTIONS: &[Key] = &[Key::Fail, Key::Outcomes, Key::Keep, Key::Section, Key::Json, Key::Quiet];
+pub const OPTIONS: &[Key] = &[Key::Fail, Key::Outcomes, Key::Keep, Key::Section, Key::Append, Key::Json, Key::Quiet];
 
 pub fn run(given: &Given, out: &mut Out) {
     let fail = script::fail(given, out);
-    given.names_two_files(out);
+    given.names_other_files(out);
     if given.operands.iter().any(|name| is_standard(name)) && given.word(Key::Outcomes).is_some_and(is_standard) {
         out.mistake("standard input can be read once: give - to the record or to --outcomes");
     }
     let records = kept(given, out);
     let outcomes = script::outcomes(given, fail, out);
     let Some((tuner, driver)) = records.filter(|_| !out.is_mistaken()) else { return };
-    let (section, keep) = (given.sink(Key::Section, out), given.sink(Key::Keep, out));
+    let files = given.kept_files(out);
     if out.is_mistaken() {
         return;
     }
@@ -50,7 +50,7 @@ pub fn run(given: &Given, out: &mut Out) {
     if told.number > 0 {
         out.ends(End::Refused);
     }
-    run.keep(section, keep, out);
+    run.keep(files, out);
 }
 
 /// The record that the one operand names.

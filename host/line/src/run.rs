@@ -1,5 +1,5 @@
 //! The calls of a run, one after the other over the same records. Each is made only while none before it was refused or stopped.
-use crate::files::Sink;
+use crate::command::Kept;
 use crate::names::{Gain, decibels};
 use crate::out::{End, Out};
 use crate::record;
@@ -201,11 +201,13 @@ impl Run {
     }
 
     /// The sections and the record into their files, also of a run that stopped.
-    pub fn keep(&self, section: Option<Sink>, keep: Option<Sink>, out: &mut Out) {
-        if let Some(sink) = section {
-            sink.keep_or_tell(&self.sections(), "--section", out);
+    pub fn keep(&self, files: Kept, out: &mut Out) {
+        for (sink, option) in [(files.section, "--section"), (files.append, "--append")] {
+            if let Some(sink) = sink {
+                sink.keep_or_tell(&self.sections(), option, out);
+            }
         }
-        match (keep, &self.records) {
+        match (files.record, &self.records) {
             (Some(sink), Some((tuner, driver))) => sink.keep_or_tell(&record::write(tuner, driver), "--keep", out),
             (Some(_), None) => out.tell(End::Refused, "--keep: no record was made, so none is written: see the answer"),
             (None, _) => {}

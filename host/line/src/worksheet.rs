@@ -150,7 +150,14 @@ pub fn run(given: &Given, out: &mut Out) {
     }
 }
 
-fn numbered(plan: &PllPlan) -> [u64; 5] {
+/// The numbers as JSON.
+pub fn pll_json(numbers: &[u64; 5]) -> String {
+    let fields: Vec<(&str, String)> =
+        ["m", "n", "setting", "sum", "rest"].into_iter().zip(numbers.map(|number| number.to_string())).collect();
+    json::object(&fields)
+}
+
+pub fn numbered(plan: &PllPlan) -> [u64; 5] {
     [plan.divider.into(), plan.n.into(), plan.setting.into(), plan.sum.into(), plan.rest]
 }
 
@@ -221,16 +228,7 @@ fn answers(sheet: &Sheet, engines: &[Result<[u64; 5], Error>; 2], agree: bool, o
 }
 
 fn json(sheet: &Sheet, engines: &[Result<[u64; 5], Error>; 2], agree: bool, out: &mut Out) {
-    let told = |answer: &Result<[u64; 5], Error>| match answer {
-        Ok([m, n, setting, sum, rest]) => json::object(&[
-            ("m", m.to_string()),
-            ("n", n.to_string()),
-            ("setting", setting.to_string()),
-            ("sum", sum.to_string()),
-            ("rest", rest.to_string()),
-        ]),
-        Err(_) => String::from("null"),
-    };
+    let told = |answer: &Result<[u64; 5], Error>| json::maybe(answer.as_ref().ok().map(pll_json));
     let line = |line: &Line| {
         json::object(&[
             ("line", line.number.to_string()),
