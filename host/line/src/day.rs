@@ -137,10 +137,9 @@ impl Day {
     }
 }
 
-/// The registers that an I2C write names, each with its byte. Numbers past 0xff do not wrap, and nothing is kept of a register out of 0x05..=0x1f.
-fn writes<'a>(entry: &Entry<'a>) -> impl Iterator<Item = (u8, u8)> + 'a {
-    let (first, bytes) = entry.bytes.split_first().map_or((0, &entry.bytes[..0]), |(first, bytes)| (*first, bytes));
-    (first..=u8::MAX).zip(bytes.iter().copied()).filter(|(register, _)| Tuner::registers().any(|known| known == *register))
+/// The registers of which a record keeps something, each with its byte.
+fn writes<'a>(entry: &Entry<'a>) -> impl Iterator<Item = (u8, u8)> + use<'a> {
+    entry.registers().filter(|(register, _)| Tuner::registers().any(|known| known == *register))
 }
 
 impl Chip {

@@ -5,9 +5,8 @@ use crate::command::{Given, Key};
 use crate::files::{self, is_standard, shown};
 use crate::json;
 use crate::out::Out;
-use crate::packets::packets_of;
 use crate::rows;
-use pasetone::Transcript;
+use pasetone::{Packet, Transcript};
 
 pub const MORE: &[&str] = &[
     "FILE holds setup packets end to end, each with a write's data, as `packets --out` writes them; - is",
@@ -50,9 +49,11 @@ pub fn run(given: &Given, out: &mut Out) {
 /// Where packets stop to be a section's. What is one up to a packet's end is one up to each end before it, so halving finds the first that is not.
 fn flaw(bytes: &[u8]) -> String {
     let mut ends = vec![0];
-    for (setup, data) in packets_of(bytes) {
-        ends.push(ends[ends.len() - 1] + setup.len() + data.len());
+    for packet in Packet::all(bytes) {
+        ends.push(ends[ends.len() - 1] + packet.setup().len() + packet.data.len());
     }
+    // A cut packet's end is the file's.
+    ends.extend((ends[ends.len() - 1] < bytes.len()).then_some(bytes.len()));
     let good = ends.partition_point(|end| Transcript::of_packets(&bytes[..*end]).is_ok());
     let (before, at) = (good.saturating_sub(1), ends[good.saturating_sub(1)]);
     let entries = Transcript::of_packets(&bytes[..at]).map_or(0, |section| section.len());

@@ -7,7 +7,7 @@ use crate::json;
 use crate::out::Out;
 use crate::rows::hex;
 use crate::sections::{ENTRY, Part, Walk, alone};
-use pasetone::{Error, Transcript};
+use pasetone::{Error, Packet, Transcript};
 
 pub const MORE: &[&str] = &[
     "FILE holds sections end to end, as --section of hop writes them; - is standard input. Each step is",
@@ -18,8 +18,6 @@ pub const MORE: &[&str] = &[
 ];
 
 pub const OPTIONS: &[Key] = &[Key::Out, Key::Json, Key::Quiet];
-
-const SETUP: usize = 8;
 
 /// The packets of a whole file, and how many sections and steps they are of.
 #[derive(Default)]
@@ -113,44 +111,31 @@ fn one(transcript: &Transcript, at: usize) -> Option<Transcript> {
 }
 
 /// Every step with its words and its packets, in order.
-fn each(file: &File, walk: &Walk, mut see: impl FnMut(usize, &str, &[(&[u8], &[u8])])) {
+fn each(file: &File, walk: &Walk, mut see: impl FnMut(usize, &str, &[Packet])) {
     let mut step = 0;
     for (_, part) in walk.numbered() {
         let Part::Good { start, end } = part else { continue };
         let Ok((_, transcript)) = Transcript::read(&file.bytes[start..end]) else { continue };
         for (at, entry) in transcript.iter().enumerate() {
             let packets = one(&transcript, at).and_then(|one| one.packets().ok()).unwrap_or_default();
-            see(step, &entry.words(), &packets_of(&packets));
+            see(step, &entry.words(), &Packet::all(&packets).collect::<Vec<_>>());
             step += 1;
         }
     }
 }
 
-/// Each packet of an entry with its data: a write's are as many as its length says, and a read's do not come.
-pub fn packets_of(bytes: &[u8]) -> Vec<(&[u8], &[u8])> {
-    let mut packets = Vec::new();
-    let mut rest = bytes;
-    while let Some((setup, behind)) = rest.split_at_checked(SETUP) {
-        let length = if setup[0] & 0x80 == 0 { usize::from(u16::from_le_bytes([setup[6], setup[7]])) } else { 0 };
-        let (data, next) = behind.split_at(length.min(behind.len()));
-        packets.push((setup, data));
-        rest = next;
-    }
-    packets
-}
-
-fn step_rows(step: usize, words: &str, packets: &[(&[u8], &[u8])], out: &mut Out) {
+fn step_rows(step: usize, words: &str, packets: &[Packet], out: &mut Out) {
     if packets.is_empty() {
         out.line(&format!("{step:>5}  {:<23} {:<23} {words}", "none", ""));
     }
-    for (at, (setup, data)) in packets.iter().enumerate() {
+    for (at, packet) in packets.iter().enumerate() {
         let (label, words) = if at == 0 { (step.to_string(), words) } else { (String::from("-"), "the read behind a demod write") };
-        out.line(&format!("{label:>5}  {:<23} {:<23} {words}", hex(setup), hex(data)));
+        out.line(&format!("{label:>5}  {:<23} {:<23} {words}", hex(&packet.setup()), hex(packet.data)));
     }
 }
 
-fn step_json(step: usize, words: &str, packets: &[(&[u8], &[u8])]) -> String {
-    let one = |(setup, data): &(&[u8], &[u8])| json::object(&[("setup", json::array(*setup)), ("data", json::array(*data))]);
+fn step_json(step: usize, words: &str, packets: &[Packet]) -> String {
+    let one = |packet: &Packet| json::object(&[("setup", json::array(packet.setup())), ("data", json::array(packet.data))]);
     let packets = json::array(packets.iter().map(one));
     json::object(&[("step", step.to_string()), ("what", json::string(words)), ("packets", packets)])
 }

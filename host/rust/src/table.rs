@@ -124,6 +124,14 @@ impl Table {
     }
 }
 
+impl TryFrom<&[u8]> for Table {
+    type Error = Error;
+
+    fn try_from(bytes: &[u8]) -> Result<Table, Error> {
+        Table::from_bytes(bytes)
+    }
+}
+
 impl fmt::Debug for Table {
     fn fmt(&self, f: &mut fmt::Formatter<'_>) -> fmt::Result {
         write!(f, "Table({} bands)", self.bytes.len() / Table::BAND)

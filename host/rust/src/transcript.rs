@@ -86,7 +86,24 @@ pub struct Entry<'a> {
     pub bytes: &'a [u8],
 }
 
-impl Entry<'_> {
+impl<'a> Entry<'a> {
+    /// The registers that a write to the chip on I2C names, each with its byte; none of any other step. Numbers past 0xff do not wrap: such bytes name nothing.
+    ///
+    /// ```
+    /// use pasetone::{Script, Transcript, Tuner, TunerKind};
+    ///
+    /// let sent = Tuner::new(TunerKind::R828d, 0x74, 28_800_000)?.reload(&Script::all_done()).transcript;
+    /// let list = Transcript::restore(sent.bytes(), 0x74)?;
+    /// let held: Vec<(u8, u8)> = list.iter().flat_map(|entry| entry.registers()).collect();
+    /// assert_eq!((held.len(), held[0], held[26]), (27, (0x05, 0x83), (0x1f, 0xc0)));
+    /// # Ok::<(), pasetone::Error>(())
+    /// ```
+    pub fn registers(&self) -> impl Iterator<Item = (u8, u8)> + use<'a> {
+        let bytes = if self.kind == EntryKind::I2cWrite { self.bytes } else { &[] };
+        let (first, data) = bytes.split_first().map_or((0, bytes), |(first, data)| (*first, data));
+        (first..=u8::MAX).zip(data.iter().copied())
+    }
+
     /// What the step does, in words, without how it ended.
     ///
     /// ```

@@ -180,18 +180,16 @@ fn as_printed(stored: &str, failing: Option<usize>) {
     let (mut at, mut stopped) = (0, false);
     let mut tuner = r828d();
     let mut driver = Driver::new(Board::V4, 28_800_000, 0, 102_300_000, 2_048_000).unwrap();
-    for call in 0..5 {
+    for call in 0..4 {
         let mut script = Script::new([0; Script::OUTCOMES], [0x0a; Script::REPLIES]);
         if let Some(own) = failing.and_then(|step| step.checked_sub(at)).filter(|own| *own < Script::OUTCOMES) {
             script = script.failing(own).unwrap();
         }
-        tuner.apply_notch(call == 4);
         let (failed, transcript) = match call {
             0 => told(tuner.initialize(&script)),
             1 => told(driver.set_sample_rate(&mut tuner, &Board::V4.table(), 2_048_000, &script)),
             2 => told(tuner.set_gain(29.7, &script)),
-            3 => told(tuner.apply_input_path(InputPath::Vhf, &script)),
-            _ => told(tuner.set_frequency(102_300_000, &script).into()),
+            _ => told(driver.tune_board(&mut tuner, &Board::V4.table(), 102_300_000, &script).into()),
         };
         for entry in &transcript {
             assert_eq!(&rows[at][21..], entry.to_string());
