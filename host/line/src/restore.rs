@@ -1,9 +1,10 @@
 //! `restore`: where sections left a chip, as the fewest writes that bring another one there.
 use crate::boards::counted;
 use crate::command::{Given, Key};
-use crate::day::{self, Chip, Day, Held, runs};
+use crate::day::{self, Chip, Day, Held};
 use crate::json;
 use crate::out::Out;
+use crate::registers::runs;
 use crate::rows;
 
 pub const MORE: &[&str] = &[

@@ -1,7 +1,7 @@
 //! What a run and a file of sections print alike: the table's rows, and the register table.
 use crate::json;
 use crate::out::Out;
-use crate::registers::purpose;
+use crate::registers::{purpose, runs};
 use pasetone::{Entry, Tuner};
 
 pub fn head(out: &mut Out) {
@@ -40,6 +40,10 @@ pub fn registers(tuner: &Tuner, out: &mut Out) {
         };
         // The mark is made loud behind the padding, which would count its colour.
         out.line(&line.trim_end().replace('?', &out.loud("?")));
+    }
+    let doubtful: Vec<u8> = tuner.doubtful().collect();
+    if !doubtful.is_empty() {
+        out.line(&format!("{} {} of {}: {}", out.loud("DOUBTFUL:"), doubtful.len(), all.len(), runs(&doubtful)));
     }
 }
 
