@@ -79,7 +79,7 @@ module _ (t : Tuner) (es : List Entry) (s : Sequence t es) where
   history : History initArray (t .chip) es
   history = sequence-history t es s
 
-  small : t .chip .address ≤ 255
+  pub small : t .chip .address ≤ 255
   small = demand.follows initArray (t .chip) es history .chip
 
   -- (a) "doubtful are exactly those never attempted or last attempted in vain", read off the entries

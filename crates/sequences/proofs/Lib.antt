@@ -5,6 +5,7 @@ pub mod Ties
 pub mod Asides
 pub mod Most
 pub mod Demand
+pub mod Failed
 pub mod Worked
 pub mod Tried
 pub mod Listed

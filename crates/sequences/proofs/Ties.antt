@@ -67,7 +67,7 @@ module _ (t : Tuner) (x : Called Tuner) (a : Asked) (os room : List ℕ) where
   abbrev es : List Entry
   es = callEntries (a .number) os (a .steps) (t .chip)
 
-  no-entries : Silent t x a → es ≡ []
+  pub no-entries : Silent t x a → es ≡ []
   no-entries s = ap (λ (b : Asked). callEntries (b .number) os (b .steps) (t .chip)) (s .nothing) ∙ none-entries os (t .chip)
 
   -- (e) "an invented entry count" is shut out

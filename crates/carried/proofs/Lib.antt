@@ -1,0 +1,4 @@
+pub mod Steady
+pub mod Passed
+pub mod Demand
+pub mod Worked
