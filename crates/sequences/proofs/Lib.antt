@@ -6,6 +6,7 @@ pub mod Asides
 pub mod Most
 pub mod Demand
 pub mod Failed
+pub mod Shut
 pub mod Worked
 pub mod Tried
 pub mod Listed

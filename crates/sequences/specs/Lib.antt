@@ -2,3 +2,4 @@ pub mod Calls
 pub mod Asides
 pub mod Sequences
 pub mod Waited
+pub mod Repeater

@@ -1,0 +1,20 @@
+-- Whether the repeater is open, as entries tell it. Document 01, "Refusal numbers": "an open repeater (its opening done) is closed (one entry). A failed closing
+-- is recorded and otherwise ignored."
+-- Assumes nothing.
+use mathlib.Core.Bool.{Bool, false, _&&_, cond}
+use mathlib.Core.List.{List, [], _∷_}
+use lib.Dec.{eqb}
+use Rattle.transcript.specs.declared.Entry.{Entry}
+use Rattle.attempts.specs.Attempts.{done, firstOf}
+
+-- one entry later: "1 repeater | .. 1 opens, 0 closes". An opening opens it if it is done; a closing is its end, also one that failed
+abbrev pub heldBy : Entry → Bool → Bool
+heldBy e held = cond (eqb (e .kind) 1) (eqb (firstOf e) 1 && done e) held
+
+unfoldable pub heldFrom : Bool → List Entry → Bool
+heldFrom held [] = held
+heldFrom held (e ∷ es) = heldFrom (heldBy e held) es
+
+-- after a call's entries: it is shut before them
+abbrev pub heldIn : List Entry → Bool
+heldIn es = heldFrom false es
