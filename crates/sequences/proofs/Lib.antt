@@ -7,6 +7,7 @@ pub mod Most
 pub mod Demand
 pub mod Failed
 pub mod Shut
+pub mod Late
 pub mod Worked
 pub mod Tried
 pub mod Listed

@@ -81,10 +81,10 @@ most-plain path os room t h = go (pathOf path) (t .kind) h
 
 -- ---- each bound is reached: a fresh R828D, all steps done, and just the memory that is asked for
 
-abbrev fresh : Tuner
+abbrev pub fresh : Tuner
 fresh = freshTuner R828D 0x74 28_800_000
 
-abbrev lent : Order → Call
+abbrev pub lent : Order → Call
 lent o = call o (replicate (most o fresh) 0) (replicate (16 * most o fresh + 8) 0)
 
 pub initialise-reached : length (entries (lent (Tuned Initialize)) fresh) ≡ most (Tuned Initialize) fresh
@@ -129,7 +129,7 @@ unfolding trace run step lentOf accessStep outputSteps bitSteps
 board-reached = refl
 
 -- #113: "of at most 64 entries and 38 replies": one band with a path for all frequencies; all replies are zero, and there are just the 38
-abbrev hop : Order
+abbrev pub hop : Order
 hop = BoardTune 100_000_000 (replicate 8 0 ++ (replicate 8 255 ++ (replicate 8 0 ++ (0 ∷ 1 ∷ 0 ∷ [])))) (replicate 38 0) (driver Generic 28_800_000 (pos 0) 0 0 0)
 
 pub hop-reached : length (entries (lent hop) fresh) ≡ most hop fresh
@@ -164,16 +164,16 @@ unfolding trace run step innerSteps
 none-failed address hz kind notch rs os c = refl
 
 -- a tuning by its plan
-abbrev byPlan : Tuner → ℕ → List ℕ → List ℕ → List ℕ → Pll → Called Tuner
+abbrev pub byPlan : Tuner → ℕ → List ℕ → List ℕ → List ℕ → Pll → Called Tuner
 byPlan t hz os rs room plan =
     callOf (refusalOf t (hzRefusal hz (t .ifreq)) 53 35 (length room) (length os) (length rs)) (wholeOf plan hz) os
     (tuneOf t plan hz rs) (t .chip) (lockKept t) t room
 
-tune-by-plan : (t : Tuner) (hz : ℕ) (os rs room : List ℕ) → resultOf (Tune hz rs) os t room ≡ byPlan t hz os rs room (planFor t hz)
+pub tune-by-plan : (t : Tuner) (hz : ℕ) (os rs room : List ℕ) → resultOf (Tune hz rs) os t room ≡ byPlan t hz os rs room (planFor t hz)
 unfolding resultOf leftBy
 tune-by-plan t hz os rs room = refl
 
-went-on : {R : Type 0} (number : ℕ) (whole : Answer) (os : List ℕ) (ss : List Step) (c : Chip) (keep : Trace → R) (old : R) (room : List ℕ) → number ≡ 0 → callOf number whole os ss c keep old room ≡ performed whole keep room (trace os ss c)
+pub went-on : {R : Type 0} (number : ℕ) (whole : Answer) (os : List ℕ) (ss : List Step) (c : Chip) (keep : Trace → R) (old : R) (room : List ℕ) → number ≡ 0 → callOf number whole os ss c keep old room ≡ performed whole keep room (trace os ss c)
 unfolding callOf
 went-on number whole os ss c keep old room e = rw (eq-eqb number 0 e)
 

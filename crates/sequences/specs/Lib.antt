@@ -3,3 +3,4 @@ pub mod Asides
 pub mod Sequences
 pub mod Waited
 pub mod Repeater
+pub mod Written
