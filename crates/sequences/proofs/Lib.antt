@@ -8,6 +8,7 @@ pub mod Demand
 pub mod Failed
 pub mod Shut
 pub mod Late
+pub mod Spent
 pub mod Worked
 pub mod Tried
 pub mod Listed

@@ -4,3 +4,4 @@ pub mod Sequences
 pub mod Waited
 pub mod Repeater
 pub mod Written
+pub mod Spent
