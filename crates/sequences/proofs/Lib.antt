@@ -9,6 +9,7 @@ pub mod Failed
 pub mod Shut
 pub mod Late
 pub mod Spent
+pub mod Since
 pub mod Worked
 pub mod Tried
 pub mod Listed

@@ -5,3 +5,4 @@ pub mod Waited
 pub mod Repeater
 pub mod Written
 pub mod Spent
+pub mod Since
