@@ -319,11 +319,12 @@ impl Given {
         }
     }
 
-    /// The files that a run writes, opened before its first call.
+    /// The files that a run writes, opened before its first call. One that is written behind what it holds comes last: to open it makes it.
     pub fn kept_files(&self, out: &mut Out) -> Kept {
-        let behind = self.target(Key::Append, out).map(Sink::open_behind);
-        let append = behind.and_then(|sink| sink.map_err(|why| out.mistake(&format!("--append {why}"))).ok());
-        Kept { section: self.sink(Key::Section, out), append, record: self.sink(Key::Keep, out) }
+        let (section, record) = (self.sink(Key::Section, out), self.sink(Key::Keep, out));
+        let name = self.target(Key::Append, out).filter(|_| !out.is_mistaken());
+        let append = name.and_then(|name| Sink::open_behind(name).map_err(|why| out.mistake(&format!("--append {why}"))).ok());
+        Kept { section, append, record }
     }
 
     /// The name of a file to be written.

@@ -1,4 +1,5 @@
 //! `show`: sections of files, in words. A file is read whole, then walked from its end (sections.rs), then printed from its start.
+use crate::boards::counted;
 use crate::command::{Given, Key};
 use crate::filed::{File, span};
 use crate::json;
@@ -60,7 +61,7 @@ impl File {
         rows::head(out);
         self.parts(&walk, &mut count, &mut |part, number, count, out| self.rows(part, number, count, out), out);
         let damaged = if walk.damages() == 0 { String::new() } else { format!("; {} {}", out.loud("DAMAGED:"), walk.damages()) };
-        out.line(&format!("shown: {} sections, {} steps{damaged}", count.sections, count.steps));
+        out.line(&format!("shown: {}, {}{damaged}", counted(count.sections, "section"), counted(count.steps, "step")));
     }
 
     /// Each part with its number, 0 where it counts as no section, to `each`. Damage is told to standard error as it is met.
