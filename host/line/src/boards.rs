@@ -1,5 +1,5 @@
-//! Boards: one that is built in, or one of a table in a file. A table's bytes are the library's; what is wrong with bytes that are none is told here, band by
-//! band, in the order of docs: length, then each band.
+//! Boards: one that is built in, or one of a table in a file. A table's bytes are the library's; what is wrong with bytes that are none is told here: their
+//! length, then band by band.
 use crate::command::{Given, Key};
 use crate::files::{self, shown};
 use crate::names;

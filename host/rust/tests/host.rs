@@ -1,6 +1,7 @@
 //! What this crate adds to the archive: texts, scripts, records as values. On good, bad and empty input.
 use pasetone::{
-    Answer, Board, Driver, Entry, EntryKind, Error, InputPath, Need, Outcome, Script, Transcript, Tuner, TunerKind, demod, drive, gpio,
+    Answer, Band, Board, Driver, Entry, EntryKind, Error, InputPath, Need, Outcome, Packet, Script, Table, Transcript, Tuner, TunerKind,
+    demod, drive, gpio,
 };
 
 fn r828d() -> Tuner {
@@ -300,4 +301,45 @@ fn driven_records_are_updated_together() {
     );
     assert_eq!(found.result, Err(Error::Step { index: 12 }));
     assert_eq!((found, tuner, driver), (wanted, at_once, its_driver));
+}
+
+/// A write of three bytes from register 0xfe on, by its entry: the third names nothing.
+#[test]
+fn registers_past_the_last_do_not_wrap() {
+    let mut section = vec![2, 0, 0x74, 4, 0, 0, 0, 0, 0xfe, 1, 2, 3, 0, 0, 0, 0];
+    section.extend([1, 0, 0, 0, 16, 0, 0, 0]);
+    let (_, transcript) = Transcript::read(&section).unwrap();
+    let entry = transcript.get(0).unwrap();
+    assert_eq!(entry.registers().collect::<Vec<_>>(), [(0xfe, 1), (0xff, 2)]);
+    let closing = r828d().set_bandwidth(2_048_000, &done()).transcript;
+    let named: Vec<Vec<(u8, u8)>> = closing.iter().map(|entry| entry.registers().collect()).collect();
+    assert_eq!(named, [vec![], vec![(0x0a, 0xd8)], vec![]]);
+}
+
+/// Packets end to end are walked one by one, put together they are the bytes, and a cut ends the walk before the packet that it is in.
+#[test]
+fn packets_are_walked() {
+    let packets = r828d().initialize(&done()).transcript.packets().unwrap();
+    let all: Vec<Packet> = Packet::all(&packets).collect();
+    assert_eq!(all.iter().flat_map(|packet| [&packet.setup()[..], packet.data].concat()).collect::<Vec<u8>>(), packets);
+    assert!(all.iter().all(|packet| packet.is_read() == (packet.request_type == 0xc0) && packet.request == 0));
+    for length in 0..packets.len() {
+        let cut: Vec<Packet> = Packet::all(&packets[..length]).collect();
+        let whole: usize = cut.iter().map(|packet| packet.setup().len() + packet.data.len()).sum();
+        assert_eq!(cut[..], all[..cut.len()]);
+        let next = &all[cut.len()];
+        assert!(whole <= length && length < whole + next.setup().len() + next.data.len(), "{length}");
+    }
+}
+
+/// The bands of a table are those that it was made of, to the last Hz, and its bytes are a table again.
+#[test]
+fn bands_come_back() {
+    let wide = Band { first: 0, last: 7, shift: i64::MIN, inverted: true, path: None, notch: true };
+    let far = Band { first: 8, last: u64::MAX, shift: i64::MAX, inverted: false, path: Some(InputPath::Hf), notch: false };
+    let table = Table::new(&[wide, far]).unwrap();
+    assert_eq!(table.bands().collect::<Vec<_>>(), [wide, far]);
+    assert_eq!(Table::try_from(table.as_bytes()), Ok(table));
+    assert_eq!(Table::try_from(&[0; 28][..]), Err(Error::Table));
+    assert_eq!(Table::new(&[]).unwrap().bands().len(), 0);
 }
