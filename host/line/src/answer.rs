@@ -4,8 +4,12 @@ use crate::json;
 use crate::out::{End, Out};
 use crate::reach;
 use crate::run::{Call, Made, Run};
-use pasetone::{Error, Table, Tuner};
+use pasetone::{Driver, Error, Table, Tuner};
 use std::ops::RangeInclusive;
+
+const SETUP: &str = "setup: a record, kind or reference is out of its range";
+const CORRECTION: &str = "correction: the corrected reference is out of its range";
+const GIVE_REFERENCE: &str = "give --reference from 1 to 4294967295 Hz";
 
 pub struct Told {
     pub number: u32,
@@ -99,10 +103,10 @@ fn stopped(run: &Run, made: &Made, error: Error, wish: &Wish) -> Told {
 
 fn words(error: Error, wish: &Wish) -> &'static str {
     match error {
-        Error::Setup => "setup: a record, kind or reference is out of its range",
+        Error::Setup => SETUP,
         Error::Frequency => frequency_words(wish.table, wish.hz),
         Error::Rate => "rate: 0",
-        Error::Correction => "correction: the corrected reference is out of its range",
+        Error::Correction => CORRECTION,
         Error::Ratio => "ratio: the resampler cannot hold this rate with this reference",
         Error::Outcomes => "outcomes: fewer bytes are left than the call may need",
         Error::Replies => "replies: fewer bytes are left than the call may need",
@@ -115,10 +119,10 @@ fn words(error: Error, wish: &Wish) -> &'static str {
 fn to_do(run: &Run, made: &Made, error: Error, wish: &Wish) -> String {
     let (call, need, left) = (made.call.name(), made.call.need(), made.left);
     match error {
-        Error::Setup => String::from("give --reference from 1 to 4294967295 Hz"),
+        Error::Setup => String::from(GIVE_REFERENCE),
         Error::Frequency => run.records.as_ref().map_or_else(String::new, |(tuner, _)| reachable(tuner, wish.table, wish.hz)),
         Error::Rate => String::from("give --rate from 1 to 4294967295"),
-        Error::Correction => corrections(run),
+        Error::Correction => corrections(run.records.as_ref()),
         Error::Ratio => rates(run, wish.rate),
         Error::Outcomes => longer(call, "outcomes", need.outcomes, left.outcomes),
         Error::Replies => longer(call, "replies", need.replies, left.replies),
@@ -175,10 +179,20 @@ fn rates(run: &Run, rate: u32) -> String {
     format!("give --rate from {next}")
 }
 
-fn corrections(run: &Run) -> String {
-    let Some((tuner, driver)) = &run.records else { return String::new() };
+fn corrections(records: Option<&(Tuner, Driver)>) -> String {
+    let Some((tuner, driver)) = records else { return String::new() };
     let (low, high) = reach::corrections(tuner, driver);
     format!("give --ppm from {low} to {high}")
+}
+
+/// A reference that is none, or a correction that takes it out of its range, for a command that makes no run.
+pub fn reference_line(error: Error, records: Option<&(Tuner, Driver)>) -> String {
+    let (words, to_do) = match error {
+        Error::Setup => (SETUP, String::from(GIVE_REFERENCE)),
+        Error::Correction => (CORRECTION, corrections(records)),
+        other => (other.word(), other.to_string()),
+    };
+    format!("answer: {} {words}; to do: {to_do}", error.number())
 }
 
 impl Told {

@@ -59,10 +59,13 @@ pub fn run(given: &Given, out: &mut Out) {
 
 /// The reference with its correction, by the library; a refusal is told.
 pub fn corrected(given: &Given, receiver: &Receiver, out: &mut Out) -> Option<u32> {
-    match Driver::new(Board::V4, receiver.reference(), receiver.ppm.unwrap_or(0), 0, 0) {
+    let driver = |ppm: i32| Driver::new(Board::V4, receiver.reference(), ppm, 0, 0);
+    match driver(receiver.ppm.unwrap_or(0)) {
         Ok(driver) => Some(driver.corrected_xtal_hz()),
         Err(error) => {
-            answer::refused(given, error, &error.to_string(), out);
+            let records =
+                Tuner::new(receiver.kind(), receiver.address(), receiver.reference()).and_then(|tuner| Ok((tuner, driver(0)?))).ok();
+            answer::refused(given, error, &answer::reference_line(error, records.as_ref()), out);
             None
         }
     }
