@@ -1,6 +1,5 @@
 //! `reload`: the way back after a step that failed. It sends a kept record's shadow again, every register of it.
 use crate::answer::{self, Wish};
-use crate::boards::Place;
 use crate::command::{Given, Key};
 use crate::files::{self, is_standard, shown};
 use crate::out::{End, Out};
@@ -30,9 +29,8 @@ pub fn run(given: &Given, out: &mut Out) {
     if out.is_mistaken() {
         return;
     }
-    let before = (tuner.clone(), driver.clone());
+    let (before, table) = (tuner.clone(), driver.board().table());
     let run = Run::reload(tuner, driver, outcomes);
-    let table = Place::built_in(before.1.board()).table;
     let wish = Wish { hz: 0, rate: 0, table: &table, keep: given.word(Key::Keep).map(shown) };
     let told = answer::of(&run, &wish);
     let unreached = fail.filter(|step| run.steps <= *step);
@@ -66,18 +64,16 @@ fn kept(given: &Given, out: &mut Out) -> Option<(Tuner, Driver)> {
     record::judged(&bytes, &format!("reload {}", shown(name)), out)
 }
 
-fn head((tuner, driver): &(Tuner, Driver)) -> String {
-    let doubtful = tuner.doubtful().count();
-    let (kind, address, board) = (names::kind(tuner.kind()), tuner.address(), names::board(driver.board()));
-    format!("{kind} at 0x{address:02x} on a {board} board: {doubtful} of 27 registers doubtful")
+/// Of the board nothing is said: a reload has nothing to do with it, and a record made by a table does not name that.
+fn head(tuner: &Tuner) -> String {
+    let (kind, address, doubtful) = (names::kind(tuner.kind()), tuner.address(), tuner.doubtful().count());
+    format!("{kind} at 0x{address:02x}: {doubtful} of 27 registers doubtful")
 }
 
-fn receiver_json((tuner, driver): &(Tuner, Driver)) -> String {
+fn receiver_json(tuner: &Tuner) -> String {
     json::object(&[
         ("kind", json::string(names::kind(tuner.kind()))),
         ("address", tuner.address().to_string()),
-        ("board", json::string(names::board(driver.board()))),
-        ("frequency", driver.frequency().to_string()),
         ("doubtful", json::array(tuner.doubtful())),
     ])
 }
