@@ -1,8 +1,8 @@
 //! Boards: one that is built in, or one of a table in a file. A table's bytes are the library's; what is wrong with bytes that are none is told here: their
 //! length, then band by band.
 use crate::command::{Given, Key};
-use crate::files::{self, shown};
-use crate::names;
+use crate::files::{self, called};
+use crate::names::{self, counted};
 use crate::out::Out;
 use pasetone::{Board, Table};
 use std::ffi::OsStr;
@@ -11,7 +11,6 @@ use std::ffi::OsStr;
 const LOOKED_AT: usize = Table::BAND * Table::BANDS + 1;
 
 /// The board that a receiver is on. The driver's record keeps the built-in one alone: by a table of a file that field plans nothing.
-#[derive(Clone)]
 pub struct Place {
     pub board: Board,
     pub table: Table,
@@ -29,9 +28,9 @@ impl Place {
         let Some(name) = given.word(Key::Table) else { return Place::built_in(board) };
         let read = given.start(Key::Table, LOOKED_AT, out).map(|bytes| table(&bytes));
         match read {
-            Some(Ok(table)) => Place { board, table, file: Some(shown(name)) },
+            Some(Ok(table)) => Place { board, table, file: Some(called(name)) },
             Some(Err(why)) => {
-                out.mistake(&format!("--table {}: {why}", shown(name)));
+                out.mistake(&format!("--table {}: {why}", called(name)));
                 Place::built_in(board)
             }
             None => Place::built_in(board),
@@ -45,11 +44,6 @@ impl Place {
             None => format!("a {} board", names::board(self.board)),
         }
     }
-}
-
-/// So many of something, in words.
-pub fn counted(count: usize, what: &str) -> String {
-    format!("{count} {what}{}", if count == 1 { "" } else { "s" })
 }
 
 /// The table of a file's bytes; what is wrong with bytes that are none comes back in words, with the library's number.

@@ -1,10 +1,10 @@
 //! A day: the sections of some files end to end, oldest first, and where they left a chip's registers. Which registers are sure is the library's answer (its
 //! restore list); of the others the last write tells why they are not.
 use crate::answer;
-use crate::boards::counted;
 use crate::command::{Given, Key};
 use crate::filed::File;
 use crate::json;
+use crate::names::counted;
 use crate::numbers;
 use crate::out::Out;
 use crate::sections::{ENTRY, Part, TRAILER, Walk};

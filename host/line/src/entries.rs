@@ -1,9 +1,9 @@
 //! `entries`: setup packets, read back as the section whose packets they are.
 use crate::answer;
-use crate::boards::counted;
 use crate::command::{Given, Key};
-use crate::files::{self, is_standard, shown};
+use crate::files::{self, called};
 use crate::json;
+use crate::names::counted;
 use crate::out::Out;
 use crate::rows;
 use pasetone::{Packet, Transcript};
@@ -31,7 +31,7 @@ pub fn run(given: &Given, out: &mut Out) {
         Ok(bytes) => bytes,
         Err(why) => return out.mistake(&format!("entries {why}")),
     };
-    let name = if is_standard(name) { String::from("standard input") } else { shown(name) };
+    let name = called(name);
     let section = match Transcript::of_packets(&bytes) {
         Ok(section) => section,
         Err(error) => return answer::refused(given, error, &format!("entries {name}: {} (refusal {})", flaw(&bytes), error.number()), out),

@@ -1,6 +1,6 @@
 //! A file of sections: its name as it is printed, and its bytes; and what is wrong with a damaged part of it, in words.
 use crate::command::Given;
-use crate::files::{self, is_standard, shown};
+use crate::files::{self, called};
 use crate::out::{End, Out};
 use crate::sections::{Damage, ENTRY, Flaw, Part, TRAILER, Walk, alone};
 use pasetone::Transcript;
@@ -14,7 +14,7 @@ pub struct File {
 impl File {
     pub fn read(name: &OsStr) -> Result<File, String> {
         let bytes = files::read(name)?;
-        Ok(File { name: if is_standard(name) { String::from("standard input") } else { shown(name) }, bytes })
+        Ok(File { name: called(name), bytes })
     }
 
     /// All files behind a command that takes them together. `None` where one cannot be read, which has then been told.

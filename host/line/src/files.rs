@@ -12,6 +12,11 @@ pub fn shown(name: &OsStr) -> String {
     name.to_string_lossy().chars().map(|c| if c.is_control() || c == char::REPLACEMENT_CHARACTER { '?' } else { c }).collect()
 }
 
+/// What is read by a name, as it is printed.
+pub fn called(name: &OsStr) -> String {
+    if is_standard(name) { String::from("standard input") } else { shown(name) }
+}
+
 pub fn is_standard(name: &OsStr) -> bool {
     name == "-"
 }
@@ -23,7 +28,7 @@ const STREAM: u64 = 1 << 30;
 pub fn read(name: &OsStr) -> Result<Vec<u8>, String> {
     let (bytes, is_stream) = opened(name, STREAM + 1).map_err(|error| unread(name, &error))?;
     if is_stream && bytes.len() as u64 > STREAM {
-        let name = if is_standard(name) { String::from("standard input") } else { shown(name) };
+        let name = called(name);
         return Err(format!("{name}: a stream of more than {STREAM} bytes: put it into a file, which may have any size"));
     }
     Ok(bytes)
@@ -54,7 +59,7 @@ fn opened(name: &OsStr, most: u64) -> io::Result<(Vec<u8>, bool)> {
 }
 
 fn unread(name: &OsStr, error: &io::Error) -> String {
-    let name = if is_standard(name) { String::from("standard input") } else { shown(name) };
+    let name = called(name);
     match error.kind() {
         ErrorKind::NotFound => format!("{name}: there is no such file: name one that is there, or - for standard input"),
         ErrorKind::IsADirectory => format!("{name}: this is a folder: name a file in it"),

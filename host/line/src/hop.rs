@@ -2,7 +2,7 @@
 use crate::answer::{self, Wish};
 use crate::boards::Place;
 use crate::command::{Given, Kept, Key, option};
-use crate::files::shown;
+use crate::files::{called, shown};
 use crate::names::Gain;
 use crate::out::{End, Out};
 use crate::receiver::{self, Receiver};
@@ -111,7 +111,7 @@ fn request(given: &Given, out: &mut Out) -> Option<Request> {
         return None;
     }
     let files = given.kept_files(out);
-    let settings = settings.map(|kept| (given.word(Key::Settings).map(shown).unwrap_or_default(), kept.edition));
+    let settings = settings.map(|kept| (given.word(Key::Settings).map(called).unwrap_or_default(), kept.edition));
     Some(Request { asked, start: start?, place, settings, outcomes, replies, fail, files })
 }
 
@@ -150,6 +150,6 @@ fn together(given: &Given, out: &mut Out) {
 
 fn kept(given: &Given, out: &mut Out) -> Option<Start> {
     let bytes = given.start(Key::Record, record::LOOKED_AT, out)?;
-    record::judged(&bytes, &format!("--record {}", given.word(Key::Record).map(shown).unwrap_or_default()), out)
+    record::judged(&bytes, &format!("--record {}", given.word(Key::Record).map(called).unwrap_or_default()), out)
         .map(|(tuner, driver)| Start::Kept { tuner, driver })
 }

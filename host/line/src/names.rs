@@ -1,4 +1,4 @@
-//! Kinds, boards, paths and gains: as they are printed, and as a word on the command line names them.
+//! Kinds, boards, paths, gains and counts: as they are printed, and as a word on the command line names them.
 use pasetone::{Board, InputPath, Script, Tuner, TunerKind};
 
 pub fn kind(kind: TunerKind) -> &'static str {
@@ -42,6 +42,11 @@ pub fn path(path: InputPath) -> &'static str {
         InputPath::Vhf => "VHF",
         InputPath::Uhf => "UHF",
     }
+}
+
+/// So many of something, in words.
+pub fn counted(count: usize, what: &str) -> String {
+    format!("{count} {what}{}", if count == 1 { "" } else { "s" })
 }
 
 /// A gain as it is asked for: in tenths of a dB, or by the index of its step, as settings have it.

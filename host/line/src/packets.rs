@@ -1,9 +1,9 @@
 //! `packets`: the sections of a file as the setup packets that a replay box sends, step by step.
 use crate::answer;
-use crate::boards::counted;
 use crate::command::{Given, Key};
 use crate::filed::File;
 use crate::json;
+use crate::names::counted;
 use crate::out::Out;
 use crate::rows::hex;
 use crate::sections::{ENTRY, Part, Walk, alone};

@@ -1,8 +1,8 @@
 //! `parting`: where two nights part, section by section: the first step that differs, with some before it, and whose it is.
-use crate::boards::counted;
 use crate::command::{Given, Key};
 use crate::filed::File;
 use crate::json;
+use crate::names::counted;
 use crate::out::{End, Out};
 use crate::rows;
 use crate::sections::{ENTRY, Part, TRAILER, Walk};

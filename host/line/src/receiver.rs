@@ -1,7 +1,7 @@
 //! What the words say of a receiver, and what a settings file says where no word does: a word that is given wins.
 use crate::boards::Place;
 use crate::command::{Given, Key};
-use crate::files::shown;
+use crate::files::called;
 use crate::names::{self, Gain};
 use crate::numbers;
 use crate::out::Out;
@@ -85,7 +85,7 @@ pub fn kept(given: &Given, out: &mut Out) -> Option<Kept> {
     match read(&bytes) {
         Ok(kept) => Some(kept),
         Err(why) => {
-            out.mistake(&format!("--settings {}: {why}", given.word(Key::Settings).map(shown).unwrap_or_default()));
+            out.mistake(&format!("--settings {}: {why}", given.word(Key::Settings).map(called).unwrap_or_default()));
             None
         }
     }

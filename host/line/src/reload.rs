@@ -1,7 +1,7 @@
 //! `reload`: the way back after a step that failed. It sends a kept record's shadow again, every register of it.
 use crate::answer::{self, Wish};
 use crate::command::{Given, Key};
-use crate::files::{self, is_standard, shown};
+use crate::files::{self, called, is_standard, shown};
 use crate::out::{End, Out};
 use crate::run::Run;
 use crate::{json, names, record, report, script};
@@ -61,7 +61,7 @@ fn kept(given: &Given, out: &mut Out) -> Option<(Tuner, Driver)> {
         return None;
     }
     let bytes = files::start(name, record::LOOKED_AT).map_err(|why| out.mistake(&format!("reload {why}"))).ok()?;
-    record::judged(&bytes, &format!("reload {}", shown(name)), out)
+    record::judged(&bytes, &format!("reload {}", called(name)), out)
 }
 
 /// Of the board nothing is said: a reload has nothing to do with it, and a record made by a table does not name that.

@@ -1,8 +1,8 @@
 //! `restore`: where sections left a chip, as the fewest writes that bring another one there.
-use crate::boards::counted;
 use crate::command::{Given, Key};
 use crate::day::{self, Chip, Day, Held};
 use crate::json;
+use crate::names::counted;
 use crate::out::Out;
 use crate::registers::runs;
 use crate::rows;

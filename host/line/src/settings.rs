@@ -1,7 +1,7 @@
 //! `settings show`, `settings write` and `settings move`: a receiver's settings on file, in two editions.
 use crate::answer;
 use crate::command::{Given, Key, option};
-use crate::files::{self, Sink, is_standard, shown};
+use crate::files::{self, Sink, called, is_standard, shown};
 use crate::json;
 use crate::names::{self, Gain, gain_step};
 use crate::numbers;
@@ -44,8 +44,8 @@ fn show(given: &Given, file: &OsStr, out: &mut Out) {
     if out.is_mistaken() {
         return;
     }
-    match files::read(file).and_then(|bytes| receiver::read(&bytes).map_err(|why| format!("{}: {why}", shown(file)))) {
-        Ok(kept) => print(given, &kept, &shown(file), out),
+    match files::read(file).and_then(|bytes| receiver::read(&bytes).map_err(|why| format!("{}: {why}", called(file)))) {
+        Ok(kept) => print(given, &kept, &called(file), out),
         Err(why) => out.mistake(&format!("settings show {why}")),
     }
 }
@@ -105,7 +105,7 @@ fn moved(given: &Given, file: &OsStr, edition: Option<u64>, out: &mut Out) {
     };
     let kept = match receiver::read(&bytes) {
         Ok(kept) => kept,
-        Err(why) => return out.mistake(&format!("settings move {}: {why}", shown(file))),
+        Err(why) => return out.mistake(&format!("settings move {}: {why}", called(file))),
     };
     let image = if edition == 1 { Settings::image_from_2(&bytes).map(Vec::from) } else { Settings2::image_from_1(&bytes).map(Vec::from) };
     match image {
@@ -115,10 +115,10 @@ fn moved(given: &Given, file: &OsStr, edition: Option<u64>, out: &mut Out) {
             sink.keep_or_tell(&image, "--out", out);
         }
         Err(Error::Edition) => {
-            let text = format!("settings move {}: it is of edition {edition} already (refusal 16): nothing is to be moved", shown(file));
+            let text = format!("settings move {}: it is of edition {edition} already (refusal 16): nothing is to be moved", called(file));
             answer::refused(given, Error::Edition, &text, out);
         }
-        Err(error) => answer::refused(given, error, &format!("settings move {}: {error}", shown(file)), out),
+        Err(error) => answer::refused(given, error, &format!("settings move {}: {error}", called(file)), out),
     }
 }
 

@@ -1,8 +1,8 @@
 //! `show`: sections of files, in words. A file is read whole, then walked from its end (sections.rs), then printed from its start.
-use crate::boards::counted;
 use crate::command::{Given, Key};
 use crate::filed::{File, span};
 use crate::json;
+use crate::names::counted;
 use crate::out::{End, Out};
 use crate::rows::{self, hex};
 use crate::sections::{Damage, ENTRY, Flaw, Part, TRAILER, Walk};

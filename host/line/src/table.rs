@@ -1,10 +1,10 @@
 //! `table show` and `table write`: a board's bands as lines of text, and lines of text as the bytes that `--table` takes.
 use crate::answer;
-use crate::boards::{self, counted, edges_fault};
+use crate::boards::{self, edges_fault};
 use crate::command::{Given, Key};
-use crate::files::{self, shown};
+use crate::files::{self, called, shown};
 use crate::json;
-use crate::names;
+use crate::names::{self, counted};
 use crate::numbers;
 use crate::out::Out;
 use pasetone::{Band, Board, InputPath, Table};
@@ -47,8 +47,8 @@ fn show(given: &Given, file: Option<&OsStr>, out: &mut Out) {
     }
     let (table, whose) = match file {
         None => (board.unwrap_or(Board::V4).table(), format!("the {} board", names::board(board.unwrap_or(Board::V4)))),
-        Some(name) => match boards::read(name).and_then(|bytes| boards::table(&bytes).map_err(|why| format!("{}: {why}", shown(name)))) {
-            Ok(table) => (table, shown(name)),
+        Some(name) => match boards::read(name).and_then(|bytes| boards::table(&bytes).map_err(|why| format!("{}: {why}", called(name)))) {
+            Ok(table) => (table, called(name)),
             Err(why) => return out.mistake(&format!("table show {why}")),
         },
     };
@@ -64,11 +64,11 @@ fn write(given: &Given, name: &OsStr, out: &mut Out) {
     }
     let bytes = match files::start(name, TEXT + 1) {
         Ok(bytes) if bytes.len() <= TEXT => bytes,
-        Ok(_) => return out.mistake(&format!("table write {}: a text of bands has {TEXT} bytes at most, and here are more", shown(name))),
+        Ok(_) => return out.mistake(&format!("table write {}: a text of bands has {TEXT} bytes at most, and here are more", called(name))),
         Err(why) => return out.mistake(&format!("table write {why}")),
     };
     let text = String::from_utf8_lossy(&bytes);
-    let bands = read(&text, &shown(name), out);
+    let bands = read(&text, &called(name), out);
     if out.is_mistaken() {
         return;
     }
@@ -76,13 +76,13 @@ fn write(given: &Given, name: &OsStr, out: &mut Out) {
     match Table::new(&bands) {
         Ok(_) if out.is_mistaken() => {}
         Ok(table) => {
-            print(given, &table, &shown(name), out);
+            print(given, &table, &called(name), out);
             if let Some(sink) = sink {
                 sink.keep_or_tell(table.as_bytes(), "--out", out);
             }
         }
         // Each line was judged before.
-        Err(error) => answer::refused(given, error, &format!("table write {}: {error}", shown(name)), out),
+        Err(error) => answer::refused(given, error, &format!("table write {}: {error}", called(name)), out),
     }
 }
 
