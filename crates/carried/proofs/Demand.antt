@@ -4,18 +4,18 @@
 -- The premises on the chip are those of crate `attempts`, and there are no others. Assumes nothing.
 use Prim.Native.Nat.{ℕ, _+_, _*_, _%_, _≤_, _<_}
 use mathlib.Core.Path.{_≡_, refl, sym, ap, subst, _∙_}
-use mathlib.Core.Bool.{Bool, true, false, not, _&&_, cond, false≢true, true≢false}
-use mathlib.Core.List.{List, [], _∷_, _++_, append-nil, map}
+use mathlib.Core.Bool.{Bool, true, false, not, cond, false≢true, true≢false}
+use mathlib.Core.List.{List, [], _∷_, _++_, append-nil}
 use mathlib.Core.Logic.{_↔_}
 use native.Mathlib.Omega.{arith}
 use borrow.Author.Tests.{eq-eqb, eqb-false, eqb-true, leb-true, ltb-false, ne-eqb}
-use lib.Dec.{T, eqb, leb, ltb}
-use lib.Ieee.{binary32, ofBits}
+use lib.Dec.{eqb, leb, ltb}
+use lib.Ieee.{binary32}
 use lib.Ieee.Bits.{ofBits-fits}
 use lib.ListN.{getD, length, take, drop, List·getD-map}
-use lib.Seq.{getD-drop, getD-take, sets, sets-eq, take-at}
+use lib.Seq.{getD-drop, getD-take, sets}
 use Rattle.transcript.specs.declared.Entry.{Entry}
-use Rattle.transcript.specs.Sections.{AllFit, Parted, sectionEntries}
+use Rattle.transcript.specs.Sections.{AllFit, Parted}
 use Rattle.attempts.specs.Attempts.{Played, Regs, byteIn, doubtIn, lastIn}
 use Rattle.attempts.specs.Attempts.Last.{Never, Tried}
 use Rattle.attempts.proofs.Doubt.{InVain, doubt-any, doubt-exactly, sure-byte}
@@ -36,7 +36,7 @@ use Rattle.r82xx.specs.declared.Tuner.{Tuner}
 use Rattle.r82xx.specs.Record.{freshTuner, madeOf}
 use Rattle.r82xx.specs.Orders.Order.{Reload}
 use Rattle.records.specs.Fields.{flagByte}
-use Rattle.records.specs.Tuners.{tunerBytes, tunerOf, tunerParts, tunerRead, tunerWidths}
+use Rattle.records.specs.Tuners.{tunerBytes, tunerOf, tunerParts, tunerWidths}
 use Rattle.records.specs.declared.TunerRead.{TunerRead}
 use Rattle.records.proofs.Exact.{Ranged, read-written}
 use Rattle.records.proofs.Made.{sized}
@@ -50,15 +50,13 @@ use Rattle.sequences.specs.Sequences.Sequence.{fresh as first, next as more, be
 use Rattle.sequences.proofs.Demand as sequence
 use Rattle.sequences.proofs.Failed as eleven
 use Rattle.sequences.proofs.Failed.{nothing-failed}
-use Rattle.history.specs.Histories.{Cut, Restored, passable, stops, wentIn}
+use Rattle.history.specs.Histories.{Cut, passable, stops, wentIn}
 use Rattle.chip.specs.Steps.{Step, Trace, every, trace}
 use Rattle.chip.specs.Courses.{leftBy}
 use Rattle.chip.specs.declared.Chip.{Chip}
 use Rattle.chip.specs.declared.Went.{Went}
 use Rattle.sequences.specs.Calls.Order.{Tuned}
 use Rattle.r82xx.specs.Orders as tuner
-use Rattle.sequences.proofs.Most.{most-aside, most-entries}
-use Rattle.sequences.proofs.Views.{row-few}
 use Rattle.sequences.proofs.Asides.{aside-stepping}
 use Rattle.sequences.proofs.Ties.{entries-most}
 use Rattle.carried.specs.Exported.{Left, Lent, amiss, asideEntriesOf, entriesOf, leaves, lent, orderOf, readBy, typed, typedOrder, uncut}
@@ -66,7 +64,7 @@ use Rattle.carried.specs.Exported.Exported.{Own}
 use Rattle.carried.specs.Carried.{Carried}
 use Rattle.carried.specs.Carried.Carried.{fresh, next, between}
 use Rattle.carried.proofs.Steady.{typed-given}
-use Rattle.carried.proofs.Passed.{Passed, Told, few, found, image-long, next-ranged, passed, turned}
+use Rattle.carried.proofs.Passed.{Passed, few, found, image-long, next-ranged, passed, turned}
 use Rattle.carried.proofs.Passed.Passed.{away, made}
 
 -- the record that bytes are, and the sequence of crate `sequences` that it is the end of
@@ -78,7 +76,7 @@ pub record Behind (b : List ℕ) (es : List Entry) : Type 0 where
 
 -- ---- the first bytes
 
-lent-done : (n value : ℕ) (bytes out : List ℕ) → lentTo n value bytes out .answer ≡ Done 0
+pub lent-done : (n value : ℕ) (bytes out : List ℕ) → lentTo n value bytes out .answer ≡ Done 0
     → (n ≡ 0) × (length bytes ≤ length out) × (lentTo n value bytes out .out ≡ sets out 0 bytes)
 unfolding lentTo
 lent-done n value bytes out h = go (eqb n 0) refl (ltb (length out) (length bytes)) refl
@@ -135,7 +133,7 @@ fresh-behind kind address nominal out small h =
     let size : length (tunerBytes t) ≡ 78 = image-long t (q .1) in
     record {
       tuner = t;
-      bytes = ap (take 78) (p .2) ∙ found (tunerBytes t) out size (omega (arith, p .1));
+      bytes = ap (take 78) (p .2) ∙ found 78 (tunerBytes t) out size (omega (arith, p .1));
       ranges = q .1;
       sequence = first kind address nominal small (q .0);
     }

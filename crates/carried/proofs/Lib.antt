@@ -1,4 +1,5 @@
 pub mod Steady
 pub mod Passed
 pub mod Demand
+pub mod Driven
 pub mod Worked

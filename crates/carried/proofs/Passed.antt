@@ -1,11 +1,11 @@
 -- An exported call on the bytes of a record in its ranges: it is turned away before any step, and the host goes on with the bytes that it had; or it is the
 -- call of crate `sequences` on that record, and the host goes on with the bytes of the record that this leaves. Assumes nothing.
-use Prim.Native.Nat.{ℕ, _+_, _*_, _%_, _≤_, _<_}
+use Prim.Native.Nat.{ℕ, _+_, _%_, _≤_, _<_}
 use mathlib.Core.Path.{_≡_, refl, sym, ap, subst, _∙_}
-use mathlib.Core.Bool.{Bool, true, false, not, _&&_, _||_, cond, false≢true, true≢false}
+use mathlib.Core.Bool.{Bool, true, false, not, _&&_, _||_, cond, false≢true}
 use mathlib.Core.List.{List, [], _++_, map}
 use native.Mathlib.Omega.{arith}
-use borrow.Author.Tests.{eq-eqb, eqb-false, eqb-true, le-leb, le-ltb, lt-ltb, ltb-false, ne-eqb, not-true}
+use borrow.Author.Tests.{eqb-false, eqb-true, le-leb, lt-ltb, ltb-false, not-true}
 use lib.Dec.{eqb, leb, ltb}
 use lib.IntN.{ℤ, pos}
 use lib.ListN.{length, drop, take}
@@ -21,9 +21,9 @@ use Rattle.chip.specs.Courses.{Course, argumentOf, leftBy}
 use Rattle.chip.specs.Courses.Course.{Still}
 use Rattle.driver.specs.declared.Driver.{Driver}
 use Rattle.driver.specs.Record.{soundDriver, xtalBy}
-use Rattle.driver.specs.Calls.{Both, boardResult, boardRow, correctionCall, correctionResult, rateResult, rateRow}
+use Rattle.driver.specs.Calls.{Both, boardRow, correctionCall, rateResult}
 use Rattle.gain.specs.Steps.{steps}
-use Rattle.lending.specs.Lent.{answeredTo, given, lentTo}
+use Rattle.lending.specs.Lent.{given, lentTo}
 use Rattle.lending.proofs.Giving.{covered, laid}
 use Rattle.r82xx.specs.declared.Tuner.{Tuner}
 use Rattle.r82xx.specs.Record.{sound, withNotch}
@@ -33,13 +33,12 @@ use Rattle.records.specs.Drivers.{driverFits, driverFrom, driverOf, driverWidth
 use Rattle.records.specs.Tuners.{tunerBytes, tunerOf, tunerParts, tunerRead, tunerWidths}
 use Rattle.records.proofs.Exact.{Ranged, both as and-both, read-written}
 use Rattle.records.proofs.Made.{sized}
-use Rattle.replies.specs.declared.Reply.{Reply}
 use Rattle.replies.specs.Replies.{callReply, replyOf}
 use Rattle.wire.specs.Parts.{num, partsFrom}
 use Rattle.wire.proofs.Joins.{length-joined}
-use Rattle.tuners.specs.Over.{After, handed, keptOf, nextOf, overTuner, overTuning, readyOf, refusal, seenOver, unlessRefused}
+use Rattle.tuners.specs.Over.{handed, keptOf, nextOf, overTuner, overTuning, readyOf, refusal, unlessRefused}
 use Rattle.tuners.specs.Still.{answerOver, changedInto, ofRecord, tableOver}
-use Rattle.drivers.specs.Drivers.{Rates, bothReady, correctOver, corrects, correctsMade, hopArgument, hopOver, overBoth, rateOver, ratesMade, ratesRefused, seenBoth}
+use Rattle.drivers.specs.Drivers.{bothReady, correctOver, corrects, correctsMade, hopArgument, overBoth, ratesMade, ratesRefused}
 use Rattle.history.specs.Histories.{Tracks, stops}
 use Rattle.history.proofs.Demand.{follows}
 use Rattle.transcript.specs.declared.Entry.{Entry}
@@ -52,7 +51,7 @@ use Rattle.sequences.specs.Sequences.Sequence.{next as more}
 use Rattle.sequences.proofs.Demand.{count-told, sequence-history}
 use Rattle.sequences.proofs.Most.{most-entries}
 use Rattle.sequences.proofs.Views.{row-few, result-row}
-use Rattle.carried.specs.Exported.{Exported, Left, amiss, byAfter, byCorrects, byGiven, byRates, left, leftOf, orderOf, pathless, stands, tunerTyped, typed, typedOrder}
+use Rattle.carried.specs.Exported.{Exported, Left, amiss, byAfter, byCorrects, byGiven, byRates, left, leftOf, orderOf, pathless, stands, typed, typedOrder}
 use Rattle.carried.specs.Exported.Exported.{Own, Rate, Correct, Path, Hop}
 use Rattle.carried.proofs.Steady.{Fielded, Settled, argument-told, elevens, fielded, number-told, ones, plain, settled, typed-given}
 
@@ -71,8 +70,8 @@ unfolding tunerBytes
 image-long t r = length-joined tunerWidths (tunerParts t) (sized t (r .lists))
 
 -- bytes laid at the start of a slice that is long enough are found there
-pub found : (bs out : List ℕ) → length bs ≡ 78 → 78 ≤ length out → take 78 (sets out 0 bs) ≡ bs
-found bs out l h = ap (take 78) (sets-eq bs out 0 (omega arith)) ∙ take-at bs (drop (0 + length bs) out) 78 l
+pub found : (n : ℕ) (bs out : List ℕ) → length bs ≡ n → n ≤ length out → take n (sets out 0 bs) ≡ bs
+found n bs out l h = ap (take n) (sets-eq bs out 0 (omega arith)) ∙ take-at bs (drop (0 + length bs) out) n l
 
 -- ---- what a reply tells of the next record
 
@@ -94,29 +93,28 @@ stands-kept (Done value) count p h = refl
 stands-kept (Refused number) count p h = stands-some number count (not-true (eqb number 0) p) h
 stands-kept (Stopped index) count p h = stands-some 11 count refl h
 
-module _ (t : Tuner) (x : Called Tuner) (s : Settled t x) (long : length (tunerBytes (x .next)) ≡ 78) where
+-- of any record, by the bytes that it is written to
+module _ {R : Type 0} (P : R → Type 0) (image : R → List ℕ) (n : ℕ) (old : R) (x : Called R) (s : Settled P old x) (long : length (image (x .next)) ≡ n) where
   -- the next record written into a slice of its own
-  taken-over : (out : List ℕ) → 78 ≤ length out → x .count < 4_294_967_296
-      → cond (stands (callReply x)) (take 78 (nextOf tunerBytes (x .answer) (x .count) (x .next) out)) (tunerBytes t) ≡ tunerBytes (x .next)
-  unfolding nextOf
+  pub taken-over : (out : List ℕ) → n ≤ length out → x .count < 4_294_967_296
+      → cond (stands (callReply x)) (take n (cond (keptOf (x .answer) (x .count)) (sets out 0 (image (x .next))) out)) (image old) ≡ image (x .next)
   taken-over out h few = go (keptOf (x .answer) (x .count)) refl
     where
       go : (b : Bool) → keptOf (x .answer) (x .count) ≡ b
-          → cond (stands (callReply x)) (take 78 (nextOf tunerBytes (x .answer) (x .count) (x .next) out)) (tunerBytes t) ≡ tunerBytes (x .next)
-      go true e = rw (stands-kept (x .answer) (x .count) (s .named) few, e) (found (tunerBytes (x .next)) out long h)
-      go false e = rw (stands-kept (x .answer) (x .count) (s .named) few, e) (ap tunerBytes (sym (s .same e)))
+          → cond (stands (callReply x)) (take n (cond (keptOf (x .answer) (x .count)) (sets out 0 (image (x .next))) out)) (image old) ≡ image (x .next)
+      go true e = rw (stands-kept (x .answer) (x .count) (s .named) few, e) (found n (image (x .next)) out long h)
+      go false e = rw (stands-kept (x .answer) (x .count) (s .named) few, e) (ap image (sym (s .same e)))
 
   -- or over the one that is given
-  in-place : length (tunerBytes t) ≡ 78 → nextOf tunerBytes (x .answer) (x .count) (x .next) (tunerBytes t) ≡ tunerBytes (x .next)
-  unfolding nextOf
+  pub in-place : length (image old) ≡ n → cond (keptOf (x .answer) (x .count)) (sets (image old) 0 (image (x .next))) (image old) ≡ image (x .next)
   in-place l = go (keptOf (x .answer) (x .count)) refl
     where
-      go : (b : Bool) → keptOf (x .answer) (x .count) ≡ b → nextOf tunerBytes (x .answer) (x .count) (x .next) (tunerBytes t) ≡ tunerBytes (x .next)
-      go true e = rw e (covered (tunerBytes t) (tunerBytes (x .next)) (long ∙ sym l))
-      go false e = rw e (ap tunerBytes (sym (s .same e)))
+      go : (b : Bool) → keptOf (x .answer) (x .count) ≡ b → cond (keptOf (x .answer) (x .count)) (sets (image old) 0 (image (x .next))) (image old) ≡ image (x .next)
+      go true e = rw e (covered (image old) (image (x .next)) (long ∙ sym l))
+      go false e = rw e (ap image (sym (s .same e)))
 
 -- a driver's record that is read is in its ranges
-picked : (c : Bool) (d : Driver) → pickDriver c d .ok ≡ true → (c ≡ true) × (pickDriver c d .driver ≡ d)
+pub picked : (c : Bool) (d : Driver) → pickDriver c d .ok ≡ true → (c ≡ true) × (pickDriver c d .driver ≡ d)
 picked true d h = (refl, refl)
 picked false d h = absurd (false≢true h)
 
@@ -124,7 +122,7 @@ fits-sound : (ps : List (List ℕ)) → driverFits ps ≡ true → soundDriver (
 unfolding driverFits
 fits-sound ps h = and-both (leb (num ps 0) 1) (soundDriver (driverFrom ps)) h .1
 
-driver-sound : (b : List ℕ) → driverOf b .ok ≡ true → soundDriver (driverOf b .driver) ≡ true
+pub driver-sound : (b : List ℕ) → driverOf b .ok ≡ true → soundDriver (driverOf b .driver) ≡ true
 unfolding driverOf isDriver
 driver-sound b h =
     let ps : List (List ℕ) = partsFrom 0 driverWidths b in
@@ -202,13 +200,14 @@ module _ (t : Tuner) (es : List Entry) (s : Sequence t es) (r : Ranged t) where
   long : (k : Call) → typedOrder (k .order) ≡ true → length (tunerBytes (after k t)) ≡ 78
   long k h = image-long (after k t) (next-ranged k h)
 
-  fixed : (k : Call) → typedOrder (k .order) ≡ true → Settled t (result k t)
+  fixed : (k : Call) → typedOrder (k .order) ≡ true → Settled Fielded t (result k t)
   fixed k h = settled (k .order) (k .outcomes) (k .room) t fields h
 
   -- a call made, with the next record in a slice of its own that is long enough
   made-into : (k : Call) (out : List ℕ) (one : Bool) → typedOrder (k .order) ≡ true → 78 ≤ length out → Told (numberOf (result k t .answer)) one (stops (result k t .answer))
       → Passed t k 0 one (byAfter (handed (result k t) out) (tunerBytes t))
-  made-into k out one h l o = made refl o refl (λ c. refl) (taken-over t (result k t) (fixed k h) (long k h) out l (few k h))
+  unfolding nextOf
+  made-into k out one h l o = made refl o refl (λ c. refl) (taken-over Fielded tunerBytes 78 t (result k t) (fixed k h) (long k h) out l (few k h))
 
   away-after : (k : Call) (n : ℕ) (room out : List ℕ) (one : Bool) → eqb n 0 ≡ false → Told n one false → Passed t k n one (byAfter (refusal n room out) (tunerBytes t))
   away-after k n room out one z o = away z o refl (rw z)
@@ -352,7 +351,7 @@ module _ (t : Tuner) (es : List Entry) (s : Sequence t es) (r : Ranged t) where
 
   correct-row : (ppm : ℤ) (driver os room out : List ℕ)
       → Passed t (call (Correction ppm (driverOf driver .driver)) os room) (turned (Correct ppm driver) out t) (amiss (Correct ppm driver)) (byCorrects (correctOver ppm (tunerBytes t) driver) room)
-  unfolding correctOver
+  unfolding correctOver nextOf
   correct-row ppm driver os room out = rw read (go (driverOf driver .ok) refl)
     where
       d : Driver
@@ -387,7 +386,7 @@ module _ (t : Tuner) (es : List Entry) (s : Sequence t es) (r : Ranged t) where
           made refl (subst (λ (x : Called Tuner). Told (numberOf (x .answer)) false (stops (x .answer))) (sym is) (still-says test _ _ os room))
           (ap (replyOf (result still t .answer)) none ∙ sym (ap callReply any))
           (λ c. sym (ap (λ (x : Called Tuner). x .room) any))
-          (in-place t (result still t) (fixed still refl) (long still refl) (image-long t r) ∙ sym (ap (λ (x : Called Tuner). tunerBytes (x .next)) any))
+          (in-place Fielded tunerBytes 78 t (result still t) (fixed still refl) (long still refl) (image-long t r) ∙ sym (ap (λ (x : Called Tuner). tunerBytes (x .next)) any))
 
   -- ---- every call
 

@@ -7,13 +7,12 @@ use mathlib.Core.List.{List, [], _∷_, _++_}
 use native.Mathlib.Omega.{arith}
 use borrow.Author.Tests.{eqb-true, leb-true, lt-ltb, ltb-true, ne-eqb}
 use lib.Dec.{T, eqb, leb, ltb}
-use lib.Ieee.{Float, binary32, fits, ofInt, div}
+use lib.Ieee.{binary32, fits, ofInt}
 use lib.Ieee.Fits.{div-fits}
 use lib.IntN.{ℤ, pos, negsuc, _+ℤ_}
 use lib.ListN.{length, length-append}
 use mir.Syntax.{w64}
 use mir.Val.{toZ}
-use Rattle.transcript.specs.declared.Entry.{Entry}
 use Rattle.board.specs.declared.PathRead.{PathRead}
 use Rattle.board.specs.declared.PathRead.the-variants as path-read
 use Rattle.board.specs.declared.Route.{Route}
@@ -21,7 +20,7 @@ use Rattle.board.specs.declared.Route.the-variants as route
 use Rattle.board.specs.Numbers.{pathOf}
 use Rattle.bands.specs.declared.Band.{Band}
 use Rattle.bands.specs.Tables.{bandsOf, holds as within, landed, planAt, planBy, planIn, refused, tableOk, tuned}
-use Rattle.boards.specs.Hops.{hopSteps, pathPart}
+use Rattle.boards.specs.Hops.{pathPart}
 use Rattle.chip.specs.declared.Answer.{Answer}
 use Rattle.chip.specs.declared.Answer.the-variants.{Done, Refused, Stopped}
 use Rattle.chip.specs.declared.Chip.{Chip}
@@ -31,7 +30,7 @@ use Rattle.chip.specs.declared.Went.the-variants.{Going, Refused11}
 use Rattle.chip.specs.Calls.{Called, answerOf, callOf, called, lentOf, numberOf, performed, refusalWith}
 use Rattle.chip.specs.Courses.{Course, argumentOf, leftBy, repliesOf}
 use Rattle.chip.specs.Courses.Course.{Still, Taken}
-use Rattle.chip.specs.Steps.{Step, Trace, acts, behind, every, goes, inList, inner, line, okFor, run, step, taken, trace, updates}
+use Rattle.chip.specs.Steps.{Step, Trace, acts, behind, every, inList, inner, line, okFor, run, step, taken, trace, updates}
 use Rattle.chip.specs.Steps.Step.{Open, Close, Send, Mask, Plain}
 use Rattle.chip.proofs.Laws.{active, and-left}
 use Rattle.device.specs.Accesses.{accessStep}
@@ -115,10 +114,11 @@ starts [] = false
 starts (s ∷ ss) = inner s
 
 -- what is asked of a row: its answer is no refusal by 0, at rest it changes the record only where it is done, its steps begin, and it keeps the ranges
-pub data Steady (t : Tuner) : Course Tuner → Type 0 where
-  resting : (next : Tuner) (answer : Answer) → plain answer ≡ true → (keptOf answer 0 ≡ false → next ≡ t) → Fielded next → Steady t (Still next answer)
-  stepping : (argument n m : ℕ) (rs : List ℕ) (whole : Answer) (ss : List Step) (keep : Trace → Tuner) → late whole ≡ true → starts ss ≡ true
-      → ((tr : Trace) → Fielded (keep tr)) → Steady t (Taken argument n m rs whole ss keep)
+-- P, of the tuner's record or of both
+pub data Steady {R : Type 0} (P : R → Type 0) (old : R) : Course R → Type 0 where
+  resting : (next : R) (answer : Answer) → plain answer ≡ true → (keptOf answer 0 ≡ false → next ≡ old) → P next → Steady P old (Still next answer)
+  stepping : (argument n m : ℕ) (rs : List ℕ) (whole : Answer) (ss : List Step) (keep : Trace → R) → late whole ≡ true → starts ss ≡ true
+      → ((tr : Trace) → P (keep tr)) → Steady P old (Taken argument n m rs whole ss keep)
 
 -- ---- of any row
 
@@ -141,10 +141,10 @@ some-entry os (s ∷ ss) c h =
     (omega (arith, ap length (more .1), length-append (first .log) (more .0)))
 
 -- what a call leaves: no refusal by 0, the record as it was where the next one is not written, and its ranges
-pub record Settled (t : Tuner) (x : Called Tuner) : Type 0 where
+pub record Settled {R : Type 0} (P : R → Type 0) (old : R) (x : Called R) : Type 0 where
   pub named : plain (x .answer) ≡ true
-  pub same : keptOf (x .answer) (x .count) ≡ false → x .next ≡ t
-  pub ranges : Fielded (x .next)
+  pub same : keptOf (x .answer) (x .count) ≡ false → x .next ≡ old
+  pub ranges : P (x .next)
 
 kept-some : (a : Answer) (n : ℕ) → 1 ≤ n → keptOf a n ≡ true
 kept-some (Done value) n h = refl
@@ -157,25 +157,24 @@ late-plain (Refused number) Going h = ap (λ (n : ℕ). not (eqb n 0)) (eqb-true
 late-plain (Stopped index) Going h = refl
 late-plain whole (Refused11 k) h = refl
 
-module _ (t : Tuner) (f : Fielded t) (s : Bool) (os room : List ℕ) where
-  at-rest : (next : Tuner) (answer : Answer) → plain answer ≡ true → (keptOf answer 0 ≡ false → next ≡ t) → Fielded next → (b : Bool)
-      → Settled t (cond b (called next room 0 answer) (called t room 0 (Refused 1)))
+module _ {R : Type 0} (P : R → Type 0) (old : R) (f : P old) (c : Chip) (s : Bool) (os room : List ℕ) where
+  at-rest : (next : R) (answer : Answer) → plain answer ≡ true → (keptOf answer 0 ≡ false → next ≡ old) → P next → (b : Bool)
+      → Settled P old (cond b (called next room 0 answer) (called old room 0 (Refused 1)))
   at-rest next answer p k g true = record { named = p; same = k; ranges = g }
   at-rest next answer p k g false = record { named = refl; same = λ e. refl; ranges = f }
 
-  in-steps : (number : ℕ) (whole : Answer) (ss : List Step) (keep : Trace → Tuner) → late whole ≡ true → starts ss ≡ true → ((tr : Trace) → Fielded (keep tr))
-      → (b : Bool) → eqb number 0 ≡ b → Settled t (cond b (performed whole keep room (trace os ss (t .chip))) (called t room 0 (Refused number)))
+  in-steps : (number : ℕ) (whole : Answer) (ss : List Step) (keep : Trace → R) → late whole ≡ true → starts ss ≡ true → ((tr : Trace) → P (keep tr))
+      → (b : Bool) → eqb number 0 ≡ b → Settled P old (cond b (performed whole keep room (trace os ss c)) (called old room 0 (Refused number)))
   in-steps number whole ss keep p n g true e =
-      let tr : Trace = trace os ss (t .chip) in
+      let tr : Trace = trace os ss c in
       record {
         named = late-plain whole (tr .went) p;
-        same =
-            λ k. absurd (true≢false (sym (kept-some (answerOf whole (tr .went)) (length (tr .log)) (some-entry os ss (t .chip) n)) ∙ k));
+        same = λ k. absurd (true≢false (sym (kept-some (answerOf whole (tr .went)) (length (tr .log)) (some-entry os ss c n)) ∙ k));
         ranges = g tr;
       }
   in-steps number whole ss keep p n g false e = record { named = ap not e; same = λ k. refl; ranges = f }
 
-  pub row-settled : (row : Course Tuner) → Steady t row → Settled t (leftBy s row os (t .chip) t room)
+  pub row-settled : (row : Course R) → Steady P old row → Settled P old (leftBy s row os c old room)
   unfolding leftBy callOf
   row-settled row (resting next answer p k g) = at-rest next answer p k g s
   row-settled row (stepping argument n m rs whole ss keep p b g) =
@@ -212,7 +211,7 @@ module _ (test : ℕ → Bool) (bare : Bare test) where
     steps-number number whole ss keep p n true = late-number whole (trace os ss (t .chip) .went) p
     steps-number number whole ss keep p n false = n
 
-    pub row-number : (row : Course Tuner) → Steady t row → eqb (argumentOf row) 0 ≡ true
+    pub row-number : (row : Course Tuner) → Steady Fielded t row → eqb (argumentOf row) 0 ≡ true
         → test (numberOf (leftBy true row os (t .chip) t room .answer)) ≡ (stops (leftBy true row os (t .chip) t room .answer) && test 11)
     unfolding leftBy callOf
     row-number row (resting next answer p k g) h = rest-number answer h
@@ -223,13 +222,19 @@ module _ (test : ℕ → Bool) (bare : Bare test) where
 -- ---- each row
 
 -- the corrected reference of a correction that is taken is in its range
-xtal-small : (nominal : ℕ) (ppm : ℤ) → xtalBy nominal ppm < 4_294_967_296
+pub xtal-small : (nominal : ℕ) (ppm : ℤ) → xtalBy nominal ppm < 4_294_967_296
 unfolding xtalBy
 xtal-small nominal ppm = go (correctedOf nominal ppm) refl
   where
     go : (c : Corrected) → correctedOf nominal ppm ≡ c → xtalBy nominal ppm < 4_294_967_296
     go (corrected.Is v) e = rw e (omega (arith, in-range nominal ppm v e))
     go corrected.Refused e = rw e (omega arith)
+
+pub hop-starts : (kind : Kind) (r : Route) (rs : List ℕ) (ss : List Step) → starts (pathPart kind r rs ++ (Open ∷ ss)) ≡ true
+unfolding outputSteps accessStep
+hop-starts R820T r rs ss = refl
+hop-starts R828D route.Direct rs ss = refl
+hop-starts R828D (route.By path) rs ss = refl
 
 module _ (t : Tuner) (f : Fielded t) where
   moved : (c : Chip) → Fielded (withChip t c)
@@ -251,37 +256,31 @@ module _ (t : Tuner) (f : Fielded t) where
   gained k =
       record { nominal = f .nominal; known = f .known; corrected = f .corrected; right = f .right; gain = div-fits binary32 (ofInt binary32 (pos k)) ten; ifreq = f .ifreq }
 
-  bracket-steady : (n : ℕ) (us : List Update) (answer : Answer) (cut whole : Tuner) → late answer ≡ true → Fielded cut → Fielded whole → Steady t (bracket n us answer cut whole)
+  bracket-steady : (n : ℕ) (us : List Update) (answer : Answer) (cut whole : Tuner) → late answer ≡ true → Fielded cut → Fielded whole → Steady Fielded t (bracket n us answer cut whole)
   unfolding bracket
   bracket-steady n us answer cut whole p g h =
       stepping 0 (n + 2) 0 [] answer (behind (updates us)) _ p refl (λ tr. ended cut whole g h (tr .went) (tr .chip))
 
-  gain-steady : (k : ℕ) → Steady t (gainRow k t)
+  gain-steady : (k : ℕ) → Steady Fielded t (gainRow k t)
   unfolding gainRow
   gain-steady k = bracket-steady 5 (gainUpdates k) _ t (withGain t (gainOf (stepAt k))) refl f (gained (stepAt k))
 
-  path-steady : (p : PathRead) (kind : Kind) → Steady t (pathRow p kind t)
+  path-steady : (p : PathRead) (kind : Kind) → Steady Fielded t (pathRow p kind t)
   path-steady path-read.Refused kind = resting t (Refused 1) refl (λ e. refl) f
   path-steady (path-read.Is path) R820T = resting t (Done 0) refl (λ e. refl) f
   path-steady (path-read.Is path) R828D = bracket-steady 2 (pathUpdates path) (Done 0) t t refl f f
 
-  board-steady : (p : PathRead) (rs : List ℕ) → Steady t (boardRow p rs t)
+  board-steady : (p : PathRead) (rs : List ℕ) → Steady Fielded t (boardRow p rs t)
   unfolding outputSteps accessStep
   board-steady path-read.Refused rs = resting t (Refused 1) refl (λ e. refl) f
   board-steady (path-read.Is path) rs = stepping 0 10 3 rs (Done 0) (boardPathSteps (t .kind) path rs) _ refl refl (λ tr. moved (tr .chip))
 
-  whole-late : (plan : Pll) (hz : ℕ) → late (wholeOf plan hz) ≡ true
+  pub whole-late : (plan : Pll) (hz : ℕ) → late (wholeOf plan hz) ≡ true
   whole-late pll.Refused hz = refl
   whole-late (pll.Planned p) hz = refl
 
-  hop-starts : (kind : Kind) (r : Route) (rs : List ℕ) (ss : List Step) → starts (pathPart kind r rs ++ (Open ∷ ss)) ≡ true
-  unfolding outputSteps accessStep
-  hop-starts R820T r rs ss = refl
-  hop-starts R828D route.Direct rs ss = refl
-  hop-starts R828D (route.By path) rs ss = refl
-
   correction-steady : (b : Bool) (v : ℕ) (ppm : ℤ) (d : Driver) → v < 4_294_967_296 → (b ≡ true → 1 ≤ v)
-      → Steady t (tunerPart (cond b (Still (both (withCorrected t v) (withPpm d ppm)) (Done 0)) (Still (both t d) (Refused 4))))
+      → Steady Fielded t (tunerPart (cond b (Still (both (withCorrected t v) (withPpm d ppm)) (Done 0)) (Still (both t d) (Refused 4))))
   correction-steady true v ppm d l r =
       resting (withCorrected t v) (Done 0) refl (λ e. absurd (true≢false e))
       (record { nominal = f .nominal; known = f .known; corrected = l; right = r refl; gain = f .gain; ifreq = f .ifreq })
@@ -297,7 +296,7 @@ module _ (t : Tuner) (f : Fielded t) where
       go false false false = omega arith
 
   -- one line for each row
-  pub steady : (o : Order) → typedOrder o ≡ true → Steady t (rowOf o t)
+  pub steady : (o : Order) → typedOrder o ≡ true → Steady Fielded t (rowOf o t)
   steady (Tuned Initialize) h = stepping 0 19 0 [] (Done 0) _ _ refl refl (λ tr. moved (tr .chip))
   steady (Tuned Reload) h = stepping 0 9 0 [] (Done 0) _ _ refl refl (λ tr. moved (tr .chip))
   steady (Tuned (Bandwidth hz)) h = bracket-steady 1 (bandwidthUpdates hz) (Done 0) t t refl f f
@@ -361,8 +360,8 @@ typed-given (BoardPath path rs) t h = board-given (pathOf path) rs t h
 typed-given (BoardTune hz table rs d) t h = h
 
 -- what a call leaves, by its row
-pub settled : (o : Order) (os room : List ℕ) (t : Tuner) → Fielded t → typedOrder o ≡ true → Settled t (resultOf o os room t)
-settled o os room t f h = subst (Settled t) (sym (result-row t os room o)) (row-settled t f (soundFor o t) os room (rowOf o t) (steady t f o h))
+pub settled : (o : Order) (os room : List ℕ) (t : Tuner) → Fielded t → typedOrder o ≡ true → Settled Fielded t (resultOf o os room t)
+settled o os room t f h = subst (Settled Fielded t) (sym (result-row t os room o)) (row-settled Fielded t f (t .chip) (soundFor o t) os room (rowOf o t) (steady t f o h))
 
 module _ (test : ℕ → Bool) (bare : Bare test) where
   pub number-told : (o : Order) (os room : List ℕ) (t : Tuner) → Fielded t → typedOrder o ≡ true → soundFor o t ≡ true → eqb (argumentOf (rowOf o t)) 0 ≡ true

@@ -2,14 +2,10 @@
 -- sample rate and a board-level tune, each done; and one that is cut. Assumes nothing.
 use Prim.Native.Nat.{ℕ, _+_}
 use mathlib.Core.Path.{_≡_, refl}
-use mathlib.Core.Bool.{true, false}
 use mathlib.Core.List.{List, [], _∷_, _++_}
 use native.Mathlib.Omega.{arith}
 use lib.Ieee.{ofBits, toBits}
 use lib.ListN.{getD, replicate, take}
-use Rattle.transcript.specs.declared.Entry.{Entry}
-use Rattle.transcript.specs.Entries.{entryBytes}
-use Rattle.transcript.specs.Sections.{entriesBytes, sectionBytes, trailerBytes}
 use Rattle.bands.specs.Tables.{ascending, bandOf, bandsIn, planAt, planBy, planIn, tableOk}
 use Rattle.chip.specs.Calls.{callOf, lentOf, lockedIn, triesIn}
 use Rattle.chip.specs.Chips.{attemptedBy, maskOf}

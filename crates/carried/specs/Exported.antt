@@ -12,7 +12,6 @@ use lib.ListN.{set, take}
 use Rattle.transcript.specs.declared.Entry.{Entry}
 use Rattle.transcript.specs.Sections.{sectionEntries}
 use Rattle.board.specs.Numbers.{pathOf}
-use Rattle.chip.specs.Calls.{Called}
 use Rattle.chip.specs.Steps.{every}
 use Rattle.lending.specs.Lent.{Given}
 use Rattle.r82xx.specs.Orders as tuner

@@ -1,6 +1,6 @@
 -- "11 step | a step other than a closing failed | steps taken stand": given exactly then, by any call, whatever the outcomes. Assumes nothing.
-use Prim.Native.Nat.{ℕ, _+_, _≤_}
-use mathlib.Core.Path.{_≡_, refl, sym, ap, subst, _∙_}
+use Prim.Native.Nat.{ℕ, _+_}
+use mathlib.Core.Path.{_≡_, refl, sym, ap, _∙_}
 use mathlib.Core.Bool.{Bool, true, false, not, _&&_, cond}
 use mathlib.Core.List.{List, [], _∷_}
 use lib.Dec.{eqb}
@@ -20,7 +20,7 @@ use Rattle.history.proofs.Told.{told-trace}
 use Rattle.sequences.specs.Asides.{Aside, asideAsked, asideEntries, asideGiven, asideResult}
 use Rattle.sequences.specs.Calls.{Call, asked, entries, given, result}
 use Rattle.sequences.specs.Sequences.{Sequence}
-use Rattle.sequences.proofs.Views.{Silent, Stepping, View, view}
+use Rattle.sequences.proofs.Views.{Stepping, View, view}
 use Rattle.sequences.proofs.Views.View.{moving, silent}
 use Rattle.sequences.proofs.Ties.{no-entries}
 use Rattle.sequences.proofs.Asides.{aside-stepping}

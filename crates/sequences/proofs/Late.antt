@@ -1,7 +1,7 @@
 -- "A PLL refusal comes after the mux: all done, it leaves 13 entries (open, 11 writes, close) and the mux's shadow": which entries they are, and what the
 -- record says of the chip, for every tuner and hz, also where the closing failed. Assumes nothing.
 use Prim.Native.Nat.{ℕ}
-use mathlib.Core.Path.{_≡_, refl, sym, ap, _∙_}
+use mathlib.Core.Path.{_≡_, refl, ap, _∙_}
 use mathlib.Core.Bool.{Bool, true}
 use mathlib.Core.List.{List, [], _∷_, _++_}
 use borrow.Author.Tests.{eq-eqb}

@@ -1,8 +1,8 @@
 -- No call leaves the repeater open, whatever fails (`shut`): so behind a failing step with the repeater open the closing is there (`closing-there`).
 -- Assumes nothing.
-use Prim.Native.Nat.{ℕ, zero, suc, _+_, _≤_}
+use Prim.Native.Nat.{ℕ, zero, suc, _+_}
 use mathlib.Core.Path.{_≡_, refl, sym, ap, subst, _∙_}
-use mathlib.Core.Bool.{Bool, true, false, not, _&&_, _||_, cond, false≢true, true≢false}
+use mathlib.Core.Bool.{Bool, true, false, not, _&&_, cond, false≢true, true≢false}
 use mathlib.Core.List.{List, [], _∷_, _++_, map}
 use lib.Dec.{eqb, leb}
 use lib.ListN.{getD, drop, length, take}
@@ -18,27 +18,32 @@ use Rattle.board.specs.Numbers.{pathOf}
 use Rattle.bands.specs.Tables.{planBy}
 use Rattle.boards.specs.Hops.{ddcPart, hopSteps, pathPart, pathReplies}
 use Rattle.chip.specs.declared.Answer.{Answer}
-use Rattle.chip.specs.declared.Answer.the-variants.{Stopped}
 use Rattle.chip.specs.declared.Chip.{Chip}
 use Rattle.chip.specs.declared.Update.{Update}
-use Rattle.chip.specs.declared.Went.{Went}
-use Rattle.chip.specs.declared.Went.the-variants.{Going, Refused11}
+use Rattle.chip.specs.declared.Went.the-variants.{Going}
 use Rattle.chip.specs.Calls.{callEntries}
 use Rattle.chip.specs.Courses.{Course, stepsOf}
 use Rattle.chip.specs.Courses.Course.{Still}
 use Rattle.chip.specs.Entries.{repeater, wait}
 use Rattle.chip.specs.Steps.{Step, Trace, acts, behind, chunkStep, chunkTable, emit, every, inList, line, okFor, run, step, taken, trace, tunerWrite, updateStep, updates}
 use Rattle.chip.specs.Steps.Step.{Open, Close, Send, Mask, Plain}
-use Rattle.chip.proofs.Laws.{active, and-left, and-right, idle}
+use Rattle.chip.proofs.Laws.{active, idle}
 use Rattle.history.specs.Programs.{fine}
 use Rattle.history.specs.Histories.{Closing, Cut}
 use Rattle.history.specs.Histories.Closing.{nothing, closed}
 use Rattle.history.proofs.Fine.{every-append}
 use Rattle.history.proofs.Runs.{run-keeps}
 use Rattle.history.proofs.Tracked.{aside-of}
-use Rattle.demod.specs.Programs.{ddcSteps, ifSteps, rateSteps, resetSteps}
+use Rattle.demod.specs.Calls.Order.{Baseband, LowIf, ZeroIf, Reset, Direct as DirectWrite, Start, Stop, IfXtal, RateXtal}
+use Rattle.demod.specs.Programs.{ddcSteps, directSteps, firSteps, ifSteps, initSteps as demodSteps, lowIfSteps, modeSteps, powerSteps, rateSteps, resetSteps, startSteps, stopSteps, upward, zeroIfSteps}
 use Rattle.device.specs.Accesses.{accessStep}
+use Rattle.device.specs.Calls.{noChip}
 use Rattle.device.specs.Gpio.{bitSteps, outputSteps}
+use Rattle.device.specs.Gpio.Order.{Output, Bit}
+use Rattle.fir.specs.Packing.{packOf}
+use Rattle.sequences.specs.Asides.{Aside, Other, asideAsked, asideEntries, asideGiven, asideRow}
+use Rattle.sequences.specs.Asides.Other.{Pin, Demod}
+use Rattle.sequences.proofs.Asides.{aside-stepping}
 use Rattle.driver.specs.Calls.{Both, boardRow}
 use Rattle.driver.specs.Programs.{anewSteps, boardPathSteps, filterSteps, ifFor, sampleRateSteps}
 use Rattle.driver.specs.Record.{xtalBy, xtalOf}
@@ -337,6 +342,26 @@ shut t es s k g =
     proper-fine : {row : Course Tuner} → Proper t row → every fine (stepsOf row) ≡ true
     proper-fine (resting next answer a b) = no-fine
     proper-fine (stepping argument n m rs whole ss keep a b c) = b
+
+-- nor do those that take no record: they have no repeater's step at all
+aside-shuts : (o : Other) → shuts false (stepsOf (asideRow o)) ≡ true
+unfolding shuts accessStep outputSteps bitSteps demodSteps powerSteps upward firSteps packOf modeSteps lowIfSteps zeroIfSteps resetSteps directSteps startSteps stopSteps ifSteps rateSteps
+aside-shuts (Pin (Output pin rs)) = refl
+aside-shuts (Pin (Bit pin value rs)) = refl
+aside-shuts (Demod Baseband) = refl
+aside-shuts (Demod LowIf) = refl
+aside-shuts (Demod ZeroIf) = refl
+aside-shuts (Demod Reset) = refl
+aside-shuts (Demod (DirectWrite page register value)) = refl
+aside-shuts (Demod Start) = refl
+aside-shuts (Demod Stop) = refl
+aside-shuts (Demod (IfXtal hz xtal)) = refl
+aside-shuts (Demod (RateXtal rate xtal)) = refl
+
+pub aside-shut : (a : Aside) → asideGiven (a .other) ≡ true → heldIn (asideEntries a) ≡ false
+aside-shut a g =
+    let same : asideAsked a .steps ≡ stepsOf (asideRow (a .other)) = asked-steps true (asideRow (a .other)) (length (a .outcomes)) (length (a .room)) in
+    call-shut (asideAsked a .number) (a .outcomes) (asideAsked a .steps) noChip (aside-stepping a g .good) (subst (λ (ss : List Step). shuts false ss ≡ true) (sym same) (aside-shuts (a .other)))
 
 -- "Where a step fails the rest of the call is not taken, but an open repeater (its opening done) is closed (one entry)": told open by the entries up to the
 -- failing one, it is closed by the entry behind it

@@ -1,7 +1,7 @@
 -- "`set_sample_rate`: an IF of 0 stays 0 for all later rates, until an IF is set": over any sequence of calls, whatever fails. Assumes nothing.
 use Prim.Native.Nat.{ℕ, _+_, _<_}
-use mathlib.Core.Path.{_≡_, refl, sym, ap, subst, _∙_}
-use mathlib.Core.Bool.{Bool, true, false, _&&_, cond, false≢true, true≢false}
+use mathlib.Core.Path.{_≡_, refl, ap, _∙_}
+use mathlib.Core.Bool.{Bool, true, false, _&&_, cond, true≢false}
 use mathlib.Core.List.{List, []}
 use native.Mathlib.Omega.{arith}
 use lib.Dec.{eqb, leb}
@@ -22,7 +22,7 @@ use Rattle.chip.specs.Courses.{Course, leftBy, stepsOf}
 use Rattle.chip.specs.Courses.Course.{Still, Taken}
 use Rattle.chip.specs.Steps.{Step, Trace, behind, trace, updates}
 use Rattle.driver.specs.declared.Driver.{Driver}
-use Rattle.driver.specs.Calls.{Both, boardRow, both, retuned}
+use Rattle.driver.specs.Calls.{boardRow, both, retuned}
 use Rattle.driver.specs.Programs.{boardPathSteps, ifFor, sampleRateSteps}
 use Rattle.driver.specs.Record.{withPpm, xtalBy, xtalOf}
 use Rattle.gain.specs.Product.{gainOf}
@@ -35,7 +35,7 @@ use Rattle.r82xx.specs.Orders as tuner
 use Rattle.r82xx.specs.Orders.{bracket, gainRow, pathRow}
 use Rattle.r82xx.specs.Orders.Order.{Initialize, Reload, Bandwidth, IfFreq, Gain, GainIndex, InputPath, Tune, Notch, GainTold, IfTold, TableTold}
 use Rattle.writes.specs.Lists.{bandwidthUpdates, gainUpdates, ifUpdates, pathUpdates}
-use Rattle.sequences.specs.Calls.{Call, Order, after, call, resultOf, result, rowOf, soundFor, tunerPart}
+use Rattle.sequences.specs.Calls.{Order, after, call, resultOf, result, rowOf, soundFor, tunerPart}
 use Rattle.sequences.specs.Calls.Order.{Tuned, SampleRate, Correction, BoardPath, BoardTune}
 use Rattle.sequences.specs.Since.{Since, setsIf}
 use Rattle.sequences.specs.Since.Since.{start, later}

@@ -1,6 +1,6 @@
 -- No run of a call takes more replies than it asks for, whatever the outcomes and the replies. Assumes nothing.
 use Prim.Native.Nat.{ℕ, zero, suc, _+_, _*_, _≤_}
-use mathlib.Core.Path.{_≡_, refl, sym, ap, subst, _∙_}
+use mathlib.Core.Path.{_≡_, refl, ap, subst, _∙_}
 use mathlib.Core.Bool.{Bool, true, false, _&&_, cond}
 use mathlib.Core.List.{List, [], _∷_, _++_, map}
 use native.Mathlib.Omega.{arith}
@@ -24,7 +24,7 @@ use Rattle.chip.specs.Calls.{callEntries, lentOf}
 use Rattle.chip.specs.Courses.{stepsOf}
 use Rattle.chip.specs.Courses.Course.{Still}
 use Rattle.chip.specs.Entries.{wait}
-use Rattle.chip.specs.Steps.{Step, Trace, acts, behind, chunkStep, chunkTable, emit, inList, line, okFor, run, step, taken, trace, tunerWrite, updateStep, updates}
+use Rattle.chip.specs.Steps.{Step, Trace, acts, behind, chunkStep, chunkTable, emit, inList, line, okFor, run, step, trace, tunerWrite, updateStep, updates}
 use Rattle.chip.specs.Steps.Step.{Open, Close, Send, Mask, Plain}
 use Rattle.chip.proofs.Laws.{active, idle}
 use Rattle.demod.specs.Calls.Order.{Baseband, LowIf, ZeroIf, Reset, Direct as DirectWrite, Start, Stop, IfXtal, RateXtal}

@@ -1,11 +1,9 @@
 -- Calls one behind the other, each on the record that the last handed back, of which none sets an IF. Document 01, "Demodulator": "`set_sample_rate`: an IF of 0
 -- stays 0 for all later rates, until an IF is set."
 -- Assumes nothing.
-use Prim.Native.Nat.{ℕ}
 use mathlib.Core.Path.{_≡_}
 use mathlib.Core.Bool.{Bool, true, false}
 use Rattle.r82xx.specs.declared.Tuner.{Tuner}
-use Rattle.r82xx.specs.Orders as tuner
 use Rattle.r82xx.specs.Orders.Order.{Initialize, Reload, Bandwidth, IfFreq, Gain, GainIndex, InputPath, Tune, Notch, GainTold, IfTold, TableTold}
 use Rattle.sequences.specs.Calls.{Call, Order, after}
 use Rattle.sequences.specs.Calls.Order.{Tuned, SampleRate, Correction, BoardPath, BoardTune}
