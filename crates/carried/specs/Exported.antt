@@ -37,7 +37,7 @@ pub data Exported : Type 0 where
   Path : (path : ℕ) (rs : List ℕ) → Exported
   Hop : (hz : ℕ) (table rs driver left : List ℕ) → Exported
 
--- with the memory that is lent to it: outcomes, room, and the slice for the next record, or for the gain table (a call without steps looks at what it takes)
+-- with the memory that is lent to it: outcomes, room, and the slice for the next record, or for the gain table (a call without steps has no outcomes and no room)
 pub record Lent : Type 0 where
   pub exported : Exported
   pub outcomes : List ℕ
@@ -63,7 +63,7 @@ pub record Left : Type 0 where
 abbrev pub left : Reply → List ℕ → List ℕ → Left
 left reply room bytes = record { reply = reply; room = room; bytes = bytes }
 
--- of a call that writes the next record into a slice of its own: "The tuner's record is 78 bytes"; those, or the ones that it was given
+-- of a call that writes the next record into a slice of its own, which may be longer than a record's 78 bytes: those, or the ones that it was given
 abbrev pub taking : Reply → List ℕ → List ℕ → List ℕ → Left
 taking reply room next b = left reply room (cond (stands reply) (take 78 next) b)
 
@@ -168,7 +168,7 @@ typed e = typedOrder (orderOf e)
 
 -- ---- what is left of refusal 1, "1 setup | .. a given record as above", where the tuner's record is one
 
--- a number that names no path: "path 0 HF, 1 VHF, 2 UHF"
+-- a number that names no path: 0 is HF, 1 VHF, 2 UHF
 abbrev pub pathless : Order → Bool
 pathless (Tuned Initialize) = false
 pathless (Tuned Reload) = false

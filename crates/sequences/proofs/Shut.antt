@@ -1,11 +1,13 @@
--- No call leaves the repeater open, whatever fails (`shut`): so behind a failing step with the repeater open the closing is there (`closing-there`).
+-- No call leaves the repeater open, whatever fails (`shut`), and none closes one that is not open (`only-open`): so behind a failing step the closing is there
+-- exactly where the repeater is open (`closing-there`, `closing-not-there`).
 -- Assumes nothing.
 use Prim.Native.Nat.{ℕ, zero, suc, _+_}
 use mathlib.Core.Path.{_≡_, refl, sym, ap, subst, _∙_}
-use mathlib.Core.Bool.{Bool, true, false, not, _&&_, cond, false≢true, true≢false}
+use mathlib.Core.Bool.{Bool, true, false, not, _&&_, _||_, cond, false≢true, true≢false}
 use mathlib.Core.List.{List, [], _∷_, _++_, map}
 use lib.Dec.{eqb, leb}
 use lib.ListN.{getD, drop, length, take}
+use lib.Seq.{append-snoc}
 use Rattle.transcript.specs.declared.Entry.{Entry}
 use Rattle.attempts.specs.Attempts.{done, firstOf}
 use Rattle.board.specs.declared.Path.{Path}
@@ -27,9 +29,9 @@ use Rattle.chip.specs.Courses.Course.{Still}
 use Rattle.chip.specs.Entries.{repeater, wait}
 use Rattle.chip.specs.Steps.{Step, Trace, acts, behind, chunkStep, chunkTable, emit, every, inList, line, okFor, run, step, taken, trace, tunerWrite, updateStep, updates}
 use Rattle.chip.specs.Steps.Step.{Open, Close, Send, Mask, Plain}
-use Rattle.chip.proofs.Laws.{active, idle}
+use Rattle.chip.proofs.Laws.{active, and-right, idle}
 use Rattle.history.specs.Programs.{fine}
-use Rattle.history.specs.Histories.{Closing, Cut}
+use Rattle.history.specs.Histories.{Closing, Cut, isClosing}
 use Rattle.history.specs.Histories.Closing.{nothing, closed}
 use Rattle.history.proofs.Fine.{every-append}
 use Rattle.history.proofs.Runs.{run-keeps}
@@ -67,7 +69,7 @@ use Rattle.sequences.specs.Sequences.{Sequence}
 use Rattle.sequences.proofs.Views.{Proper, asked-steps, proper}
 use Rattle.sequences.proofs.Views.Proper.{resting, stepping}
 use Rattle.sequences.proofs.Demand.{small}
-use Rattle.sequences.specs.Repeater.{heldBy, heldFrom, heldIn}
+use Rattle.sequences.specs.Repeater.{closesOpen, heldBy, heldFrom, heldIn}
 
 -- ---- entries
 
@@ -96,6 +98,50 @@ module _ (os : List ℕ) where
 pub held-trace : (os : List ℕ) (ss : List Step) (c : Chip) → every fine ss ≡ true → trace os ss c .held ≡ heldIn (trace os ss c .log)
 unfolding trace heldFrom
 held-trace os ss c f = run-keeps os (λ (u : Trace). u .held ≡ heldIn (u .log)) fine (told-taken os) ss (line c [] 0 Going false) f refl
+
+-- a list of entries behind another
+closes-append : (held : Bool) (xs ys : List Entry) → closesOpen held (xs ++ ys) ≡ (closesOpen held xs && closesOpen (heldFrom held xs) ys)
+unfolding closesOpen heldFrom
+closes-append held [] ys = refl
+closes-append held (x ∷ xs) ys = go (not (isClosing x) || held) (closes-append (heldBy x held) xs ys)
+  where
+    go : (b : Bool) → closesOpen (heldBy x held) (xs ++ ys) ≡ (closesOpen (heldBy x held) xs && closesOpen (heldFrom (heldBy x held) xs) ys)
+        → (b && closesOpen (heldBy x held) (xs ++ ys)) ≡ ((b && closesOpen (heldBy x held) xs) && closesOpen (heldFrom (heldBy x held) xs) ys)
+    go true h = h
+    go false h = refl
+
+-- a run closes an open repeater alone
+record Opened (t : Trace) : Type 0 where
+  told : t .held ≡ heldIn (t .log)
+  only : closesOpen false (t .log) ≡ true
+
+module _ (os : List ℕ) where
+  no-more : (t : Trace) (e : Entry) → isClosing e ≡ false → closesOpen false (t .log) ≡ true → closesOpen false (t .log ++ (e ∷ [])) ≡ true
+  unfolding closesOpen
+  no-more t e n h = closes-append false (t .log) (e ∷ []) ∙ rw (h, n)
+
+  one-more : (t : Trace) (e : Entry) → heldIn (t .log) ≡ true → closesOpen false (t .log) ≡ true → closesOpen false (t .log ++ (e ∷ [])) ≡ true
+  unfolding closesOpen
+  one-more t e n h = closes-append false (t .log) (e ∷ []) ∙ rw (h, n) (go (not (isClosing e)))
+    where
+      go : (b : Bool) → ((b || true) && true) ≡ true
+      go true = refl
+      go false = refl
+
+  opened-taken : (s : Step) (t : Trace) → fine s ≡ true → acts s (t .went) (t .held) ≡ true → Opened t → Opened (taken inList os (okFor os (t .count) s) s t)
+  opened-taken s t f a o = record { told = told-taken os s t f a (o .told); only = by s f a }
+    where
+      by : (s : Step) → fine s ≡ true → acts s (t .went) (t .held) ≡ true → closesOpen false (t .log ++ (emit s (t .chip) (okFor os (t .count) s) ∷ [])) ≡ true
+      by Open g b = no-more t (emit Open (t .chip) (okFor os (t .count) Open)) refl (o .only)
+      by Close g b = one-more t (emit Close (t .chip) (okFor os (t .count) Close)) (sym (o .told) ∙ b) (o .only)
+      by (Send n bytes) g b = no-more t (emit (Send n bytes) (t .chip) (okFor os (t .count) (Send n bytes))) refl (o .only)
+      by (Mask r v m) g b = no-more t (emit (Mask r v m) (t .chip) (okFor os (t .count) (Mask r v m))) refl (o .only)
+      by (Plain e) g b =
+          no-more t (emit (Plain e) (t .chip) (okFor os (t .count) (Plain e))) (ap (λ (c : Bool). c && eqb (firstOf (emit (Plain e) (t .chip) (okFor os (t .count) (Plain e)))) 0) (aside-of e g .kind)) (o .only)
+
+pub only-trace : (os : List ℕ) (ss : List Step) (c : Chip) → every fine ss ≡ true → closesOpen false (trace os ss c .log) ≡ true
+unfolding trace heldFrom closesOpen
+only-trace os ss c f = run-keeps os Opened fine (opened-taken os) ss (line c [] 0 Going false) f (record { told = refl; only = refl }) .only
 
 -- ---- programs
 
@@ -331,17 +377,66 @@ no-fine : every fine [] ≡ true
 unfolding every
 no-fine = refl
 
--- no call leaves the repeater open, whatever the outcomes
-pub shut : (t : Tuner) (es : List Entry) → Sequence t es → (k : Call) → given (k .order) t ≡ true → heldIn (entries k t) ≡ false
-shut t es s k g =
-    let same : asked k t .steps ≡ stepsOf (rowOf (k .order) t) = asked-steps (soundFor (k .order) t) (rowOf (k .order) t) (length (k .outcomes)) (length (k .room)) in
-    call-shut (asked k t .number) (k .outcomes) (asked k t .steps) (t .chip)
-    (subst (λ (ss : List Step). every fine ss ≡ true) (sym same) (proper-fine (proper t (k .order) g (small t es s))))
-    (subst (λ (ss : List Step). shuts false ss ≡ true) (sym same) (row-shuts (k .order) t))
+call-only : (number : ℕ) (os : List ℕ) (ss : List Step) (c : Chip) → every fine ss ≡ true → closesOpen false (callEntries number os ss c) ≡ true
+unfolding closesOpen
+call-only number os ss c f = go (eqb number 0)
   where
-    proper-fine : {row : Course Tuner} → Proper t row → every fine (stepsOf row) ≡ true
-    proper-fine (resting next answer a b) = no-fine
-    proper-fine (stepping argument n m rs whole ss keep a b c) = b
+    go : (b : Bool) → closesOpen false (cond b (trace os ss c .log) []) ≡ true
+    go true = only-trace os ss c f
+    go false = refl
+
+shut-closing : (ok : Bool) → closesOpen false (repeater 0 ok ∷ []) ≡ false
+unfolding closesOpen
+shut-closing ok = refl
+
+proper-fine : (t : Tuner) {row : Course Tuner} → Proper t row → every fine (stepsOf row) ≡ true
+proper-fine t (resting next answer a b) = no-fine
+proper-fine t (stepping argument n m rs whole ss keep a b c) = b
+
+module _ (t : Tuner) (es : List Entry) (s : Sequence t es) (k : Call) (g : given (k .order) t ≡ true) where
+  same-steps : stepsOf (rowOf (k .order) t) ≡ asked k t .steps
+  same-steps = sym (asked-steps (soundFor (k .order) t) (rowOf (k .order) t) (length (k .outcomes)) (length (k .room)))
+
+  fine-steps : every fine (asked k t .steps) ≡ true
+  fine-steps = subst (λ (ss : List Step). every fine ss ≡ true) same-steps (proper-fine t (proper t (k .order) g (small t es s)))
+
+  -- no call leaves the repeater open, whatever the outcomes
+  pub shut : heldIn (entries k t) ≡ false
+  shut =
+      call-shut (asked k t .number) (k .outcomes) (asked k t .steps) (t .chip) fine-steps
+      (subst (λ (ss : List Step). shuts false ss ≡ true) same-steps (row-shuts (k .order) t))
+
+  -- and none closes one that is not open: "Closing a repeater whose opening failed" is shut out
+  pub only-open : closesOpen false (entries k t) ≡ true
+  only-open = call-only (asked k t .number) (k .outcomes) (asked k t .steps) (t .chip) fine-steps
+
+  -- "Where a step fails the rest of the call is not taken, but an open repeater (its opening done) is closed (one entry)": told open by the entries up to the
+  -- failing one, it is closed by the entry behind it
+  module _ (i : ℕ) (c : Cut i (entries k t) (entries (uncut i k) t)) where
+    pub closing-there : heldIn (c .earlier ++ (c .last ∷ [])) ≡ true → (ok : Bool) × (c .closing ≡ repeater 0 ok ∷ [])
+    closing-there h = go (c .closing) (c .closes) refl
+      where
+        go : (l : List Entry) → Closing l → c .closing ≡ l → (ok : Bool) × (c .closing ≡ repeater 0 ok ∷ [])
+        go l nothing e =
+            absurd (true≢false (sym h ∙ ap (λ (x : List Entry). heldIn (c .earlier ++ (c .last ∷ x))) (sym e) ∙ ap heldIn (sym (c .cuts)) ∙ shut))
+        go l (closed ok) e = (ok, e)
+
+    -- told shut, there is none
+    pub closing-not-there : heldIn (c .earlier ++ (c .last ∷ [])) ≡ false → c .closing ≡ []
+    closing-not-there h = go (c .closing) (c .closes) refl
+      where
+        early : List Entry
+        early = c .earlier ++ (c .last ∷ [])
+
+        behind-it : closesOpen (heldIn early) (c .closing) ≡ true
+        behind-it =
+            and-right (closesOpen false early) (closesOpen (heldIn early) (c .closing))
+            (sym (closes-append false early (c .closing)) ∙ ap (closesOpen false) (append-snoc (c .earlier) (c .last) (c .closing) ∙ sym (c .cuts)) ∙ only-open)
+
+        go : (l : List Entry) → Closing l → c .closing ≡ l → c .closing ≡ []
+        go l nothing e = e
+        go l (closed ok) e =
+            absurd (false≢true (sym (shut-closing ok) ∙ ap (λ (x : List Entry). closesOpen false x) (sym e) ∙ ap (λ (b : Bool). closesOpen b (c .closing)) (sym h) ∙ behind-it))
 
 -- nor do those that take no record: they have no repeater's step at all
 aside-shuts : (o : Other) → shuts false (stepsOf (asideRow o)) ≡ true
@@ -362,14 +457,3 @@ pub aside-shut : (a : Aside) → asideGiven (a .other) ≡ true → heldIn (asid
 aside-shut a g =
     let same : asideAsked a .steps ≡ stepsOf (asideRow (a .other)) = asked-steps true (asideRow (a .other)) (length (a .outcomes)) (length (a .room)) in
     call-shut (asideAsked a .number) (a .outcomes) (asideAsked a .steps) noChip (aside-stepping a g .good) (subst (λ (ss : List Step). shuts false ss ≡ true) (sym same) (aside-shuts (a .other)))
-
--- "Where a step fails the rest of the call is not taken, but an open repeater (its opening done) is closed (one entry)": told open by the entries up to the
--- failing one, it is closed by the entry behind it
-pub closing-there : (t : Tuner) (es : List Entry) → Sequence t es → (k : Call) → given (k .order) t ≡ true → (i : ℕ) (c : Cut i (entries k t) (entries (uncut i k) t))
-    → heldIn (c .earlier ++ (c .last ∷ [])) ≡ true → (ok : Bool) × (c .closing ≡ repeater 0 ok ∷ [])
-closing-there t es s k g i c h = go (c .closing) (c .closes) refl
-  where
-    go : (l : List Entry) → Closing l → c .closing ≡ l → (ok : Bool) × (c .closing ≡ repeater 0 ok ∷ [])
-    go l nothing e =
-        absurd (true≢false (sym h ∙ ap (λ (x : List Entry). heldIn (c .earlier ++ (c .last ∷ x))) (sym e) ∙ ap heldIn (sym (c .cuts)) ∙ shut t es s k g))
-    go l (closed ok) e = (ok, e)

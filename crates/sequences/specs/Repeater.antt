@@ -1,11 +1,12 @@
 -- Whether the repeater is open, as entries tell it. Document 01, "Refusal numbers": "an open repeater (its opening done) is closed (one entry). A failed closing
 -- is recorded and otherwise ignored."
 -- Assumes nothing.
-use mathlib.Core.Bool.{Bool, false, _&&_, cond}
+use mathlib.Core.Bool.{Bool, true, false, not, _&&_, _||_, cond}
 use mathlib.Core.List.{List, [], _∷_}
 use lib.Dec.{eqb}
 use Rattle.transcript.specs.declared.Entry.{Entry}
 use Rattle.attempts.specs.Attempts.{done, firstOf}
+use Rattle.history.specs.Histories.{isClosing}
 
 -- one entry later: "1 repeater | .. 1 opens, 0 closes". An opening opens it if it is done; a closing is its end, also one that failed
 abbrev pub heldBy : Entry → Bool → Bool
@@ -18,3 +19,8 @@ heldFrom held (e ∷ es) = heldFrom (heldBy e held) es
 -- after a call's entries: it is shut before them
 abbrev pub heldIn : List Entry → Bool
 heldIn es = heldFrom false es
+
+-- and nothing else is closed: each closing stands behind an opening that was done
+unfoldable pub closesOpen : Bool → List Entry → Bool
+closesOpen held [] = true
+closesOpen held (e ∷ es) = (not (isClosing e) || held) && closesOpen (heldBy e held) es
