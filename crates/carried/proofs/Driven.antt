@@ -72,7 +72,7 @@ sfits-small : (n : ℕ) → n < 2_147_483_648 → SFits w32 (pos n)
 sfits-small n h = record { sfits = h }
 
 -- the driver's half of both records
-abbrev Heard : Both → Type 0
+abbrev pub Heard : Both → Type 0
 Heard b = RangedDriver (b .driver)
 
 image : Both → List ℕ
@@ -80,7 +80,7 @@ image b = driverBytes (b .driver)
 
 -- ---- a record's bytes
 
-driver-long : (d : Driver) → RangedDriver d → length (driverBytes d) ≡ 29
+pub driver-long : (d : Driver) → RangedDriver d → length (driverBytes d) ≡ 29
 unfolding driverOf isDriver
 driver-long d r =
     let b : List ℕ = driverBytes d in
@@ -109,12 +109,12 @@ module _ (t : Tuner) (d : Driver) (r : RangedDriver d) where
   heard-ranged hz h (Refused n) = r
   heard-ranged hz h (Stopped i) = r
 
-  rate-steady : (rate : ℕ) (p : Planned) → rate < 4_294_967_296 → Steady Heard (both t d) (rateRow rate p t d)
+  pub rate-steady : (rate : ℕ) (p : Planned) → rate < 4_294_967_296 → Steady Heard (both t d) (rateRow rate p t d)
   rate-steady rate p h =
       stepping _ 17 0 [] (Done 0) _ (λ tr. both (retuned t (ifFor (t .ifreq) rate) (tr .chip)) (ratedBy d rate (xtalOf d) (tr .went))) refl refl
       (λ tr. rated-ranged rate h (tr .went))
 
-  correction-steady : (ppm : ℤ) → SFits w32 ppm → Steady Heard (both t d) (correctionRow ppm t d)
+  pub correction-steady : (ppm : ℤ) → SFits w32 ppm → Steady Heard (both t d) (correctionRow ppm t d)
   correction-steady ppm f = go (leb 1 (xtalBy (t .nominal) ppm)) (leb 1 (xtalBy (d .nominal) ppm)) refl
     where
       go : (a b : Bool) → leb 1 (xtalBy (d .nominal) ppm) ≡ b
@@ -125,7 +125,7 @@ module _ (t : Tuner) (d : Driver) (r : RangedDriver d) where
       go true false e = resting (both t d) (Refused 4) refl (λ q. refl) r
       go false b e = resting (both t d) (Refused 4) refl (λ q. refl) r
 
-  hop-steady : (hz : ℕ) (p : Planned) (rs : List ℕ) → hz < 18_446_744_073_709_551_616 → Steady Heard (both t d) (hopRow p hz rs t d)
+  pub hop-steady : (hz : ℕ) (p : Planned) (rs : List ℕ) → hz < 18_446_744_073_709_551_616 → Steady Heard (both t d) (hopRow p hz rs t d)
   hop-steady hz p rs h =
       stepping _ 64 38 rs (wholeOf (planFor t (p .plan .hz)) hz) _ (hopKept t d (p .plan) (wholeOf (planFor t (p .plan .hz)) hz) hz)
       (whole-answers (planFor t (p .plan .hz)) hz) (hop-starts (t .kind) (p .plan .path) rs _)
@@ -183,7 +183,7 @@ module _ (d : Driver) (r : RangedDriver d) (t : Tuner) (c : Called Both) (s : Se
 
 -- ---- the makings and the calls
 
-made-driver : (board : BoardRead) (nominal : ℕ) (ppm : ℤ) (frequency rate : ℕ) → SFits w32 ppm → frequency < 18_446_744_073_709_551_616 → rate < 4_294_967_296
+pub made-driver : (board : BoardRead) (nominal : ℕ) (ppm : ℤ) (frequency rate : ℕ) → SFits w32 ppm → frequency < 18_446_744_073_709_551_616 → rate < 4_294_967_296
     → numberOf (madeOn board nominal ppm frequency rate .answer) ≡ 0 → RangedDriver (madeOn board nominal ppm frequency rate .driver)
 made-driver board-read.Refused nominal ppm frequency rate p f r h = absurd (omega arith)
 made-driver (board-read.Is board) nominal ppm frequency rate p f r h = go (leb 1 nominal) (leb nominal 4_294_967_295) refl (leb 1 (xtalBy nominal ppm)) refl h

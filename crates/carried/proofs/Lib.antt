@@ -1,4 +1,5 @@
 pub mod Steady
+pub mod Ranges
 pub mod Passed
 pub mod Demand
 pub mod Driven

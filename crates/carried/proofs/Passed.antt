@@ -3,7 +3,7 @@
 use Prim.Native.Nat.{ℕ, _+_, _%_, _≤_, _<_}
 use mathlib.Core.Path.{_≡_, refl, sym, ap, subst, _∙_}
 use mathlib.Core.Bool.{Bool, true, false, not, _&&_, _||_, cond, false≢true}
-use mathlib.Core.List.{List, [], _++_, map}
+use mathlib.Core.List.{List, [], map}
 use native.Mathlib.Omega.{arith}
 use borrow.Author.Tests.{eqb-false, eqb-true, le-leb, lt-ltb, ltb-false, not-true}
 use lib.Dec.{eqb, leb, ltb}
@@ -39,20 +39,18 @@ use Rattle.wire.proofs.Joins.{length-joined}
 use Rattle.tuners.specs.Over.{handed, keptOf, nextOf, overTuner, overTuning, readyOf, refusal, unlessRefused}
 use Rattle.tuners.specs.Still.{answerOver, changedInto, ofRecord, tableOver}
 use Rattle.drivers.specs.Drivers.{bothReady, correctOver, corrects, correctsMade, hopArgument, overBoth, ratesMade, ratesRefused}
-use Rattle.history.specs.Histories.{Tracks, stops}
-use Rattle.history.proofs.Demand.{follows}
+use Rattle.history.specs.Histories.{stops}
 use Rattle.transcript.specs.declared.Entry.{Entry}
-use Rattle.writes.specs.Lists.{initArray}
-use Rattle.sequences.specs.Calls.{Call, Order, after, call, entries, result, resultOf, rowOf, soundFor, tunerPart}
+use Rattle.sequences.specs.Calls.{Call, Order, after, call, result, resultOf, rowOf, soundFor, tunerPart}
 use Rattle.sequences.specs.Calls.{tunerOf as tunerHalf}
 use Rattle.sequences.specs.Calls.Order.{Tuned, SampleRate, Correction, BoardPath, BoardTune}
 use Rattle.sequences.specs.Sequences.{Sequence}
-use Rattle.sequences.specs.Sequences.Sequence.{next as more}
-use Rattle.sequences.proofs.Demand.{count-told, sequence-history}
+use Rattle.sequences.proofs.Demand.{count-told}
 use Rattle.sequences.proofs.Most.{most-entries}
 use Rattle.sequences.proofs.Views.{row-few, result-row}
 use Rattle.carried.specs.Exported.{Exported, Left, amiss, byAfter, byCorrects, byGiven, byRates, left, leftOf, orderOf, pathless, stands, typed, typedOrder}
 use Rattle.carried.specs.Exported.Exported.{Own, Rate, Correct, Path, Hop}
+use Rattle.carried.proofs.Ranges.{order-ranged}
 use Rattle.carried.proofs.Steady.{Fielded, Settled, argument-told, elevens, fielded, number-told, ones, plain, settled, typed-given}
 
 and-true : (b : Bool) → (b && true) ≡ b
@@ -179,20 +177,7 @@ module _ (t : Tuner) (es : List Entry) (s : Sequence t es) (r : Ranged t) where
 
   -- the record that a call leaves is in its ranges
   pub next-ranged : (k : Call) → typedOrder (k .order) ≡ true → Ranged (after k t)
-  next-ranged k h =
-      let f : Fielded (after k t) = settled (k .order) (k .outcomes) (k .room) t fields h .ranges in
-      let c : Tracks initArray (after k t .chip) (es ++ entries k t) =
-      follows initArray (after k t .chip) (es ++ entries k t) (sequence-history (after k t) (es ++ entries k t) (more t es s k (typed-given (k .order) t h))) in
-      record {
-        lists = record { shadow = c .bytes; doubtful = c .marks };
-        address = omega (arith, c .chip);
-        nominal = f .nominal;
-        known = f .known;
-        corrected = f .corrected;
-        right = f .right;
-        gain = f .gain;
-        ifreq = f .ifreq;
-      }
+  next-ranged k h = order-ranged t r (k .order) (k .outcomes) (k .room) h
 
   pub few : (k : Call) → typedOrder (k .order) ≡ true → result k t .count < 4_294_967_296
   few k h = omega (arith, count-told t es s k (typed-given (k .order) t h), most-entries k t, row-few (k .order) t)
