@@ -4,7 +4,7 @@ use crate::json;
 use crate::out::{End, Out};
 use crate::reach;
 use crate::run::{Call, Made, Run};
-use pasetone::{Driver, Error, Table, Tuner};
+use pasetone::{Driver, Error, Lock, Table, Tuner};
 use std::ops::RangeInclusive;
 
 const SETUP: &str = "setup: a record, kind or reference is out of its range";
@@ -68,12 +68,12 @@ pub fn of(run: &Run, wish: &Wish) -> Told {
     }
 }
 
-fn simply(text: String) -> Told {
+pub fn simply(text: String) -> Told {
     Told { number: 0, word: "done", text, lock: None, to_do: None, step: None }
 }
 
 fn done(run: &Run, made: &Made, wish: &Wish) -> Told {
-    let lock = lock(run).map_or_else(String::new, |lock| format!(", {lock}"));
+    let lock = run.lock().map_or_else(String::new, |lock| format!(", {}", lock_words(lock)));
     let what = match (made.call, wish.table.plan_tuning(wish.hz)) {
         (Call::Reload, _) | (_, Err(_)) => String::from("every register sent again"),
         (_, Ok(plan)) => format!("tuner at {} Hz", plan.hz),
@@ -81,30 +81,36 @@ fn done(run: &Run, made: &Made, wish: &Wish) -> Told {
     simply(format!("done: {} steps, {what}{lock}", run.steps))
 }
 
-/// How the tuning's waiting for a lock went: a log is looked through for the word in capitals.
-fn lock(run: &Run) -> Option<String> {
-    let lock = run.lock()?;
+/// How a tuning's waiting for a lock went: a log is looked through for the word in capitals.
+pub fn lock_words(lock: Lock) -> String {
     let text = lock.to_string();
-    Some(if lock.locked { text } else { text.replacen("not", "NOT", 1) })
+    if lock.locked { text } else { text.replacen("not", "NOT", 1) }
 }
 
 fn stopped(run: &Run, made: &Made, error: Error, wish: &Wish) -> Told {
+    let to_do = Some(to_do(run, made, error, wish));
+    Told { to_do, ..refusal(made, error, words(error, frequency_words(wish.table, wish.hz))) }
+}
+
+/// The refusal of a call, for what `words` say; what to do is not in it.
+pub fn refusal(made: &Made, error: Error, words: &str) -> Told {
     let call = made.call.name();
     let (text, lock, step) = match error {
         Error::Step { index } => {
             let whole = made.first + index;
-            let text = format!("{}, step {whole} of the run; {call} stopped at its own step {index}", words(error, wish));
-            (text, lock(run), Some((whole, index)))
+            let text = format!("{words}, step {whole} of the run; {call} stopped at its own step {index}");
+            (text, made.lock.map(lock_words), Some((whole, index)))
         }
-        _ => (format!("{}; refused by {call}", words(error, wish)), None, None),
+        _ => (format!("{words}; refused by {call}"), None, None),
     };
-    Told { number: error.number(), word: error.word(), text, lock, to_do: Some(to_do(run, made, error, wish)), step }
+    Told { number: error.number(), word: error.word(), text, lock, to_do: None, step }
 }
 
-fn words(error: Error, wish: &Wish) -> &'static str {
+/// A refusal in words; those for a frequency are the caller's.
+pub fn words(error: Error, frequency: &'static str) -> &'static str {
     match error {
         Error::Setup => SETUP,
-        Error::Frequency => frequency_words(wish.table, wish.hz),
+        Error::Frequency => frequency,
         Error::Rate => "rate: 0",
         Error::Correction => CORRECTION,
         Error::Ratio => "ratio: the resampler cannot hold this rate with this reference",
@@ -117,15 +123,13 @@ fn words(error: Error, wish: &Wish) -> &'static str {
 }
 
 fn to_do(run: &Run, made: &Made, error: Error, wish: &Wish) -> String {
-    let (call, need, left) = (made.call.name(), made.call.need(), made.left);
     match error {
         Error::Setup => String::from(GIVE_REFERENCE),
         Error::Frequency => run.records.as_ref().map_or_else(String::new, |(tuner, _)| reachable(tuner, wish.table, wish.hz)),
         Error::Rate => String::from("give --rate from 1 to 4294967295"),
         Error::Correction => corrections(run.records.as_ref()),
         Error::Ratio => rates(run, wish.rate),
-        Error::Outcomes => longer(call, "outcomes", need.outcomes, left.outcomes),
-        Error::Replies => longer(call, "replies", need.replies, left.replies),
+        Error::Outcomes | Error::Replies => longer(made, error),
         Error::Step { .. } => match &wish.keep {
             Some(file) => format!("`./pasetone reload {file} --keep {file}` sends every register again"),
             None => String::from("keep the record (--keep FILE); then `./pasetone reload FILE` sends every register again"),
@@ -134,8 +138,13 @@ fn to_do(run: &Run, made: &Made, error: Error, wish: &Wish) -> String {
     }
 }
 
-/// A script that is too short for a call.
-fn longer(call: &str, what: &str, need: usize, left: usize) -> String {
+/// What to do about a script that is too short for a call.
+pub fn longer(made: &Made, error: Error) -> String {
+    let (call, need, left) = (made.call.name(), made.call.need(), made.left);
+    let (what, need, left) = match error {
+        Error::Outcomes => ("outcomes", need.outcomes, left.outcomes),
+        _ => ("replies", need.replies, left.replies),
+    };
     let short = need.saturating_sub(left);
     let bytes = if short == 1 { "byte" } else { "bytes" };
     format!("{call} may need {need} {what}, {left} are left: give --{what} a file that is {short} {bytes} longer")
@@ -157,9 +166,12 @@ pub fn reachable(tuner: &Tuner, table: &Table, hz: u64) -> String {
 pub fn frequency_words(table: &Table, hz: u64) -> &'static str {
     match table.plan_tuning(hz) {
         Err(_) => "frequency: no band of the table has it",
-        Ok(_) => "frequency: 0, or one that the PLL does not reach",
+        Ok(_) => NOT_REACHED,
     }
 }
+
+/// Why a tuner refuses a frequency.
+pub const NOT_REACHED: &str = "frequency: 0, or one that the PLL does not reach";
 
 /// The stretches next to a number, below and above it.
 fn beside(all: &[RangeInclusive<u64>], number: u64) -> String {
@@ -216,13 +228,13 @@ impl Told {
         }
     }
 
-    pub fn json(&self, run: &Run) -> String {
+    pub fn json(&self, call: Option<Call>) -> String {
         json::object(&[
             ("number", self.number.to_string()),
             ("word", json::string(self.word)),
             ("text", json::string(&self.text)),
             ("to_do", json::maybe(self.to_do.as_deref().map(json::string))),
-            ("call", json::maybe(run.made.last().map(|made| json::string(made.call.name())))),
+            ("call", json::maybe(call.map(|call| json::string(call.name())))),
             ("step", json::maybe(self.step.map(|(whole, _)| whole))),
             ("own_step", json::maybe(self.step.map(|(_, own)| own))),
         ])

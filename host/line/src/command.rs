@@ -1,9 +1,10 @@
 //! The two tables, of commands and of options, and the words that are read by them. All help is made from these tables too (help.rs).
 //!
 //! A new command is a file with its `run`, a row in `COMMANDS`, and a row in `OPTIONS` for an option that none has yet.
-use crate::files::{self, Sink, is_standard, shown};
-use crate::out::Out;
-use crate::{entries, held, help, hop, packets, parting, plan, reload, restore, settings, show, table, worksheet};
+use crate::files::{self, Sink, Source, is_standard, shown};
+use crate::out::{End, Out};
+use crate::{entries, feed, held, help, hop, packets, parting, plan, record, reload, restore, settings, show, table, worksheet};
+use pasetone::{Driver, Tuner};
 use std::ffi::{OsStr, OsString};
 use std::os::unix::ffi::OsStrExt;
 
@@ -40,6 +41,15 @@ pub const COMMANDS: &[Command] = &[
         example: "reload record --keep record",
         options: reload::OPTIONS,
         run: reload::run,
+    },
+    Command {
+        name: "feed",
+        operands: "FILE",
+        about: "the commands of a serial line, one by one",
+        more: feed::MORE,
+        example: "feed line --record record --keep record --append sections",
+        options: feed::OPTIONS,
+        run: feed::run,
     },
     Command {
         name: "show",
@@ -161,6 +171,7 @@ pub enum Key {
     Fail,
     Outcomes,
     Replies,
+    Cut,
     Section,
     Append,
     Out,
@@ -214,7 +225,8 @@ pub const OPTIONS: &[Opt] = &[
     row(Key::Initialise, "--initialise", None, "", "initialise is called over the record of --record too", ""),
     row(Key::Fail, "--fail", Some("N"), "a step's number, to 4095", "step N fails, counted from 0 over the whole run", "none"),
     row(Key::Outcomes, "--outcomes", Some("FILE"), A_SCRIPT, "a byte for each step: 0 done, any other failed", "all done"),
-    row(Key::Replies, "--replies", Some("FILE"), A_SCRIPT, "what is read: 3 bytes where the board has paths, then 35", "a lock"),
+    row(Key::Replies, "--replies", Some("FILE"), A_SCRIPT, "what is read: 3 bytes where hop's board has paths, then 35 a tuning", "a lock"),
+    row(Key::Cut, "--cut", Some("N"), "a number from 1", "so many bytes are fed at once; what is printed is the same", "as it is read"),
     row(Key::Record, "--record", Some("FILE"), A_SCRIPT, "the record to start from, as --keep has left it", "a fresh one"),
     row(Key::Keep, "--keep", Some("FILE"), A_FILE, "the record is written there at the end, also of a stopped run", "none"),
     row(Key::Section, "--section", Some("FILE"), A_FILE, "the sections, end to end, are written there; a file there is replaced", "none"),
@@ -273,7 +285,12 @@ impl Given {
         self.read(key, out, files::read)
     }
 
-    fn read(&self, key: Key, out: &mut Out, read: impl Fn(&OsStr) -> Result<Vec<u8>, String>) -> Option<Vec<u8>> {
+    /// A file that an option names, to be read piece by piece.
+    pub fn source(&self, key: Key, out: &mut Out) -> Option<Source> {
+        self.read(key, out, Source::open)
+    }
+
+    fn read<T>(&self, key: Key, out: &mut Out, read: impl Fn(&OsStr) -> Result<T, String>) -> Option<T> {
         let name = self.word(key)?;
         if out.is_mistaken() && is_standard(name) {
             return None;
@@ -343,6 +360,32 @@ pub struct Kept {
     pub section: Option<Sink>,
     pub append: Option<Sink>,
     pub record: Option<Sink>,
+}
+
+impl Kept {
+    /// Some of the sections, before the last. A file that cannot be written any more is told of once.
+    pub fn add(&mut self, sections: &[u8], out: &mut Out) {
+        for (sink, option) in [(&mut self.section, "--section"), (&mut self.append, "--append")] {
+            if let Some(Err(why)) = sink.as_mut().map(|sink| sink.add(sections)) {
+                out.mistake(&format!("{option} {why}"));
+                *sink = None;
+            }
+        }
+    }
+
+    /// The last sections and the records, also of a run that stopped.
+    pub fn end(self, sections: &[u8], records: Option<&(Tuner, Driver)>, out: &mut Out) {
+        for (sink, option) in [(self.section, "--section"), (self.append, "--append")] {
+            if let Some(sink) = sink {
+                sink.keep_or_tell(sections, option, out);
+            }
+        }
+        match (self.record, records) {
+            (Some(sink), Some((tuner, driver))) => sink.keep_or_tell(&record::write(tuner, driver), "--keep", out),
+            (Some(_), None) => out.tell(End::Refused, "--keep: no record was made, so none is written: see the answer"),
+            (None, _) => {}
+        }
+    }
 }
 
 /// Reads the words. `None` where there is no command, which has then been told.

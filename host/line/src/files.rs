@@ -36,13 +36,48 @@ pub fn read(name: &OsStr) -> Result<Vec<u8>, String> {
 
 /// The first bytes of a file or of standard input, `most` at most.
 pub fn start(name: &OsStr, most: usize) -> Result<Vec<u8>, String> {
-    let read = |mut from: Box<dyn Read>| {
+    Source::open(name)?.next(most)
+}
+
+/// A file, or standard input where the name is `-`, that is read piece by piece, and may have no end.
+pub struct Source {
+    name: OsString,
+    from: Box<dyn Read>,
+}
+
+impl Source {
+    pub fn open(name: &OsStr) -> Result<Source, String> {
+        let from: Box<dyn Read> =
+            if is_standard(name) { Box::new(io::stdin()) } else { Box::new(File::open(name).map_err(|error| unread(name, &error))?) };
+        Ok(Source { name: name.to_os_string(), from })
+    }
+
+    /// One byte without end.
+    pub fn of(byte: u8) -> Source {
+        Source { name: OsString::new(), from: Box::new(io::repeat(byte)) }
+    }
+
+    /// The next bytes: `most`, or fewer where it ends.
+    pub fn next(&mut self, most: usize) -> Result<Vec<u8>, String> {
         let mut bytes = Vec::new();
-        from.by_ref().take(most as u64).read_to_end(&mut bytes).map(|_| bytes)
-    };
-    let from: io::Result<Box<dyn Read>> =
-        if is_standard(name) { Ok(Box::new(io::stdin())) } else { File::open(name).map(|file| Box::new(file) as Box<dyn Read>) };
-    from.and_then(read).map_err(|error| unread(name, &error))
+        self.from.by_ref().take(most as u64).read_to_end(&mut bytes).map_err(|error| unread(&self.name, &error))?;
+        Ok(bytes)
+    }
+
+    /// The bytes that are there, `most` at most; it waits for the first of them. None where it ends.
+    pub fn some(&mut self, most: usize) -> Result<Vec<u8>, String> {
+        let mut bytes = vec![0; most];
+        loop {
+            match self.from.read(&mut bytes) {
+                Ok(length) => {
+                    bytes.truncate(length);
+                    return Ok(bytes);
+                }
+                Err(error) if error.kind() == ErrorKind::Interrupted => {}
+                Err(error) => return Err(unread(&self.name, &error)),
+            }
+        }
+    }
 }
 
 /// A whole file, or as much of a stream; and whether it is one.
@@ -143,19 +178,24 @@ impl Sink {
         opened().map_err(|error| unwritten(name, &error))
     }
 
-    /// Writes all of it and puts it into its place.
+    /// Writes the last of it and puts all into its place.
     pub fn keep(mut self, bytes: &[u8]) -> Result<(), String> {
-        let kept = self.file.write_all(bytes).and_then(|()| match &self.place {
-            Some(place) => fs::rename(&place.beside, &place.real),
-            None => Ok(()),
-        });
-        if kept.is_ok() {
-            self.place = None;
-        } else if let Some(length) = self.behind {
+        self.add(bytes)?;
+        if let Some(place) = &self.place {
+            fs::rename(&place.beside, &place.real).map_err(|error| unwritten(&self.name, &error))?;
+        }
+        self.place = None;
+        Ok(())
+    }
+
+    /// Writes some of it, before the last.
+    pub fn add(&mut self, bytes: &[u8]) -> Result<(), String> {
+        let added = self.file.write_all(bytes);
+        if let (Err(_), Some(length)) = (&added, self.behind) {
             // Half of a section is none: the file is as it was, where that can still be had.
             let _ = self.file.set_len(length);
         }
-        kept.map_err(|error| unwritten(&self.name, &error))
+        added.map_err(|error| unwritten(&self.name, &error))
     }
 }
 

@@ -9,7 +9,6 @@ use crate::receiver::{self, Receiver};
 use crate::report::{Head, Report};
 use crate::run::{Asked, Run, Start};
 use crate::{numbers, record, script};
-use pasetone::TunerKind;
 
 pub const MORE: &[&str] = &[
     "It makes a fresh record and calls set_ppm (where --ppm is given), initialise, sample rate, gain,",
@@ -92,15 +91,9 @@ fn request(given: &Given, out: &mut Out) -> Option<Request> {
         Some(kept) => words.filled(kept),
         None => words,
     };
-    let start = if given.has(Key::Record) { kept(given, out) } else { Some(fresh(&receiver)) };
-    let board = match &start {
-        Some(Start::Kept { driver, .. }) => Some(driver.board()),
-        _ => receiver.board,
-    };
-    let place = Receiver { board, ..receiver }.place(given, out);
+    let (start, place) = begins(given, &receiver, out);
     let outcomes = script::outcomes(given, fail, out);
-    // One byte that serves every read: a lock at once, and no repair of the divider. Its bits are reversed in the chip's status.
-    let replies = script::replies(given, if start.as_ref().map(Start::kind) == Some(TunerKind::R820t) { 0x06 } else { 0x0a }, out);
+    let replies = script::replies(given, script::lock(start.as_ref().map(Start::kind)), out);
     let Receiver { ppm, rate, gain, if_hz, frequency, .. } = receiver;
     let asked = if given.has(Key::Record) {
         Asked { hz: frequency?, ppm, initialise: given.has(Key::Initialise), rate, gain, if_hz }
@@ -123,13 +116,23 @@ fn frequency(given: &Given, out: &mut Out) -> Option<u64> {
     numbers::one_hertz("hop", &given.operands, out)
 }
 
+/// What a run begins with, and the board that it is on: by --record, or by the words.
+pub fn begins(given: &Given, receiver: &Receiver, out: &mut Out) -> (Option<Start>, Place) {
+    let start = if given.has(Key::Record) { kept(given, out) } else { Some(fresh(receiver)) };
+    let board = match &start {
+        Some(Start::Kept { driver, .. }) => driver.board(),
+        _ => receiver.board(),
+    };
+    (start, Place::given(given, board, out))
+}
+
 /// What a fresh record is made of.
 fn fresh(receiver: &Receiver) -> Start {
     Start::Fresh { kind: receiver.kind(), address: receiver.address(), board: receiver.board(), reference: receiver.reference() }
 }
 
 /// Options that do not go together.
-fn together(given: &Given, out: &mut Out) {
+pub fn together(given: &Given, out: &mut Out) {
     for key in [Key::Kind, Key::Address, Key::Board, Key::Reference] {
         if given.has(Key::Record) && given.has(key) {
             out.mistake(&format!("{} is in the record that --record names: give one of the two", option(key).name));

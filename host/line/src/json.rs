@@ -32,8 +32,12 @@ pub fn lines(parts: impl Iterator<Item = String>) -> String {
 
 /// An object with a line for each field: all that a command prints.
 pub fn document(fields: &[(&str, String)]) -> String {
-    let fields: Vec<String> = fields.iter().map(|(name, value)| format!("{}: {value}", string(name))).collect();
-    format!("{{\n{}\n}}", fields.join(",\n"))
+    format!("{{\n{}\n}}", members(fields))
+}
+
+/// The fields of such an object.
+pub fn members(fields: &[(&str, String)]) -> String {
+    fields.iter().map(|(name, value)| format!("{}: {value}", string(name))).collect::<Vec<_>>().join(",\n")
 }
 
 /// The value, or null.

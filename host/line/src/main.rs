@@ -7,6 +7,7 @@ mod boards;
 mod command;
 mod day;
 mod entries;
+mod feed;
 mod filed;
 mod files;
 mod held;

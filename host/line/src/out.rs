@@ -41,6 +41,13 @@ impl Out {
         self.text("\n");
     }
 
+    /// Hands on what was printed so far, for who waits for it.
+    pub fn flush(&mut self) {
+        if self.fault.is_none() {
+            self.fault = self.to.flush().err().map(|error| error.kind());
+        }
+    }
+
     /// Whether nobody takes what is printed any more: a long listing may end then.
     pub fn is_closed(&self) -> bool {
         self.fault.is_some()
@@ -53,9 +60,7 @@ impl Out {
 
     /// One line to standard error, behind what was printed so far.
     pub fn tell(&mut self, end: End, text: &str) {
-        if self.fault.is_none() {
-            self.fault = self.to.flush().err().map(|error| error.kind());
-        }
+        self.flush();
         self.end = self.end.max(end);
         // Where standard error cannot be written either, the exit status is all that is left to tell it.
         let _ = writeln!(io::stderr(), "pasetone: {text}");

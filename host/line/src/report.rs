@@ -37,9 +37,24 @@ impl Head {
         }
     }
 
-    fn line(&self, corrected: Option<u32>) -> String {
+    pub fn line(&self, corrected: Option<u32>) -> String {
         let corrected = corrected.map_or_else(String::new, |hz| format!(", corrected {hz} Hz"));
         format!("{} at 0x{:02x} on {}, reference {} Hz{corrected}", names::kind(self.kind), self.address, self.place, self.reference)
+    }
+
+    pub fn json(&self, place: &Place, corrected: Option<u32>) -> String {
+        let file = place.file.as_ref();
+        let board = if file.is_some() { None } else { Some(json::string(names::board(place.board))) };
+        json::object(&[
+            ("kind", json::string(names::kind(self.kind))),
+            ("address", self.address.to_string()),
+            ("board", json::maybe(board)),
+            ("table", json::maybe(file.map(|file| json::string(file)))),
+            ("reference", self.reference.to_string()),
+            ("corrected", json::maybe(corrected)),
+            ("settings", json::maybe(self.settings.as_ref().map(|(file, _)| json::string(file)))),
+            ("edition", json::maybe(self.settings.as_ref().map(|(_, edition)| edition))),
+        ])
     }
 }
 
@@ -97,7 +112,7 @@ impl Report {
     pub fn json(&self, out: &mut Out) {
         let records = self.run.records.as_ref();
         let mut fields = vec![
-            ("receiver", self.receiver_json()),
+            ("receiver", self.head.json(&self.place, self.corrected())),
             ("asked", self.asked_json()),
             ("plan", json::maybe(self.plan.as_ref().map(plan_json))),
         ];
@@ -110,21 +125,6 @@ impl Report {
             ("registers", records.map_or_else(|| String::from("[]"), |(tuner, _)| registers_json(tuner))),
         ]);
         out.line(&json::document(&fields));
-    }
-
-    fn receiver_json(&self) -> String {
-        let file = self.place.file.as_ref();
-        let board = if file.is_some() { None } else { Some(json::string(names::board(self.place.board))) };
-        json::object(&[
-            ("kind", json::string(names::kind(self.head.kind))),
-            ("address", self.head.address.to_string()),
-            ("board", json::maybe(board)),
-            ("table", json::maybe(file.map(|file| json::string(file)))),
-            ("reference", self.head.reference.to_string()),
-            ("corrected", json::maybe(self.corrected())),
-            ("settings", json::maybe(self.head.settings.as_ref().map(|(file, _)| json::string(file)))),
-            ("edition", json::maybe(self.head.settings.as_ref().map(|(_, edition)| edition))),
-        ])
     }
 
     fn asked_json(&self) -> String {
@@ -152,12 +152,17 @@ pub fn table(run: &Run, told: &Told, unreached: Option<usize>, out: &mut Out) {
     }
     out.line("");
     told.lines(out);
-    if let Some(step) = unreached {
-        out.line(&format!("note: step {step} was not reached, so nothing was made to fail by --fail"));
-    }
+    note(unreached, out);
     if let Some((tuner, _)) = &run.records {
         out.line("");
         rows::registers(tuner, out);
+    }
+}
+
+/// That the step of --fail was not reached.
+pub fn note(unreached: Option<usize>, out: &mut Out) {
+    if let Some(step) = unreached {
+        out.line(&format!("note: step {step} was not reached, so nothing was made to fail by --fail"));
     }
 }
 
@@ -165,7 +170,7 @@ pub fn table(run: &Run, told: &Told, unreached: Option<usize>, out: &mut Out) {
 pub fn run_json(run: &Run, told: &Told, unreached: Option<usize>) -> [(&'static str, String); 4] {
     [
         ("calls", json::lines(run.made.iter().map(made_json))),
-        ("answer", told.json(run)),
+        ("answer", told.json(run.made.last().map(|made| made.call))),
         ("steps", run.steps.to_string()),
         ("unreached", json::maybe(unreached)),
     ]
@@ -193,7 +198,7 @@ pub fn plan_line(hz: u64, plan: Option<&Plan>) -> String {
     format!("{hz} Hz: the tuner goes to {} Hz, {path}, {notch}{inverted}", plan.hz)
 }
 
-fn made_rows(made: &Made, out: &mut Out) {
+pub fn made_rows(made: &Made, out: &mut Out) {
     let name = made.call.name();
     if made.transcript.is_empty() {
         rows::other(name, "no steps", if made.result.is_ok() { "done" } else { "REFUSED" }, out);
@@ -207,8 +212,12 @@ fn made_json(made: &Made) -> String {
     json::object(&[
         ("call", json::string(made.call.name())),
         ("refusal", made.result.err().map_or(0, |error| error.number()).to_string()),
-        ("steps", json::lines(made.transcript.iter().enumerate().map(|(at, entry)| rows::step_json(made.first + at, &entry)))),
+        ("steps", steps_json(made)),
     ])
+}
+
+pub fn steps_json(made: &Made) -> String {
+    json::lines(made.transcript.iter().enumerate().map(|(at, entry)| rows::step_json(made.first + at, &entry)))
 }
 
 pub fn plan_json(plan: &Plan) -> String {

@@ -1,8 +1,7 @@
 //! The calls of a run, one after the other over the same records. Each is made only while none before it was refused or stopped.
 use crate::command::Kept;
 use crate::names::{Gain, decibels};
-use crate::out::{End, Out};
-use crate::record;
+use crate::out::Out;
 use pasetone::{Answer, Board, Driver, Error, Lock, Need, Script, Table, Transcript, Tuner, TunerKind, demod};
 
 /// The calls by the names that are printed.
@@ -18,6 +17,11 @@ pub enum Call {
     DemodIf,
     Tune,
     Reload,
+    /// The tuner's own, without its board.
+    TunerTune,
+    Bandwidth,
+    /// A command of a line that is none.
+    Unknown,
 }
 
 impl Call {
@@ -31,8 +35,10 @@ impl Call {
             Call::Gain => "gain",
             Call::If => "IF",
             Call::DemodIf => "demod IF",
-            Call::Tune => "tune",
+            Call::Tune | Call::TunerTune => "tune",
             Call::Reload => "reload",
+            Call::Bandwidth => "bandwidth",
+            Call::Unknown => "command",
         }
     }
 
@@ -46,6 +52,8 @@ impl Call {
             Call::DemodIf => Need::IF_XTAL,
             Call::Tune => Need::TUNE_BOARD,
             Call::Reload => Need::RELOAD,
+            Call::TunerTune => Need::TUNE,
+            Call::Bandwidth => Need::BANDWIDTH,
             _ => Need { outcomes: 0, replies: 0 },
         }
     }
@@ -202,15 +210,6 @@ impl Run {
 
     /// The sections and the record into their files, also of a run that stopped.
     pub fn keep(&self, files: Kept, out: &mut Out) {
-        for (sink, option) in [(files.section, "--section"), (files.append, "--append")] {
-            if let Some(sink) = sink {
-                sink.keep_or_tell(&self.sections(), option, out);
-            }
-        }
-        match (files.record, &self.records) {
-            (Some(sink), Some((tuner, driver))) => sink.keep_or_tell(&record::write(tuner, driver), "--keep", out),
-            (Some(_), None) => out.tell(End::Refused, "--keep: no record was made, so none is written: see the answer"),
-            (None, _) => {}
-        }
+        files.end(&self.sections(), self.records.as_ref(), out);
     }
 }

@@ -1,0 +1,408 @@
+//! `feed`: the commands of a serial line (#105), one by one, over a fresh record or a kept one, with a script in place of a receiver. Where the line was cut
+//! can't be seen in what is printed.
+use crate::answer::{self, Told};
+use crate::boards::Place;
+use crate::command::{Given, Kept, Key};
+use crate::files::{Source, is_standard};
+use crate::names::counted;
+use crate::out::{End, Out};
+use crate::receiver::Receiver;
+use crate::report::{self, Head};
+use crate::rows::{self, hex};
+use crate::run::{Call, Made, Start};
+use crate::script::{self, Endless};
+use crate::{hop, json, numbers};
+use pasetone::{Command, Driver, EntryKind, Error, Fed, Stream, Tuner};
+
+pub const MORE: &[&str] = &[
+    "FILE is what a serial line has brought: commands of nine bytes, an operation and its argument, low",
+    "byte first, zeros above it: 1 frequency (Hz, u64), 2 rate (u32), 3 gain (dB, binary32), 4 gain",
+    "index (u8), 5 bandwidth (Hz, u32), 6 correction (ppm, i32), 7 reload (0). Other bytes are refused",
+    "by 14. A refused or stopped command is answered, and the next one runs; bytes at the end that are",
+    "no whole command do nothing. The exit status is 0 where all were done and no byte is left.",
+    "FILE has any size; - is standard input, fed as it comes. It ends where the line ends, or where",
+    "nobody reads what is printed; --keep, --section and --append have the commands made till then.",
+    "It talks to no receiver: outcomes and replies stand in for one, and each command goes on in them",
+    "where the ones before have ended. A fresh record is not initialised, so that registers which no",
+    "command writes are doubtful: --keep of hop makes one that is.",
+];
+
+pub const OPTIONS: &[Key] = &[
+    Key::Cut,
+    Key::Kind,
+    Key::Address,
+    Key::Board,
+    Key::Table,
+    Key::Reference,
+    Key::Fail,
+    Key::Outcomes,
+    Key::Replies,
+    Key::Record,
+    Key::Keep,
+    Key::Section,
+    Key::Append,
+    Key::Json,
+    Key::Quiet,
+];
+
+/// So much is read at once, and of sections so much is held back.
+const BLOCK: usize = 1 << 16;
+
+/// The words, read: everything that can be wrong with them has been told.
+struct Request {
+    start: Start,
+    place: Place,
+    script: Endless,
+    source: Source,
+    /// The length of a chunk.
+    cut: usize,
+}
+
+pub fn run(given: &Given, out: &mut Out) {
+    let Some(Request { start, place, script, mut source, cut }) = request(given, out) else { return };
+    // What is read at once is whole chunks.
+    let mut next = |out: &mut Out| source.some(BLOCK - BLOCK % cut).map_err(|why| out.mistake(&format!("feed {why}"))).unwrap_or_default();
+    let mut block = next(out);
+    let head = Head::of(&start, &place, None);
+    let Some(records) = begun(start, given, out).filter(|_| !out.is_mistaken()) else { return };
+    let files = given.kept_files(out);
+    if out.is_mistaken() {
+        return;
+    }
+    let mut line = Line { given, place, records, script, files, stream: Stream::new(), sections: Vec::new(), count: Count::default() };
+    line.head(&head, out);
+    while !block.is_empty() && !out.is_closed() {
+        block.chunks(cut).for_each(|chunk| line.chunk(chunk, out));
+        out.flush();
+        block = next(out);
+    }
+    line.end(out);
+}
+
+fn request(given: &Given, out: &mut Out) -> Option<Request> {
+    let cut = given.value(Key::Cut, out, |text| usize::try_from(numbers::whole(text)?).ok().filter(|cut| *cut > 0));
+    let receiver = Receiver::of_words(given, None, out);
+    let fail = script::fail(given, out);
+    hop::together(given, out);
+    let file = match given.operands.as_slice() {
+        [file] => Some(file),
+        _ => {
+            out.mistake("feed wants one file of a line's bytes, or - for standard input");
+            None
+        }
+    };
+    let read = [Key::Outcomes, Key::Replies, Key::Record, Key::Table];
+    if file.is_some_and(|file| is_standard(file)) && read.iter().any(|key| given.word(*key).is_some_and(is_standard)) {
+        out.mistake("standard input can be read once: give - to the line or to an option");
+    }
+    let (start, place) = hop::begins(given, &receiver, out);
+    let script = Endless::of(given, fail, start.as_ref().map(Start::kind), out);
+    let source = Source::open(file?).map_err(|why| out.mistake(&format!("feed {why}"))).ok()?;
+    if out.is_mistaken() {
+        return None;
+    }
+    Some(Request { start: start?, place, script, source, cut: cut.unwrap_or(BLOCK).min(BLOCK) })
+}
+
+/// The records that a line begins with; a refusal is told.
+fn begun(start: Start, given: &Given, out: &mut Out) -> Option<(Tuner, Driver)> {
+    let fresh = match start {
+        Start::Kept { tuner, driver } => return Some((tuner, driver)),
+        Start::Fresh { kind, address, board, reference } => {
+            Tuner::new(kind, address, reference).and_then(|tuner| Ok((tuner, Driver::new(board, reference, 0, 0, 0)?)))
+        }
+    };
+    fresh.map_err(|error| answer::refused(given, error, &error.to_string(), out)).ok()
+}
+
+#[derive(Default)]
+struct Count {
+    done: usize,
+    refused: usize,
+    stopped: usize,
+}
+
+impl Count {
+    fn all(&self) -> usize {
+        self.done + self.refused + self.stopped
+    }
+}
+
+/// A line, as far as it was fed.
+struct Line<'a> {
+    given: &'a Given,
+    place: Place,
+    records: (Tuner, Driver),
+    script: Endless,
+    files: Kept,
+    stream: Stream,
+    /// Those that are not in their files yet.
+    sections: Vec<u8>,
+    count: Count,
+}
+
+impl Line<'_> {
+    /// A chunk is handed on up to the end of each command, since its script begins where the steps of the one before have ended.
+    fn chunk(&mut self, mut chunk: &[u8], out: &mut Out) {
+        while !chunk.is_empty() {
+            let (piece, rest) = chunk.split_at(chunk.len().min(Command::SIZE - self.stream.pending()));
+            chunk = rest;
+            let Line { place, records: (tuner, driver), script, stream, .. } = self;
+            for fed in stream.feed(driver, tuner, &place.table, piece, |_| script.script()) {
+                self.answered(fed, out);
+            }
+        }
+    }
+
+    fn answered(&mut self, fed: Fed, out: &mut Out) {
+        let sent = sent(&fed.command);
+        let call = sent.map_or(Call::Unknown, call);
+        let lock = (call == Call::TunerTune).then_some(fed.lock);
+        let (first, left, value) = (self.script.steps, self.script.left(), fed.result.unwrap_or(0));
+        let made = Made { call, first, transcript: fed.transcript, result: fed.result.map(drop), lock, left };
+        let read = made.transcript.iter().filter(|entry| matches!(entry.kind, EntryKind::I2cRead | EntryKind::BlockRead) && !entry.failed);
+        self.script.pass(made.transcript.len(), read.map(|entry| entry.bytes.len()).sum());
+        let told = match made.result {
+            Ok(()) => self.done(&made, value),
+            Err(error) => refused(&made, error, &fed.command),
+        };
+        match made.result {
+            Ok(()) => self.count.done += 1,
+            Err(Error::Step { .. }) => self.count.stopped += 1,
+            Err(_) => self.count.refused += 1,
+        }
+        self.print(&fed.command, &made, &told, out);
+        self.keep(made.transcript.bytes(), out);
+    }
+
+    fn done(&self, made: &Made, value: u64) -> Told {
+        let what = match made.call {
+            Call::TunerTune => format!(", tuner at {value} Hz"),
+            Call::SampleRate => format!(", true rate {}", self.records.1.true_rate()),
+            Call::Gain => format!(", step {:.1} dB", f32::from_bits(value as u32)),
+            Call::Correction => String::from(", both references corrected"),
+            Call::Reload => String::from(", every register sent again"),
+            _ => String::new(),
+        };
+        let lock = made.lock.map_or_else(String::new, |lock| format!(", {}", answer::lock_words(lock)));
+        answer::simply(format!("done: {}{what}{lock}", counted(made.transcript.len(), "step")))
+    }
+
+    fn keep(&mut self, section: &[u8], out: &mut Out) {
+        if self.files.section.is_some() || self.files.append.is_some() {
+            self.sections.extend_from_slice(section);
+        }
+        if self.sections.len() >= BLOCK {
+            self.files.add(&self.sections, out);
+            self.sections.clear();
+        }
+    }
+
+    fn head(&self, head: &Head, out: &mut Out) {
+        let tuner = &self.records.0;
+        let corrected = Some(tuner.corrected()).filter(|hz| *hz != tuner.nominal());
+        if self.given.has(Key::Json) {
+            out.text(&format!("{{\n\"receiver\": {},\n\"commands\": [", head.json(&self.place, corrected)));
+        } else if !self.given.has(Key::Quiet) {
+            out.line(&head.line(corrected));
+            out.line("");
+            rows::head(out);
+        }
+    }
+
+    /// A command, by its number: its bytes in words, its steps and its answer.
+    fn print(&self, bytes: &[u8; Command::SIZE], made: &Made, told: &Told, out: &mut Out) {
+        let number = self.count.all();
+        if self.given.has(Key::Json) {
+            out.text(if number == 1 { "\n" } else { ",\n" });
+            out.text(&command_json(number, bytes, made, told));
+        } else if !self.given.has(Key::Quiet) {
+            out.line(&format!("command {number}: {}", words(bytes)));
+            report::made_rows(made, out);
+            told.lines(out);
+            out.line("");
+        } else if told.number > 0 {
+            out.tell(End::Refused, &format!("command {number}: {}", told.in_one_line()));
+        }
+        if told.number > 0 {
+            out.ends(End::Refused);
+        }
+    }
+
+    /// What the line came to; then the files.
+    fn end(mut self, out: &mut Out) {
+        self.script.tell_faults(out);
+        let pending = self.stream.pending();
+        let incomplete =
+            (pending > 0).then(|| format!("incomplete: {} of a command at the end, which did nothing", counted(pending, "byte")));
+        if self.given.has(Key::Json) {
+            self.json(pending, out);
+        } else if !self.given.has(Key::Quiet) {
+            self.table(incomplete.as_deref(), out);
+        } else if let Some(text) = &incomplete {
+            out.tell(End::Refused, text);
+        }
+        if incomplete.is_some() {
+            out.ends(End::Refused);
+        }
+        self.files.end(&self.sections, Some(&self.records), out);
+    }
+
+    fn table(&self, incomplete: Option<&str>, out: &mut Out) {
+        let (Count { done, refused, stopped }, (tuner, driver)) = (&self.count, &self.records);
+        let (commands, steps) = (counted(self.count.all(), "command"), counted(self.script.steps, "step"));
+        out.line(&format!("{commands}: {done} done, {refused} refused, {stopped} stopped; {steps}"));
+        if let Some(text) = incomplete {
+            out.line(&out.loud(text));
+        }
+        report::note(self.script.unreached(), out);
+        let (rate, truly, gain, ppm) = (driver.rate(), driver.true_rate(), tuner.gain(), driver.ppm());
+        out.line(&format!("record: rate {rate} (true rate {truly}), gain {gain:.1} dB, correction {ppm} ppm"));
+        out.line("");
+        rows::registers(tuner, out);
+    }
+
+    fn json(&self, pending: usize, out: &mut Out) {
+        let (tuner, driver) = &self.records;
+        out.line(if self.count.all() == 0 { "]," } else { "\n]," });
+        out.line(&json::members(&[
+            ("done", self.count.done.to_string()),
+            ("refused", self.count.refused.to_string()),
+            ("stopped", self.count.stopped.to_string()),
+            ("pending", pending.to_string()),
+            ("steps", self.script.steps.to_string()),
+            ("unreached", json::maybe(self.script.unreached())),
+            ("rate", driver.rate().to_string()),
+            ("true_rate", driver.true_rate().to_string()),
+            ("gain", format!("{:.1}", tuner.gain())),
+            ("correction", driver.ppm().to_string()),
+            ("registers", report::registers_json(tuner)),
+        ]));
+        out.line("}");
+    }
+}
+
+fn refused(made: &Made, error: Error, bytes: &[u8; Command::SIZE]) -> Told {
+    if error == Error::Command {
+        let to_do = Some(String::from("send an operation from 1 to 7, and zeros above its argument"));
+        return Told { text: format!("command: {}", fault(bytes)), to_do, ..answer::refusal(made, error, "") };
+    }
+    let to_do = match error {
+        Error::Outcomes | Error::Replies => Some(answer::longer(made, error)),
+        Error::Step { .. } => Some(String::from("send reload (operation 7), which sends every register again")),
+        _ => None,
+    };
+    Told { to_do, ..answer::refusal(made, error, answer::words(error, answer::NOT_REACHED)) }
+}
+
+fn command_json(number: usize, bytes: &[u8; Command::SIZE], made: &Made, told: &Told) -> String {
+    json::object(&[
+        ("command", number.to_string()),
+        ("bytes", json::array(bytes)),
+        ("words", json::string(&words(bytes))),
+        ("answer", told.json(Some(made.call))),
+        ("tries", json::maybe(made.lock.map(|lock| lock.tries))),
+        ("locked", json::maybe(made.lock.map(|lock| lock.locked))),
+        ("steps", report::steps_json(made)),
+    ])
+}
+
+/// The command whose operation nine bytes name, with as much of the argument as it has.
+fn named(bytes: &[u8; Command::SIZE]) -> Option<Command> {
+    let argument = u64::from_le_bytes(std::array::from_fn(|at| bytes[at + 1]));
+    let low = argument as u32;
+    Some(match bytes[0] {
+        1 => Command::Frequency(argument),
+        2 => Command::Rate(low),
+        3 => Command::Gain(f32::from_bits(low)),
+        4 => Command::GainIndex(argument as u8),
+        5 => Command::Bandwidth(low),
+        6 => Command::Correction(low as i32),
+        7 => Command::Reload,
+        _ => return None,
+    })
+}
+
+/// The command that nine bytes are: there is none with other bytes above its argument than zeros.
+fn sent(bytes: &[u8; Command::SIZE]) -> Option<Command> {
+    named(bytes).filter(|command| command.bytes() == *bytes)
+}
+
+/// What makes nine bytes no command.
+fn fault(bytes: &[u8; Command::SIZE]) -> String {
+    match named(bytes) {
+        Some(command) => format!("unused bytes of operation {} ({}) are not zero", bytes[0], name(command)),
+        None => format!("operation {} is unknown", bytes[0]),
+    }
+}
+
+fn call(command: Command) -> Call {
+    match command {
+        Command::Frequency(_) => Call::TunerTune,
+        Command::Rate(_) => Call::SampleRate,
+        Command::Gain(_) | Command::GainIndex(_) => Call::Gain,
+        Command::Bandwidth(_) => Call::Bandwidth,
+        Command::Correction(_) => Call::Correction,
+        Command::Reload => Call::Reload,
+    }
+}
+
+/// What an operation is called.
+fn name(command: Command) -> &'static str {
+    match command {
+        Command::Frequency(_) => "frequency",
+        Command::Rate(_) => "rate",
+        Command::Gain(_) => "gain",
+        Command::GainIndex(_) => "gain index",
+        Command::Bandwidth(_) => "bandwidth",
+        Command::Correction(_) => "correction",
+        Command::Reload => "reload",
+    }
+}
+
+/// Nine bytes in words; as they are where they are no command.
+fn words(bytes: &[u8; Command::SIZE]) -> String {
+    let Some(command) = sent(bytes) else { return hex(bytes) };
+    let argument = match command {
+        Command::Frequency(hz) => format!(" {hz} Hz"),
+        Command::Rate(rate) => format!(" {rate}"),
+        Command::Gain(db) => format!(" {db} dB"),
+        Command::GainIndex(index) => format!(" {index}"),
+        Command::Bandwidth(hz) => format!(" {hz} Hz"),
+        Command::Correction(ppm) => format!(" {ppm} ppm"),
+        Command::Reload => String::new(),
+    };
+    name(command).to_string() + &argument
+}
+
+#[cfg(test)]
+mod tests {
+    use super::*;
+    use pasetone::{Board, Script, TunerKind};
+
+    /// Every operation with every value of every byte of its argument: what is told as no command is what the library refuses by 14, and nothing else.
+    #[test]
+    fn commands_are_the_library_s() {
+        let table = Board::V4.table();
+        let tuner = Tuner::new(TunerKind::R828d, 0x74, 28_800_000).unwrap();
+        let driver = Driver::new(Board::V4, 28_800_000, 0, 0, 0).unwrap();
+        for operation in 0..=255 {
+            for (at, value) in (1..Command::SIZE).flat_map(|at| (0..=255).map(move |value| (at, value))) {
+                let mut bytes = [0; Command::SIZE];
+                (bytes[0], bytes[at]) = (operation, value);
+                let fed = Stream::new().feed(&mut driver.clone(), &mut tuner.clone(), &table, &bytes, |_| Script::all_done());
+                assert_eq!(sent(&bytes).is_none(), fed[0].result == Err(Error::Command), "{bytes:?}");
+            }
+        }
+    }
+
+    #[test]
+    fn words_of_commands() {
+        assert_eq!(words(&Command::Gain(29.7).bytes()), "gain 29.7 dB");
+        assert_eq!(words(&Command::Gain(f32::NAN).bytes()), "gain NaN dB");
+        assert_eq!(words(&Command::Correction(-3).bytes()), "correction -3 ppm");
+        assert_eq!(words(&Command::Frequency(u64::MAX).bytes()), "frequency 18446744073709551615 Hz");
+        assert_eq!(words(&[9; 9]), "09 09 09 09 09 09 09 09 09");
+        assert_eq!(fault(&[4, 28, 1, 0, 0, 0, 0, 0, 0]), "unused bytes of operation 4 (gain index) are not zero");
+    }
+}
