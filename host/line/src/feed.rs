@@ -95,6 +95,10 @@ fn request(given: &Given, out: &mut Out) -> Option<Request> {
     if file.is_some_and(|file| is_standard(file)) && read.iter().any(|key| given.word(*key).is_some_and(is_standard)) {
         out.mistake("standard input can be read once: give - to the line or to an option");
     }
+    // What is written at once would be read as commands; --keep and --section take their places at the end.
+    if file.is_some_and(|file| given.word(Key::Append) == Some(file)) {
+        out.mistake("--append names the line itself, which is read while it is written: name another file");
+    }
     let (start, place) = hop::begins(given, &receiver, out);
     let script = Endless::of(given, fail, start.as_ref().map(Start::kind), out);
     let source = Source::open(file?).map_err(|why| out.mistake(&format!("feed {why}"))).ok()?;
