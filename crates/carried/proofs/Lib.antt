@@ -3,4 +3,5 @@ pub mod Ranges
 pub mod Passed
 pub mod Demand
 pub mod Driven
+pub mod Fed
 pub mod Worked

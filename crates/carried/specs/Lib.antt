@@ -1,3 +1,4 @@
 pub mod Exported
+pub mod Fed
 pub mod Carried
 pub mod Driven
