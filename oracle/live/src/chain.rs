@@ -5,7 +5,7 @@ use crate::draw::{self, Receiver};
 use crate::given::Given;
 use crate::port::{self, Found};
 use crate::sabotage::Wrong;
-use harness::answer::takes_driver;
+use harness::answer::{takes_driver, takes_tuner};
 use harness::case::Case;
 use harness::dice::Dice;
 use harness::judge::bare;
@@ -48,13 +48,14 @@ struct Host {
 }
 
 impl Host {
-    /// Both records come from the port.
+    /// Both records come from the port, made on one nominal: the usual one, at which most tunings are taken, or any.
     fn new(address: u8, dice: &mut Dice) -> Self {
         let mut receiver = Receiver::fresh(dice);
         let kind = dice.below(2);
-        let made = Given::exact(Case { call: 1, a: kind, b: 28_800_000, c: address as u64, ..Case::default() });
+        let nominal = if dice.below(2) == 0 { 28_800_000 } else { dice.within(1, u32::MAX.into()) };
+        let made = Given::exact(Case { call: 1, a: kind, b: nominal, c: address as u64, ..Case::default() });
         receiver.tuner = port::call(&made).tuner_after(&made).expect("a fresh record").to_vec();
-        let made = Given::exact(Case { call: 16, a: 28_800_000, b: 7_000_000, c: dice.below(2), e: 2_048_000, ..Case::default() });
+        let made = Given::exact(Case { call: 16, a: nominal, b: 7_000_000, c: dice.below(2), e: 2_048_000, ..Case::default() });
         receiver.driver = port::call(&made).driver_after(&made).expect("a fresh record").to_vec();
         Self { receiver, chip: Chip { address, bytes: std::array::from_fn(|_| dice.byte()), last: [None; 27] } }
     }
@@ -87,13 +88,14 @@ fn entries(found: &Found) -> Vec<Entry> {
     section[..section.len() - 8].chunks(16).map(|chunk| chunk.try_into().unwrap()).collect()
 }
 
-/// What a run has done: calls, entries, calls cut by a failing step, reloads that were all done.
+/// What a run has done: calls, entries, calls cut by a failing step, reloads that were all done, and calls between that touch no tuner and took steps.
 #[derive(Default)]
 pub struct Done {
     pub calls: u64,
     pub entries: u64,
     pub cut: u64,
     pub reloads: u64,
+    pub between: u64,
 }
 
 pub fn chain(length: u64, wrong: Wrong, dice: &mut Dice, tally: &mut Tally, done: &mut Done) {
@@ -108,8 +110,9 @@ pub fn chain(length: u64, wrong: Wrong, dice: &mut Dice, tally: &mut Tally, done
         for host in &mut hosts {
             host.chip.play(&made, wrong, dice);
         }
-        if let Some(bytes) = found.tuner_after(&given) {
-            hosts[at].receiver.tuner = bytes.to_vec();
+        match found.tuner_after(&given) {
+            Some(bytes) if takes_tuner(given.case.call) => hosts[at].receiver.tuner = bytes.to_vec(),
+            _ => {}
         }
         if let (19 | 41 | 42, Some(bytes)) = (given.case.call, found.driver_after(&given)) {
             hosts[at].receiver.driver = bytes.to_vec();
@@ -118,6 +121,7 @@ pub fn chain(length: u64, wrong: Wrong, dice: &mut Dice, tally: &mut Tally, done
         hosts.iter().for_each(|host| host.check(tally, &what));
         done.calls += 1;
         done.entries += made.len() as u64;
+        done.between += u64::from(!takes_tuner(given.case.call) && !made.is_empty());
         if found.reply.refusal == 11 {
             done.cut += 1;
             cut(&given, &found, &made, wrong, tally);
@@ -129,11 +133,14 @@ pub fn chain(length: u64, wrong: Wrong, dice: &mut Dice, tally: &mut Tally, done
     }
 }
 
-/// A call on a receiver's own records.
+/// A call on a receiver's own records; one in six is of the demodulator or a GPIO and takes none.
 fn drawn(receiver: &Receiver, dice: &mut Dice) -> Given {
-    let call = dice.pick(&[2, 2, 3, 3, 3, 4, 5, 6, 7, 8, 9, 9, 11, 19, 20, 41, 42, 42]);
+    let between = dice.below(6) == 0;
+    let call = if between { dice.within(21, 32) as u8 } else { dice.pick(&[2, 2, 3, 3, 3, 4, 5, 6, 7, 8, 9, 9, 11, 19, 20, 41, 42, 42]) };
     let mut given = draw::draw(call, receiver, dice);
-    given.case.tuner = receiver.tuner.clone();
+    if takes_tuner(call) {
+        given.case.tuner = receiver.tuner.clone();
+    }
     if takes_driver(call) {
         given.case.driver = receiver.driver.clone();
     }

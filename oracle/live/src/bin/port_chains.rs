@@ -33,10 +33,13 @@ fn main() {
     let (chains, seed) = live::numbers(&words, 3_000, "port_chains [CHAINS [SEED]] | port_chains self-test");
     let mut tally = Tally::default();
     let done = run(chains, seed, Wrong::Nothing, &mut tally);
-    let Done { calls, entries, cut, reloads } = done;
-    tally.that(cut > 0 && reloads > 0, || format!("{cut} calls were cut, {reloads} reloads all done"));
+    let Done { calls, entries, cut, reloads, between } = done;
+    tally.that(cut > 0 && reloads > 0 && between > 0, || {
+        format!("{cut} calls were cut, {reloads} reloads all done, {between} calls between")
+    });
     let detail = format!(
-        "; {chains} chains, {calls} calls, {entries} entries, {cut} cut by a failing step, {reloads} reloads all done, seed {seed}"
+        "; {chains} chains, {calls} calls, {entries} entries, {cut} cut by a failing step, {reloads} reloads all done, {between} with steps between, \
+         seed {seed}"
     );
     tally.end("chains", detail)
 }
