@@ -1,5 +1,5 @@
 /*
- * An evening from C: every request of document 02 as a host makes it. The settings of a site, two stations by the board's own table, the second one with a failing
+ * An evening from C: the requests of document 02 as a host makes them, but #105, which is stream.c. The settings of a site, two stations by the board's own table, the second one with a failing
  * step; what is in doubt, where tonight parts from last night, the restore list and its packets, the way back. host/rust/examples/evening.rs prints the same lines.
  */
 #include <stdio.h>

@@ -1,4 +1,4 @@
-//! An evening from Rust: every request of document 02 as a host makes it. The settings of a site, two stations by the board's own table, the second one with a
+//! An evening from Rust: the requests of document 02 as a host makes them, but #105, which is stream.rs. The settings of a site, two stations by the board's own table, the second one with a
 //! failing step; what is in doubt, where tonight parts from last night, the restore list and its packets, the way back. host/c/evening.c prints the same lines.
 use pasetone::{
     Answer, Board, Driver, Error, Packet, Script, Settings, Settings2, Transcript, TuneAnswer, Tuner, TunerKind, Whose, parting,
