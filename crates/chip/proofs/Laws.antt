@@ -225,16 +225,6 @@ module _ {L : Type 0} (put : L → ℕ → Entry → L) (os : List ℕ) where
   run-address [] w = refl
   run-address (s ∷ ss) w = run-address ss (step put os s w) ∙ step-address s w
 
-  closing-address : (w : Line L) → closing put os w .chip .address ≡ w .chip .address
-  closing-address w = go (goes (w .went)) refl
-    where
-      go : (g : Bool) → goes (w .went) ≡ g → closing put os w .chip .address ≡ w .chip .address
-      go true e = ap (λ (x : Line L). x .chip .address) (closing-going w e)
-      go false e = ap (λ (x : Line L). x .chip .address) (closing-stopped w e) ∙ step-address Close w
-
-  pub part-address : (ss : List Step) (w v : Line L) → v ≡ closing put os (run put os ss w) → v .chip .address ≡ w .chip .address
-  part-address ss w v e = ap (λ (x : Line L). x .chip .address) e ∙ closing-address (run put os ss w) ∙ run-address ss w
-
   -- a write whose bytes were worked out apart
   pub by-bytes : (n : ℕ) (xs ys : List ℕ) (w v : Line L) → xs ≡ ys → v ≡ step put os (Send n xs) w → v ≡ step put os (Send n ys) w
   by-bytes n xs ys w v e h = h ∙ ap (λ (l : List ℕ). step put os (Send n l) w) e

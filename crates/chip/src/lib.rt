@@ -66,12 +66,6 @@ pub struct Updates {
     pub n: usize,
 }
 
-// No updates at all.
-pub const NO_UPDATES: Updates = Updates {
-    list: [FILLER; 16],
-    n: 0,
-};
-
 // How the steps have gone: on, or to refusal 11, with the failing step's entry by its index.
 pub enum Went {
     Going,
@@ -272,19 +266,6 @@ pub fn log_open(l: Log, outcomes: &[u8], room: &mut [u8]) -> Log
     log_entry(l, e, ok, told(ok, k), ok, room)
 }
 
-pub fn open_repeater(f: Flow, outcomes: &[u8], room: &mut [u8]) -> Flow
-    requires { ⌜ (f .log .count < length (now outcomes)) × (16 * f .log .count + 16 ≤ length (now room)) ⌝ }
-    ensures { λ r. ⌜ onRoom r (now (room .exit)) ≡ step inRoom (now (outcomes .entry)) Open (onRoom f (now (room .entry))) ⌝ }
-    ensures bounds { λ r. ⌜ r .log .count + due (r .log .held) ≤ f .log .count + 2 ⌝ }
-{
-    let chip = f.chip;
-    let log = log_open(f.log, outcomes, room);
-    Flow {
-        chip: chip,
-        log: log,
-    }
-}
-
 // "A failed closing is recorded and otherwise ignored": its outcome is told by its entry alone.
 pub fn log_close(l: Log, outcomes: &[u8], room: &mut [u8]) -> Log
     requires { ⌜ (l .count + due (l .held) ≤ length (now outcomes)) × (16 * (l .count + due (l .held)) ≤ length (now room)) ⌝ }
@@ -320,19 +301,6 @@ pub fn log_end(l: Log, outcomes: &[u8], room: &mut [u8]) -> Log
         return log_close(l, outcomes, room);
     };
     l
-}
-
-pub fn close_repeater(f: Flow, outcomes: &[u8], room: &mut [u8]) -> Flow
-    requires { ⌜ (f .log .count + due (f .log .held) ≤ length (now outcomes)) × (16 * (f .log .count + due (f .log .held)) ≤ length (now room)) ⌝ }
-    ensures { λ r. ⌜ onRoom r (now (room .exit)) ≡ step inRoom (now (outcomes .entry)) Close (onRoom f (now (room .entry))) ⌝ }
-    ensures bounds { λ r. ⌜ r .log .count + due (r .log .held) ≤ f .log .count + due (f .log .held) ⌝ }
-{
-    let chip = f.chip;
-    let log = log_close(f.log, outcomes, room);
-    Flow {
-        chip: chip,
-        log: log,
-    }
 }
 
 // `i2c_write_raw` of n bytes, the first of them a register of the record. It and the masked write change the chip's lists where they lie.
@@ -427,7 +395,7 @@ pub fn log_plain(l: Log, e: Entry, outcomes: &[u8], room: &mut [u8]) -> Log
 }
 
 // The first n of a list of updates, behind an open repeater.
-fn write_list(
+pub fn write_list(
     l: Log,
     address: u8,
     us: Updates,
@@ -463,34 +431,50 @@ fn write_list(
     l
 }
 
-pub fn write_all(f: Flow, us: Updates, outcomes: &[u8], room: &mut [u8]) -> Flow
-    requires { ⌜ (us .n ≤ 16) × (allIn (meantOf us) ≡ true)
-        × (f .log .count + us .n + due (f .log .held) ≤ length (now outcomes)) × (16 * (f .log .count + us .n + due (f .log .held)) ≤ length (now room)) ⌝ }
-    ensures { λ r. ⌜ onRoom r (now (room .exit))
-        ≡ closing inRoom (now (outcomes .entry)) (run inRoom (now (outcomes .entry)) (updates (meantOf us)) (onRoom f (now (room .entry)))) ⌝ }
-    ensures bounds { λ r. ⌜ r .log .count + due (r .log .held) ≤ f .log .count + us .n + due (f .log .held) ⌝ }
+// One update, and two, behind an open repeater: a straight line, so that the compiler puts their constants in place.
+pub fn write_one(
+    l: Log,
+    address: u8,
+    u: Update,
+    shadow: &mut [u8; 27],
+    doubtful: &mut [bool; 27],
+    outcomes: &[u8],
+    room: &mut [u8],
+) -> Log
+    requires { ⌜ (inRange u ≡ true)
+        × (l .count + 1 + due (l .held) ≤ length (now outcomes)) × (16 * (l .count + 1 + due (l .held)) ≤ length (now room)) ⌝ }
+    ensures { λ r. ⌜ onLog (chipOf address (now (shadow .exit)) (now (doubtful .exit))) r (now (room .exit))
+        ≡ closing inRoom (now (outcomes .entry)) (run inRoom (now (outcomes .entry)) (updates (u ∷ []))
+        (onLog (chipOf address (now (shadow .entry)) (now (doubtful .entry))) l (now (room .entry)))) ⌝ }
+    ensures bounds { λ r. ⌜ r .count + due (r .held) ≤ l .count + 1 + due (l .held) ⌝ }
 {
-    let chip = f.chip;
-    let mut shadow = chip.shadow;
-    let mut doubtful = chip.doubtful;
-    let log = write_list(
-        f.log,
-        chip.address,
-        us,
-        &mut shadow,
-        &mut doubtful,
-        outcomes,
-        room,
-    );
-    let next = Chip {
-        address: chip.address,
-        shadow: shadow,
-        doubtful: doubtful,
+    let written = write_reg_mask_raw(l, address, u, shadow, doubtful, outcomes, room);
+    log_end(written, outcomes, room)
+}
+
+pub fn write_two(
+    l: Log,
+    address: u8,
+    u: Update,
+    v: Update,
+    shadow: &mut [u8; 27],
+    doubtful: &mut [bool; 27],
+    outcomes: &[u8],
+    room: &mut [u8],
+) -> Log
+    requires { ⌜ (inRange u ≡ true) × (inRange v ≡ true)
+        × (l .count + 2 + due (l .held) ≤ length (now outcomes)) × (16 * (l .count + 2 + due (l .held)) ≤ length (now room)) ⌝ }
+    ensures { λ r. ⌜ onLog (chipOf address (now (shadow .exit)) (now (doubtful .exit))) r (now (room .exit))
+        ≡ closing inRoom (now (outcomes .entry)) (run inRoom (now (outcomes .entry)) (updates (u ∷ v ∷ []))
+        (onLog (chipOf address (now (shadow .entry)) (now (doubtful .entry))) l (now (room .entry)))) ⌝ }
+    ensures bounds { λ r. ⌜ r .count + due (r .held) ≤ l .count + 2 + due (l .held) ⌝ }
+{
+    let written = write_reg_mask_raw(l, address, u, shadow, doubtful, outcomes, room);
+    let went = written.went;
+    let Went::Going = went else {
+        return log_close(written, outcomes, room);
     };
-    Flow {
-        chip: next,
-        log: log,
-    }
+    write_one(written, address, v, shadow, doubtful, outcomes, room)
 }
 
 // `with_repeater` over a list of updates: open, steps, close.
@@ -501,14 +485,37 @@ pub fn with_repeater(f: Flow, us: Updates, outcomes: &[u8], room: &mut [u8]) -> 
         ≡ run inRoom (now (outcomes .entry)) (behind (updates (meantOf us))) (onRoom f (now (room .entry))) ⌝ }
     ensures bounds { λ r. ⌜ r .log .count + due (r .log .held) ≤ f .log .count + us .n + 2 ⌝ }
 {
-    let opened = open_repeater(f, outcomes, room);
-    let log = opened.log;
-    let went = log.went;
+    let chip = f.chip;
+    let opened = log_open(f.log, outcomes, room);
+    let went = opened.went;
     let Went::Going = went else {
-        return close_repeater(opened, outcomes, room);
+        let shut = log_close(opened, outcomes, room);
+        return Flow {
+            chip: chip,
+            log: shut,
+        };
     };
-    let written = write_all(opened, us, outcomes, room);
-    close_repeater(written, outcomes, room)
+    let mut shadow = chip.shadow;
+    let mut doubtful = chip.doubtful;
+    let sent = write_list(
+        opened,
+        chip.address,
+        us,
+        &mut shadow,
+        &mut doubtful,
+        outcomes,
+        room,
+    );
+    let closed = log_close(sent, outcomes, room);
+    let next = Chip {
+        address: chip.address,
+        shadow: shadow,
+        doubtful: doubtful,
+    };
+    Flow {
+        chip: next,
+        log: closed,
+    }
 }
 
 // The chunk's first register, its bytes, and zeros.

@@ -130,8 +130,36 @@ fn filter_steps(f: Flow, hz: u32, rate: u32, outcomes: &[u8], room: &mut [u8]) -
     ensures { λ r. ⌜ onRoom r (now (room .exit)) ≡ run inRoom (now (outcomes .entry)) (filterSteps hz rate) (onRoom f (now (room .entry))) ⌝ }
     ensures bounds { λ r. ⌜ r .log .count + due (r .log .held) ≤ f .log .count + 7 ⌝ }
 {
-    let set = chip::with_repeater(f, writes::if_updates(hz as u64), outcomes, room);
-    chip::with_repeater(set, writes::bandwidth_updates(rate), outcomes, room)
+    let chip = f.chip;
+    let mut shadow = chip.shadow;
+    let mut doubtful = chip.doubtful;
+    let set = writes::set_if_bandwidth(
+        f.log,
+        chip.address,
+        hz as u64,
+        &mut shadow,
+        &mut doubtful,
+        outcomes,
+        room,
+    );
+    let log = writes::set_bandwidth(
+        set,
+        chip.address,
+        rate,
+        &mut shadow,
+        &mut doubtful,
+        outcomes,
+        room,
+    );
+    let next = Chip {
+        address: chip.address,
+        shadow: shadow,
+        doubtful: doubtful,
+    };
+    Flow {
+        chip: next,
+        log: log,
+    }
 }
 
 // The demodulator anew: reset, rate, IF.

@@ -6,28 +6,28 @@ use mathlib.Core.List.{List, [], _∷_, _++_, map}
 use native.Mathlib.Omega.{arith}
 use borrow.Author.Tests.{lt-ltb, le-ltb}
 use lib.Dec.{eqb, ltb}
-use lib.ListN.{length, take}
+use lib.ListN.{take}
 use Rattle.transcript.specs.declared.Entry.{Entry}
 use Rattle.chip.specs.declared.Update.{Update}
 use Rattle.chip.specs.Entries.{pointer, readEntry, wait}
-use Rattle.chip.specs.declared.Updates.{Updates}
-use Rattle.chip.specs.Steps.{Step, Line, allIn, closing, every, goes, inRange, inner, listed, masked, meantOf, run, step, updates}
+use Rattle.chip.specs.Steps.{Step, Line, closing, every, goes, inner, masked, run, step, updates}
 use Rattle.chip.specs.Steps.Step.{Close, Plain}
 use Rattle.chip.proofs.Laws.{parts, stop, swap}
-use Rattle.chip.proofs.Lists.{meant-all}
 use Rattle.pll.specs.declared.Kind.{Kind}
 use Rattle.pll.specs.declared.Plan.{Plan}
 use Rattle.pll.specs.declared.Pll.{Pll}
 use Rattle.pll.specs.declared.Pll.the-variants.{Planned, Refused}
+use Rattle.tuning.specs.declared.Fix.{Fix}
 use Rattle.tuning.specs.declared.FreqRange.{FreqRange}
+use Rattle.tuning.specs.Fixes.{fixUpdates}
 use Rattle.tuning.specs.Mux.{muxUpdates, pllUpdates, rangeOf}
 use Rattle.tuning.specs.Program.{innerSteps, pllSteps}
 use Rattle.tuning.specs.Tries.{afterTry, again, fineOf, locked, locksAt, powerOf, repairUpdates, replyBytes, statusSteps, triesFrom, tryRead}
 use Rattle.tuning.proofs.Programs.{every-app, inner-after, inner-tries, inner-updates}
 
--- the one write behind the first try
-pub first-write : (i : ℕ) → i ≡ 0 → masked 0x12 0x06 0xff ∷ [] ≡ again i
-first-write i e = rw e
+-- the one write after the first try
+pub first-write : (i : ℕ) (u : Update) → i ≡ 0 → u ≡ masked 0x12 0x06 0xff → updates (u ∷ []) ≡ updates (again i)
+first-write i u e m = rw (e, m)
 
 -- behind a later try there is the wait alone
 pub wait-alone : (i : ℕ) → eqb i 0 ≡ false → Plain (wait 1) ∷ [] ≡ afterTry i
@@ -52,44 +52,12 @@ pub pick-every : {A : Type 0} (p : A → Bool) (b : Bool) (xs ys : List A) → e
 pick-every p true xs ys h k = h
 pick-every p false xs ys h k = k
 
-pick-most : (b : Bool) (xs ys : List Update) (n : ℕ) → length xs ≤ n → length ys ≤ n → length (cond b xs ys) ≤ n
-pick-most true xs ys n h k = h
-pick-most false xs ys n h k = k
+-- the one write of a repair
+pub fix-made : (fix : Fix) (u : Update) → fix .needed ≡ true → u ≡ masked 0x10 (fix .bits) 0xe0 → updates (u ∷ []) ≡ updates (fixUpdates fix)
+fix-made fix u h m = rw (h, m)
 
--- the repair is of the record's registers, and one write at most
-module _ (kind : Kind) (number byte : ℕ) where
-  abbrev down : List Update
-  down = masked 0x10 ((number - 1) * 32) 0xe0 ∷ []
-
-  abbrev up : List Update
-  up = masked 0x10 ((number + 1) * 32) 0xe0 ∷ []
-
-  pub repair-in : allIn (repairUpdates kind number byte) ≡ true
-  unfolding repairUpdates every
-  repair-in =
-      pick-every inRange (ltb (powerOf kind) (fineOf byte)) down (cond (ltb (fineOf byte) (powerOf kind)) up []) refl
-      (pick-every inRange (ltb (fineOf byte) (powerOf kind)) up [] refl refl)
-
-  pub repair-most : length (repairUpdates kind number byte) ≤ 1
-  unfolding repairUpdates
-  repair-most =
-      pick-most (ltb (powerOf kind) (fineOf byte)) down (cond (ltb (fineOf byte) (powerOf kind)) up []) 1 (omega arith)
-      (pick-most (ltb (fineOf byte) (powerOf kind)) up [] 1 (omega arith) (omega arith))
-
-  -- the same of what the code hands on
-  module _ (r : Updates) (e : r ≡ listed (repairUpdates kind number byte)) where
-    pub repaired : meantOf r ≡ repairUpdates kind number byte
-    repaired = meant-all (repairUpdates kind number byte) r e
-
-    pub repaired-in : allIn (meantOf r) ≡ true
-    repaired-in = ap allIn repaired ∙ repair-in
-
-    pub repaired-most : r .n ≤ 1
-    repaired-most = rw (ap (λ (u : Updates). u .n) e) repair-most
-
--- reads at an address that was worked out apart
-pub try-address : (a b : ℕ) (rs : List ℕ) (i : ℕ) → a ≡ b → tryRead a rs i ≡ tryRead b rs i
-try-address a b rs i e = ap (λ (x : ℕ). tryRead x rs i) e
+fix-none : (fix : Fix) → fix .needed ≡ false → [] ≡ updates (fixUpdates fix)
+fix-none fix h = rw h
 
 -- reads whose bytes were worked out apart
 pub status-made : (address : ℕ) (rs bytes : List ℕ) → bytes ≡ replyBytes rs 0 5
@@ -129,6 +97,11 @@ inner-rest address rs i =
     (every-app inner (afterTry i) (triesFrom address rs (10 - (i + 1)) (i + 1)) (inner-after i) (inner-tries address rs (10 - (i + 1)) (i + 1)))
 
 module _ {L : Type 0} (put : L → ℕ → Entry → L) (os : List ℕ) where
+  -- no repair: nothing is left but the end of a part
+  pub no-fix : (fix : Fix) (w y : Line L) → fix .needed ≡ false → y ≡ closing put os w → y ≡ closing put os (run put os (updates (fixUpdates fix)) w)
+  unfolding run
+  no-fix fix w y h e = swap put os [] (updates (fixUpdates fix)) w y (fix-none fix h) e
+
   module _ (address : ℕ) (rs : List ℕ) (i : ℕ) (few : i < 10) (w x : Line L) (read : x ≡ closing put os (run put os (tryRead address rs i) w)) where
     all : (y : Line L) → y ≡ closing put os (run put os (restOf address rs i) x) → y ≡ closing put os (run put os (triesFrom address rs (10 - i) i) w)
     all y e =

@@ -1,3 +1,4 @@
 pub mod Mux
 pub mod Tries
+pub mod Fixes
 pub mod Program

@@ -9,12 +9,15 @@ ghost use lib.Dec.{eqb};
 ghost use lib.ListN.{length, getD};
 ghost use Rattle.chip.specs.declared.Chip.{Chip};
 ghost use Rattle.chip.specs.Entries.{pointer, readEntry, wait};
-ghost use Rattle.chip.specs.Steps.{closing, due, inRoom, listed, masked, onLog, onRoom, run, updates};
+ghost use Rattle.chip.specs.Chips.{chipOf};
+ghost use Rattle.chip.specs.Steps.{closing, due, inRoom, masked, onLog, onRoom, run, updates};
 ghost use Rattle.chip.specs.Steps.Step.{Plain};
 ghost use Rattle.tuning.specs.Mux.{laterOf, muxUpdates, pllUpdates, rangeOf};
 ghost use Rattle.tuning.specs.Tries.{afterTry, lockBy, locked, fineOf, powerOf, repairUpdates, replyBytes, statusSteps, triesFrom, tryRead};
-ghost use Rattle.tuning.specs.Program.{innerSteps, dividerNumber, pllSteps, tuneSteps, wholeOf};
+ghost use Rattle.tuning.specs.Fixes.{fixUpdates};
+ghost use Rattle.tuning.specs.Program.{innerSteps, dividerNumber, tuneSteps, wholeOf};
 use chip::Answer;
+use chip::Chip;
 use chip::Flow;
 use chip::Log;
 use chip::Seen;
@@ -37,6 +40,12 @@ pub struct FreqRange {
     pub drain: u8,
     pub mux: u8,
     pub filter: u8,
+}
+
+// The divider's repair: whether there is one, and the bits that it writes.
+pub struct Fix {
+    pub needed: bool,
+    pub bits: u8,
 }
 
 // What a tuning goes by.
@@ -227,21 +236,14 @@ fn status_entries(l: Log, address: u8, bytes: [u8; 8], outcomes: &[u8], room: &m
 }
 
 // "wait 2, status": the VCO settles, then five status bytes are read.
-fn read_status_raw(f: Flow, outcomes: &[u8], replies: &[u8], room: &mut [u8]) -> Flow
-    requires { ⌜ (35 ≤ length (now replies))
-        × (f .log .count + 3 + due (f .log .held) ≤ length (now outcomes)) × (16 * (f .log .count + 3 + due (f .log .held)) ≤ length (now room)) ⌝ }
-    ensures { λ r. ⌜ onRoom r (now (room .exit))
-        ≡ closing inRoom (now (outcomes .entry))
-        (run inRoom (now (outcomes .entry)) (statusSteps (f .chip .address) (now (replies .entry))) (onRoom f (now (room .entry)))) ⌝ }
-    ensures bounds { λ r. ⌜ r .log .count + due (r .log .held) ≤ f .log .count + 3 + due (f .log .held) ⌝ }
+fn read_status_raw(l: Log, address: u8, outcomes: &[u8], replies: &[u8], room: &mut [u8]) -> Log
+    requires { ⌜ (35 ≤ length (now replies)) × (l .count + 3 + due (l .held) ≤ length (now outcomes)) × (16 * (l .count + 3 + due (l .held)) ≤ length (now room)) ⌝ }
+    ensures { λ r. ⌜ ((chip : Chip) → onLog chip r (now (room .exit))
+        ≡ closing inRoom (now (outcomes .entry)) (run inRoom (now (outcomes .entry)) (statusSteps address (now (replies .entry))) (onLog chip l (now (room .entry))))) ⌝ }
+    ensures bounds { λ r. ⌜ r .count + due (r .held) ≤ l .count + 3 + due (l .held) ⌝ }
 {
     let bytes = reply_bytes(replies, 0, 5);
-    let chip = f.chip;
-    let log = status_entries(f.log, chip.address, bytes, outcomes, room);
-    Flow {
-        chip: chip,
-        log: log,
-    }
+    status_entries(l, address, bytes, outcomes, room)
 }
 
 // The Rust's `vco_power_ref`.
@@ -260,28 +262,53 @@ fn vco_fine_tune(byte: u8) -> u8
     (status::bit_reverse(byte) & 0x30) >> 4
 }
 
-// The divider's bits alone.
-fn divider_bits(value: u8) -> Updates
-    ensures { λ r. ⌜ r ≡ listed (masked 0x10 value 0xe0 ∷ []) ⌝ }
-{
-    chip::one(masked(0x10, value, 0xe0))
-}
-
 // Pass 2: the divider is repaired by one where the VCO's band is off.
-fn repair(kind: Kind, number: u8, byte: u8) -> Updates
+fn repair(kind: Kind, number: u8, byte: u8) -> Fix
     requires { ⌜ number ≤ 5 ⌝ }
-    ensures { λ r. ⌜ r ≡ listed (repairUpdates kind number byte) ⌝ }
+    ensures { λ r. ⌜ fixUpdates r ≡ repairUpdates kind number byte ⌝ }
 {
     let fine = vco_fine_tune(byte);
     let power = vco_power_ref(kind);
     if power < fine {
         let less = lower(number);
-        return divider_bits(less * 32);
+        return Fix {
+            needed: true,
+            bits: less * 32,
+        };
     }
     if fine < power {
-        return divider_bits((number + 1) * 32);
+        return Fix {
+            needed: true,
+            bits: (number + 1) * 32,
+        };
     }
-    chip::NO_UPDATES
+    Fix {
+        needed: false,
+        bits: 0,
+    }
+}
+
+// The divider's bits alone.
+fn write_repair(
+    l: Log,
+    address: u8,
+    fix: Fix,
+    shadow: &mut [u8; 27],
+    doubtful: &mut [bool; 27],
+    outcomes: &[u8],
+    room: &mut [u8],
+) -> Log
+    requires { ⌜ (l .count + 1 + due (l .held) ≤ length (now outcomes)) × (16 * (l .count + 1 + due (l .held)) ≤ length (now room)) ⌝ }
+    ensures { λ r. ⌜ onLog (chipOf address (now (shadow .exit)) (now (doubtful .exit))) r (now (room .exit))
+        ≡ closing inRoom (now (outcomes .entry)) (run inRoom (now (outcomes .entry)) (updates (fixUpdates fix))
+        (onLog (chipOf address (now (shadow .entry)) (now (doubtful .entry))) l (now (room .entry)))) ⌝ }
+    ensures bounds { λ r. ⌜ r .count + due (r .held) ≤ l .count + 1 + due (l .held) ⌝ }
+{
+    if fix.needed {
+        let u = masked(0x10, fix.bits, 0xe0);
+        return chip::write_one(l, address, u, shadow, doubtful, outcomes, room);
+    }
+    chip::log_end(l, outcomes, room)
 }
 
 // The entries of a try's read.
@@ -302,149 +329,174 @@ fn try_entries(l: Log, address: u8, bytes: [u8; 8], outcomes: &[u8], room: &mut 
 }
 
 // The read of try i.
-fn read_try(f: Flow, i: usize, outcomes: &[u8], replies: &[u8], room: &mut [u8]) -> Flow
-    requires { ⌜ (i < 10) × (35 ≤ length (now replies))
-        × (f .log .count + 2 + due (f .log .held) ≤ length (now outcomes)) × (16 * (f .log .count + 2 + due (f .log .held)) ≤ length (now room)) ⌝ }
-    ensures { λ r. ⌜ onRoom r (now (room .exit))
-        ≡ closing inRoom (now (outcomes .entry))
-        (run inRoom (now (outcomes .entry)) (tryRead (f .chip .address) (now (replies .entry)) i) (onRoom f (now (room .entry)))) ⌝ }
-    ensures bounds { λ r. ⌜ r .log .count + due (r .log .held) ≤ f .log .count + 2 + due (f .log .held) ⌝ }
+fn read_try(l: Log, address: u8, i: usize, outcomes: &[u8], replies: &[u8], room: &mut [u8]) -> Log
+    requires { ⌜ (i < 10) × (35 ≤ length (now replies)) × (l .count + 2 + due (l .held) ≤ length (now outcomes)) × (16 * (l .count + 2 + due (l .held)) ≤ length (now room)) ⌝ }
+    ensures { λ r. ⌜ ((chip : Chip) → onLog chip r (now (room .exit))
+        ≡ closing inRoom (now (outcomes .entry)) (run inRoom (now (outcomes .entry)) (tryRead address (now (replies .entry)) i) (onLog chip l (now (room .entry))))) ⌝ }
+    ensures bounds { λ r. ⌜ r .count + due (r .held) ≤ l .count + 2 + due (l .held) ⌝ }
 {
     let bytes = reply_bytes(replies, 5 + 3 * i, 3);
-    let chip = f.chip;
-    let log = try_entries(f.log, chip.address, bytes, outcomes, room);
-    Flow {
-        chip: chip,
-        log: log,
-    }
+    try_entries(l, address, bytes, outcomes, room)
 }
 
-// The wait of 1 behind a try.
-fn wait_one(f: Flow, outcomes: &[u8], room: &mut [u8]) -> Flow
-    requires { ⌜ (f .log .count + 1 + due (f .log .held) ≤ length (now outcomes)) × (16 * (f .log .count + 1 + due (f .log .held)) ≤ length (now room)) ⌝ }
-    ensures { λ r. ⌜ onRoom r (now (room .exit))
-        ≡ closing inRoom (now (outcomes .entry)) (run inRoom (now (outcomes .entry)) (Plain (wait 1) ∷ []) (onRoom f (now (room .entry)))) ⌝ }
-    ensures bounds { λ r. ⌜ r .log .count + due (r .log .held) ≤ f .log .count + 1 + due (f .log .held) ⌝ }
+// The wait of 1 after a try.
+fn wait_one(l: Log, outcomes: &[u8], room: &mut [u8]) -> Log
+    requires { ⌜ (l .count + 1 + due (l .held) ≤ length (now outcomes)) × (16 * (l .count + 1 + due (l .held)) ≤ length (now room)) ⌝ }
+    ensures { λ r. ⌜ ((chip : Chip) → onLog chip r (now (room .exit))
+        ≡ closing inRoom (now (outcomes .entry)) (run inRoom (now (outcomes .entry)) (Plain (wait 1) ∷ []) (onLog chip l (now (room .entry))))) ⌝ }
+    ensures bounds { λ r. ⌜ r .count + due (r .held) ≤ l .count + 1 + due (l .held) ⌝ }
 {
-    let chip = f.chip;
-    let waited = chip::log_plain(f.log, wait(1), outcomes, room);
-    let log = chip::log_end(waited, outcomes, room);
-    Flow {
-        chip: chip,
-        log: log,
-    }
+    let waited = chip::log_plain(l, wait(1), outcomes, room);
+    chip::log_end(waited, outcomes, room)
 }
 
-// What follows a try without the lock: 0x12 once, behind the first, and a wait of 1.
-fn after_try(f: Flow, i: usize, outcomes: &[u8], room: &mut [u8]) -> Flow
-    requires { ⌜ (f .log .count + (1 - i) + 1 + due (f .log .held) ≤ length (now outcomes)) × (16 * (f .log .count + (1 - i) + 1 + due (f .log .held)) ≤ length (now room)) ⌝ }
-    ensures { λ r. ⌜ onRoom r (now (room .exit))
-        ≡ closing inRoom (now (outcomes .entry)) (run inRoom (now (outcomes .entry)) (afterTry i) (onRoom f (now (room .entry)))) ⌝ }
-    ensures bounds { λ r. ⌜ r .log .count + due (r .log .held) ≤ f .log .count + (1 - i) + 1 + due (f .log .held) ⌝ }
+// What follows a try without the lock: 0x12 once, after the first, and a wait of 1.
+fn after_try(
+    l: Log,
+    address: u8,
+    i: usize,
+    shadow: &mut [u8; 27],
+    doubtful: &mut [bool; 27],
+    outcomes: &[u8],
+    room: &mut [u8],
+) -> Log
+    requires { ⌜ (l .count + (1 - i) + 1 + due (l .held) ≤ length (now outcomes)) × (16 * (l .count + (1 - i) + 1 + due (l .held)) ≤ length (now room)) ⌝ }
+    ensures { λ r. ⌜ onLog (chipOf address (now (shadow .exit)) (now (doubtful .exit))) r (now (room .exit))
+        ≡ closing inRoom (now (outcomes .entry)) (run inRoom (now (outcomes .entry)) (afterTry i)
+        (onLog (chipOf address (now (shadow .entry)) (now (doubtful .entry))) l (now (room .entry)))) ⌝ }
+    ensures bounds { λ r. ⌜ r .count + due (r .held) ≤ l .count + (1 - i) + 1 + due (l .held) ⌝ }
 {
     if i == 0 {
-        let us = chip::one(masked(0x12, 0x06, 0xff));
-        let written = chip::write_all(f, us, outcomes, room);
-        let log = written.log;
-        let went = log.went;
-        let Went::Going = went else {
-            return chip::close_repeater(written, outcomes, room);
-        };
+        let u = masked(0x12, 0x06, 0xff);
+        let written = chip::write_one(l, address, u, shadow, doubtful, outcomes, room);
         return wait_one(written, outcomes, room);
     }
-    wait_one(f, outcomes, room)
+    wait_one(l, outcomes, room)
 }
 
-// Behind a lock 0x1a is written.
-fn after_lock(f: Flow, outcomes: &[u8], room: &mut [u8]) -> Flow
-    requires { ⌜ (f .log .count + 1 + due (f .log .held) ≤ length (now outcomes)) × (16 * (f .log .count + 1 + due (f .log .held)) ≤ length (now room)) ⌝ }
-    ensures { λ r. ⌜ onRoom r (now (room .exit))
-        ≡ closing inRoom (now (outcomes .entry)) (run inRoom (now (outcomes .entry)) (updates locked) (onRoom f (now (room .entry)))) ⌝ }
-    ensures bounds { λ r. ⌜ r .log .count + due (r .log .held) ≤ f .log .count + 1 + due (f .log .held) ⌝ }
+// After a lock 0x1a is written.
+fn after_lock(
+    l: Log,
+    address: u8,
+    shadow: &mut [u8; 27],
+    doubtful: &mut [bool; 27],
+    outcomes: &[u8],
+    room: &mut [u8],
+) -> Log
+    requires { ⌜ (l .count + 1 + due (l .held) ≤ length (now outcomes)) × (16 * (l .count + 1 + due (l .held)) ≤ length (now room)) ⌝ }
+    ensures { λ r. ⌜ onLog (chipOf address (now (shadow .exit)) (now (doubtful .exit))) r (now (room .exit))
+        ≡ closing inRoom (now (outcomes .entry)) (run inRoom (now (outcomes .entry)) (updates locked)
+        (onLog (chipOf address (now (shadow .entry)) (now (doubtful .entry))) l (now (room .entry)))) ⌝ }
+    ensures bounds { λ r. ⌜ r .count + due (r .held) ≤ l .count + 1 + due (l .held) ⌝ }
 {
-    let us = chip::one(masked(0x1a, 0x08, 0x08));
-    chip::write_all(f, us, outcomes, room)
+    let u = masked(0x1a, 0x08, 0x08);
+    chip::write_one(l, address, u, shadow, doubtful, outcomes, room)
 }
 
-// `wait_pll_lock_raw(10)` and the write of 0x1a behind a lock. #101: "The waiting step shall answer locked or not with the number of tries": both stand in
+// `wait_pll_lock_raw(10)` and the write of 0x1a after a lock. #101: "The waiting step shall answer locked or not with the number of tries": both stand in
 // the log that it hands on (`seen`), by every try's own entry.
-fn wait_pll_lock_raw(f: Flow, outcomes: &[u8], replies: &[u8], room: &mut [u8]) -> Flow
-    requires { ⌜ (35 ≤ length (now replies))
-        × (f .log .count + 31 + due (f .log .held) ≤ length (now outcomes)) × (16 * (f .log .count + 31 + due (f .log .held)) ≤ length (now room)) ⌝ }
-    ensures { λ r. ⌜ onRoom r (now (room .exit))
-        ≡ closing inRoom (now (outcomes .entry))
-        (run inRoom (now (outcomes .entry)) (triesFrom (f .chip .address) (now (replies .entry)) 10 0) (onRoom f (now (room .entry)))) ⌝ }
-    ensures bounds { λ r. ⌜ r .log .count + due (r .log .held) ≤ f .log .count + 31 + due (f .log .held) ⌝ }
+fn wait_pll_lock_raw(
+    l: Log,
+    address: u8,
+    shadow: &mut [u8; 27],
+    doubtful: &mut [bool; 27],
+    outcomes: &[u8],
+    replies: &[u8],
+    room: &mut [u8],
+) -> Log
+    requires { ⌜ (35 ≤ length (now replies)) × (l .count + 31 + due (l .held) ≤ length (now outcomes)) × (16 * (l .count + 31 + due (l .held)) ≤ length (now room)) ⌝ }
+    ensures { λ r. ⌜ onLog (chipOf address (now (shadow .exit)) (now (doubtful .exit))) r (now (room .exit))
+        ≡ closing inRoom (now (outcomes .entry)) (run inRoom (now (outcomes .entry)) (triesFrom address (now (replies .entry)) 10 0)
+        (onLog (chipOf address (now (shadow .entry)) (now (doubtful .entry))) l (now (room .entry)))) ⌝ }
+    ensures bounds { λ r. ⌜ r .count + due (r .held) ≤ l .count + 31 + due (l .held) ⌝ }
 {
-    let mut f = f;
-    let log = f.log;
-    let went = log.went;
+    let mut l = l;
+    let went = l.went;
     let Went::Going = went else {
-        return chip::close_repeater(f, outcomes, room);
+        return chip::log_close(l, outcomes, room);
     };
     let mut i: usize = 0;
     while i < 10 {
         // Looked at after the try, but read before it: there its byte is at hand from the try's own.
         let locked = status::locks(replies[7 + 3 * i]);
-        f = read_try(f, i, outcomes, replies, room);
-        let log = f.log;
-        let went = log.went;
+        l = read_try(l, address, i, outcomes, replies, room);
+        let went = l.went;
         let Went::Going = went else {
-            return chip::close_repeater(f, outcomes, room);
+            return chip::log_close(l, outcomes, room);
         };
         if locked {
-            return after_lock(f, outcomes, room);
+            return after_lock(l, address, shadow, doubtful, outcomes, room);
         }
-        f = after_try(f, i, outcomes, room);
+        l = after_try(l, address, i, shadow, doubtful, outcomes, room);
         i += 1;
     }
-    f
+    l
 }
 
-// What follows the sixteen registers: status, repair, tries.
+// What follows the sixteen registers: status, repair, tries. The byte that the repair goes by is looked at before the status' entries are made.
 fn set_pll_raw(
-    f: Flow,
-    kind: Kind,
-    number: u8,
+    l: Log,
+    address: u8,
+    fix: Fix,
+    shadow: &mut [u8; 27],
+    doubtful: &mut [bool; 27],
     outcomes: &[u8],
     replies: &[u8],
     room: &mut [u8],
-) -> Flow
-    requires { ⌜ (number ≤ 5) × (35 ≤ length (now replies))
-        × (f .log .count + 35 + due (f .log .held) ≤ length (now outcomes)) × (16 * (f .log .count + 35 + due (f .log .held)) ≤ length (now room)) ⌝ }
-    ensures { λ r. ⌜ onRoom r (now (room .exit))
-        ≡ closing inRoom (now (outcomes .entry))
-        (run inRoom (now (outcomes .entry)) (pllSteps (f .chip .address) kind number (now (replies .entry))) (onRoom f (now (room .entry)))) ⌝ }
-    ensures bounds { λ r. ⌜ r .log .count + due (r .log .held) ≤ f .log .count + 35 + due (f .log .held) ⌝ }
+) -> Log
+    requires { ⌜ (35 ≤ length (now replies)) × (l .count + 35 + due (l .held) ≤ length (now outcomes)) × (16 * (l .count + 35 + due (l .held)) ≤ length (now room)) ⌝ }
+    ensures { λ r. ⌜ onLog (chipOf address (now (shadow .exit)) (now (doubtful .exit))) r (now (room .exit))
+        ≡ closing inRoom (now (outcomes .entry)) (run inRoom (now (outcomes .entry)) (statusSteps address (now (replies .entry)) ++ (updates (fixUpdates fix) ++ triesFrom address (now (replies .entry)) 10 0))
+        (onLog (chipOf address (now (shadow .entry)) (now (doubtful .entry))) l (now (room .entry)))) ⌝ }
+    ensures bounds { λ r. ⌜ r .count + due (r .held) ≤ l .count + 35 + due (l .held) ⌝ }
 {
-    let fix = repair(kind, number, replies[4]);
-    let probed = read_status_raw(f, outcomes, replies, room);
-    let repaired = chip::write_all(probed, fix, outcomes, room);
-    wait_pll_lock_raw(repaired, outcomes, replies, room)
+    let probed = read_status_raw(l, address, outcomes, replies, room);
+    let repaired = write_repair(probed, address, fix, shadow, doubtful, outcomes, room);
+    wait_pll_lock_raw(repaired, address, shadow, doubtful, outcomes, replies, room)
 }
 
-// The steps behind the open repeater. A refused plan leaves the mux's writes.
-fn tune_inner(f: Flow, t: Tuning, outcomes: &[u8], replies: &[u8], room: &mut [u8]) -> Flow
-    requires { ⌜ (dividerNumber (t .plan) ≤ 5) × (35 ≤ length (now replies))
-        × (f .log .count + 51 + due (f .log .held) ≤ length (now outcomes)) × (16 * (f .log .count + 51 + due (f .log .held)) ≤ length (now room)) ⌝ }
-    ensures { λ r. ⌜ onRoom r (now (room .exit))
-        ≡ closing inRoom (now (outcomes .entry))
-        (run inRoom (now (outcomes .entry)) (innerSteps (f .chip .address) (t .kind) (t .notch) (t .plan) (t .hz) (now (replies .entry))) (onRoom f (now (room .entry)))) ⌝ }
-    ensures bounds { λ r. ⌜ r .log .count + due (r .log .held) ≤ f .log .count + 51 + due (f .log .held) ⌝ }
+// The steps after the repeater's opening. A refused plan leaves the mux's writes.
+fn tune_inner(
+    l: Log,
+    address: u8,
+    t: Tuning,
+    shadow: &mut [u8; 27],
+    doubtful: &mut [bool; 27],
+    outcomes: &[u8],
+    replies: &[u8],
+    room: &mut [u8],
+) -> Log
+    requires { ⌜ (dividerNumber (t .plan) ≤ 5) × (35 ≤ length (now replies)) × (l .count + 51 + due (l .held) ≤ length (now outcomes)) × (16 * (l .count + 51 + due (l .held)) ≤ length (now room)) ⌝ }
+    ensures { λ r. ⌜ onLog (chipOf address (now (shadow .exit)) (now (doubtful .exit))) r (now (room .exit))
+        ≡ closing inRoom (now (outcomes .entry)) (run inRoom (now (outcomes .entry)) (innerSteps address (t .kind) (t .notch) (t .plan) (t .hz) (now (replies .entry)))
+        (onLog (chipOf address (now (shadow .entry)) (now (doubtful .entry))) l (now (room .entry)))) ⌝ }
+    ensures bounds { λ r. ⌜ r .count + due (r .held) ≤ l .count + 51 + due (l .held) ⌝ }
 {
     let range = freq_range(t.hz);
     let plan = t.plan;
     let Pll::Planned(p) = plan else {
         let list = tune_updates(range, t.notch, NO_PLAN);
-        return chip::write_all(f, Updates { list: list, n: 11 }, outcomes, room);
+        let mux = Updates { list: list, n: 11 };
+        return chip::write_list(l, address, mux, shadow, doubtful, outcomes, room);
     };
     let list = tune_updates(range, t.notch, p);
-    let written = chip::write_all(f, Updates { list: list, n: 16 }, outcomes, room);
+    let all = Updates { list: list, n: 16 };
+    let written = chip::write_list(l, address, all, shadow, doubtful, outcomes, room);
     let kind = t.kind;
-    set_pll_raw(written, kind, p.number, outcomes, replies, room)
+    let fix = repair(kind, p.number, replies[4]);
+    set_pll_raw(
+        written,
+        address,
+        fix,
+        shadow,
+        doubtful,
+        outcomes,
+        replies,
+        room,
+    )
 }
 
-// A whole tuning: one bracket.
+// A whole tuning: one bracket. The chip's lists are changed where they lie, and copied where it begins and ends alone.
 pub fn tune(f: Flow, t: Tuning, outcomes: &[u8], replies: &[u8], room: &mut [u8]) -> Flow
     requires { ⌜ (dividerNumber (t .plan) ≤ 5) × (35 ≤ length (now replies))
         × (f .log .count + 53 ≤ length (now outcomes)) × (16 * (f .log .count + 53) ≤ length (now room)) ⌝ }
@@ -452,12 +504,36 @@ pub fn tune(f: Flow, t: Tuning, outcomes: &[u8], replies: &[u8], room: &mut [u8]
         ≡ run inRoom (now (outcomes .entry)) (tuneSteps (f .chip .address) (t .kind) (t .notch) (t .plan) (t .hz) (now (replies .entry))) (onRoom f (now (room .entry))) ⌝ }
     ensures bounds { λ r. ⌜ r .log .count + due (r .log .held) ≤ f .log .count + 53 ⌝ }
 {
-    let opened = chip::open_repeater(f, outcomes, room);
-    let log = opened.log;
-    let went = log.went;
+    let chip = f.chip;
+    let opened = chip::log_open(f.log, outcomes, room);
+    let went = opened.went;
     let Went::Going = went else {
-        return chip::close_repeater(opened, outcomes, room);
+        let shut = chip::log_close(opened, outcomes, room);
+        return Flow {
+            chip: chip,
+            log: shut,
+        };
     };
-    let tuned = tune_inner(opened, t, outcomes, replies, room);
-    chip::close_repeater(tuned, outcomes, room)
+    let mut shadow = chip.shadow;
+    let mut doubtful = chip.doubtful;
+    let tuned = tune_inner(
+        opened,
+        chip.address,
+        t,
+        &mut shadow,
+        &mut doubtful,
+        outcomes,
+        replies,
+        room,
+    );
+    let closed = chip::log_close(tuned, outcomes, room);
+    let next = Chip {
+        address: chip.address,
+        shadow: shadow,
+        doubtful: doubtful,
+    };
+    Flow {
+        chip: next,
+        log: closed,
+    }
 }

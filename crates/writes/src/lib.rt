@@ -99,6 +99,59 @@ pub fn bandwidth_updates(hz: u32) -> Updates
     chip::one(masked(0x0a, value, 0x0f))
 }
 
+// `set_if_bandwidth` and `set_bandwidth`, each one bracket, over the chip's lists where they lie: a larger call makes both and copies the lists once. No list of
+// updates: each write has its register in the code.
+pub fn set_if_bandwidth(
+    l: Log,
+    address: u8,
+    hz: u64,
+    shadow: &mut [u8; 27],
+    doubtful: &mut [bool; 27],
+    outcomes: &[u8],
+    room: &mut [u8],
+) -> Log
+    requires { ⌜ (l .count + 4 ≤ length (now outcomes)) × (16 * (l .count + 4) ≤ length (now room)) ⌝ }
+    ensures { λ r. ⌜ onLog (chipOf address (now (shadow .exit)) (now (doubtful .exit))) r (now (room .exit))
+        ≡ run inRoom (now (outcomes .entry)) (behind (updates (ifUpdates hz)))
+        (onLog (chipOf address (now (shadow .entry)) (now (doubtful .entry))) l (now (room .entry))) ⌝ }
+    ensures bounds { λ r. ⌜ r .count + due (r .held) ≤ l .count + 4 ⌝ }
+{
+    let low = masked(0x0a, narrow_or_wide(hz, 0x00, 0x10), 0x70);
+    let high = masked(0x0b, narrow_or_wide(hz, 0x80, 0x6b), 0xef);
+    let opened = chip::log_open(l, outcomes, room);
+    let went = opened.went;
+    let Went::Going = went else {
+        return chip::log_close(opened, outcomes, room);
+    };
+    let written = chip::write_two(opened, address, low, high, shadow, doubtful, outcomes, room);
+    chip::log_close(written, outcomes, room)
+}
+
+pub fn set_bandwidth(
+    l: Log,
+    address: u8,
+    hz: u32,
+    shadow: &mut [u8; 27],
+    doubtful: &mut [bool; 27],
+    outcomes: &[u8],
+    room: &mut [u8],
+) -> Log
+    requires { ⌜ (l .count + 3 ≤ length (now outcomes)) × (16 * (l .count + 3) ≤ length (now room)) ⌝ }
+    ensures { λ r. ⌜ onLog (chipOf address (now (shadow .exit)) (now (doubtful .exit))) r (now (room .exit))
+        ≡ run inRoom (now (outcomes .entry)) (behind (updates (bandwidthUpdates hz)))
+        (onLog (chipOf address (now (shadow .entry)) (now (doubtful .entry))) l (now (room .entry))) ⌝ }
+    ensures bounds { λ r. ⌜ r .count + due (r .held) ≤ l .count + 3 ⌝ }
+{
+    let u = masked(0x0a, width(hz), 0x0f);
+    let opened = chip::log_open(l, outcomes, room);
+    let went = opened.went;
+    let Went::Going = went else {
+        return chip::log_close(opened, outcomes, room);
+    };
+    let written = chip::write_one(opened, address, u, shadow, doubtful, outcomes, room);
+    chip::log_close(written, outcomes, room)
+}
+
 pub fn path_updates(path: Path) -> Updates
     ensures { λ r. ⌜ r ≡ listed (pathUpdates path) ⌝ }
 {

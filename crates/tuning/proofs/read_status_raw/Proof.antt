@@ -1,4 +1,4 @@
--- `tuning::read_status_raw` meets its contract: its entries over the log, at this chip. Assumes nothing.
+-- `tuning::read_status_raw` meets its contract: its entries over the log, at any chip. Assumes nothing.
 use Rattle.chip.specs.Steps.{inRoom}
 use Rattle.chip.proofs.Laws.{swap}
 use Rattle.tuning.proofs.Turns.{status-made}
@@ -16,7 +16,8 @@ same-length : tie.Need-same-length
 same-length c = search needs
 
 returns : tie.Need-returns
-returns c = (swap inRoom _ _ _ _ _ (status-made _ _ _ (c .before .before .before .before .before .reply-bytes .ensures)) (c .before .before .status-entries .ensures .0 _), c .before .before .status-entries .ensures .1)
+returns c = (λ chip. swap inRoom _ _ _ _ _ (status-made _ _ _ (c .before .before .before .before .reply-bytes .ensures)) (c .before .before .status-entries .ensures .0 chip), c .before .before .status-entries .ensures .1)
 
 pub read-status-raw-spec : {M : Type 1} → statement M
-read-status-raw-spec = tie.close (tie.spec reply-bytes-requires status-entries-requires same-length returns)
+read-status-raw-spec =
+    tie.close (tie.spec reply-bytes-requires status-entries-requires same-length returns)

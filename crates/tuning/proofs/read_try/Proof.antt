@@ -1,4 +1,4 @@
--- `tuning::read_try` meets its contract: its entries over the log, at this chip. Assumes nothing.
+-- `tuning::read_try` meets its contract: its entries over the log, at any chip. Assumes nothing.
 use Rattle.chip.specs.Steps.{inRoom}
 use Rattle.chip.proofs.Laws.{swap}
 use Rattle.tuning.proofs.Turns.{try-made}
@@ -22,7 +22,15 @@ same-length : tie.Need-same-length
 same-length c = search needs
 
 returns : tie.Need-returns
-returns c = (swap inRoom _ _ _ _ _ (try-made _ _ _ _ (c .before .before .before .before .before .reply-bytes .ensures)) (c .before .before .try-entries .ensures .0 _), c .before .before .try-entries .ensures .1)
+returns c = (λ chip. swap inRoom _ _ _ _ _ (try-made _ _ _ _ (c .before .before .before .before .reply-bytes .ensures)) (c .before .before .try-entries .ensures .0 chip), c .before .before .try-entries .ensures .1)
 
 pub read-try-spec : {M : Type 1} → statement M
-read-try-spec = tie.close (tie.spec mul-reply-bytes add-reply-bytes reply-bytes-requires try-entries-requires same-length returns)
+read-try-spec =
+    tie.close
+    (tie.spec
+    mul-reply-bytes
+    add-reply-bytes
+    reply-bytes-requires
+    try-entries-requires
+    same-length
+    returns)

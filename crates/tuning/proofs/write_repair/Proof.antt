@@ -1,0 +1,42 @@
+-- `tuning::write_repair` meets its contract: the one write, or none. Assumes nothing.
+use mathlib.Core.Path.{ap}
+use native.Mathlib.Omega.{arith}
+use Rattle.chip.specs.Steps.{inRange, inRoom}
+use Rattle.chip.proofs.Laws.{swap}
+use Rattle.tuning.proofs.Turns.{fix-made, no-fix}
+use borrow.Author.Needs.{needs}
+use Rattle.tuning.proofs.write_repair.Statement.{statement}
+use Rattle.tuning.proofs.write_repair.Tie as tie
+
+masked-requires : tie.Need-masked-requires
+masked-requires c κs = search needs
+
+write-one-requires : tie.Need-write-one-requires
+write-one-requires c κs = (ap inRange (c .before .before .before .masked .ensures), omega (arith, c .before .before .before .before .before .before .before .pre .0), omega (arith, c .before .before .before .before .before .before .before .pre .1))
+
+same-length : tie.Need-same-length
+same-length c = search needs
+
+returns : tie.Need-returns
+returns c = (swap inRoom _ _ _ _ _ (fix-made _ _ (c .before .before .before .before .before .before .before .if1 .taken) (c .before .before .before .before .before .before .masked .ensures)) (c .before .before .write-one .ensures .0), c .before .before .write-one .ensures .1)
+
+log-end-requires : tie.Need-log-end-requires
+log-end-requires c κs = search needs
+
+same-length-2 : tie.Need-same-length-2
+same-length-2 c = search needs
+
+returns-2 : tie.Need-returns-2
+returns-2 c = (no-fix inRoom _ _ _ _ (c .before .before .before .before .if1 .left) (c .before .before .log-end .ensures .0 _), omega (arith, c .before .before .log-end .ensures .1))
+
+pub write-repair-spec : {M : Type 1} → statement M
+write-repair-spec =
+    tie.close
+    (tie.spec
+    masked-requires
+    write-one-requires
+    same-length
+    returns
+    log-end-requires
+    same-length-2
+    returns-2)
