@@ -152,7 +152,7 @@ pub fn reset_steps(f: Flow, outcomes: &[u8], room: &mut [u8]) -> Flow
     ensures { λ r. ⌜ onRoom r (now (room .exit)) ≡ run inRoom (now (outcomes .entry)) resetSteps (onRoom f (now (room .entry))) ⌝ }
     ensures bounds { λ r. ⌜ r .log .count + due (r .log .held) ≤ f .log .count + 2 + due (f .log .held) ⌝ }
 {
-    device::access_two(f, RESET, outcomes, room)
+    device::access_all(f, RESET, 2, outcomes, room)
 }
 
 pub fn reset_demod(outcomes: &[u8], room: &mut [u8]) -> Handed
@@ -243,7 +243,7 @@ pub fn if_steps(f: Flow, hz: u32, xtal: u32, outcomes: &[u8], room: &mut [u8]) -
     ensures bounds { λ r. ⌜ r .log .count + due (r .log .held) ≤ f .log .count + 3 + due (f .log .held) ⌝ }
 {
     let rows = if_rows(hz, xtal);
-    device::access_three(f, rows, outcomes, room)
+    device::access_all(f, rows, 3, outcomes, room)
 }
 
 pub fn set_if_freq_xtal(hz: u32, xtal: u32, outcomes: &[u8], room: &mut [u8]) -> Handed
@@ -277,7 +277,7 @@ pub fn rate_steps(f: Flow, rate: u32, xtal: u32, outcomes: &[u8], room: &mut [u8
     ensures bounds { λ r. ⌜ r .log .count + due (r .log .held) ≤ f .log .count + 4 + due (f .log .held) ⌝ }
 {
     let rows = rate_rows(rate, xtal);
-    device::access_four(f, rows, outcomes, room)
+    device::access_all(f, rows, 4, outcomes, room)
 }
 
 pub fn set_sample_rate_xtal(rate: u32, xtal: u32, outcomes: &[u8], room: &mut [u8]) -> Handed

@@ -128,56 +128,6 @@ pub fn access_all(f: Flow, rows: [Access; 10], n: usize, outcomes: &[u8], room: 
     }
 }
 
-// A few accesses in a straight line, beside the loop: the compiler puts such a line in place and its constants fold, which a loop's do not.
-// Each of the three says its accesses itself, since two of them in a function of their own are not put in place.
-pub fn access_two(f: Flow, rows: [Access; 10], outcomes: &[u8], room: &mut [u8]) -> Flow
-    requires { ⌜ (f .log .count + 2 + due (f .log .held) ≤ length (now outcomes)) × (16 * (f .log .count + 2 + due (f .log .held)) ≤ length (now room)) ⌝ }
-    ensures { λ r. ⌜ onRoom r (now (room .exit))
-        ≡ run inRoom (now (outcomes .entry)) (map accessStep (take 2 rows)) (onRoom f (now (room .entry))) ⌝ }
-    ensures bounds { λ r. ⌜ r .log .count + due (r .log .held) ≤ f .log .count + 2 + due (f .log .held) ⌝ }
-{
-    let chip = f.chip;
-    let first = log_access(f.log, rows[0], outcomes, room);
-    let second = log_access(first, rows[1], outcomes, room);
-    Flow {
-        chip: chip,
-        log: second,
-    }
-}
-
-pub fn access_three(f: Flow, rows: [Access; 10], outcomes: &[u8], room: &mut [u8]) -> Flow
-    requires { ⌜ (f .log .count + 3 + due (f .log .held) ≤ length (now outcomes)) × (16 * (f .log .count + 3 + due (f .log .held)) ≤ length (now room)) ⌝ }
-    ensures { λ r. ⌜ onRoom r (now (room .exit))
-        ≡ run inRoom (now (outcomes .entry)) (map accessStep (take 3 rows)) (onRoom f (now (room .entry))) ⌝ }
-    ensures bounds { λ r. ⌜ r .log .count + due (r .log .held) ≤ f .log .count + 3 + due (f .log .held) ⌝ }
-{
-    let chip = f.chip;
-    let first = log_access(f.log, rows[0], outcomes, room);
-    let second = log_access(first, rows[1], outcomes, room);
-    let third = log_access(second, rows[2], outcomes, room);
-    Flow {
-        chip: chip,
-        log: third,
-    }
-}
-
-pub fn access_four(f: Flow, rows: [Access; 10], outcomes: &[u8], room: &mut [u8]) -> Flow
-    requires { ⌜ (f .log .count + 4 + due (f .log .held) ≤ length (now outcomes)) × (16 * (f .log .count + 4 + due (f .log .held)) ≤ length (now room)) ⌝ }
-    ensures { λ r. ⌜ onRoom r (now (room .exit))
-        ≡ run inRoom (now (outcomes .entry)) (map accessStep (take 4 rows)) (onRoom f (now (room .entry))) ⌝ }
-    ensures bounds { λ r. ⌜ r .log .count + due (r .log .held) ≤ f .log .count + 4 + due (f .log .held) ⌝ }
-{
-    let chip = f.chip;
-    let first = log_access(f.log, rows[0], outcomes, room);
-    let second = log_access(first, rows[1], outcomes, room);
-    let third = log_access(second, rows[2], outcomes, room);
-    let fourth = log_access(third, rows[3], outcomes, room);
-    Flow {
-        chip: chip,
-        log: fourth,
-    }
-}
-
 // A call that is refused before its steps.
 pub fn refused(number: u8) -> Handed
     ensures { λ r. ⌜ ((room : List ℕ) → back r room ≡ called tt room 0 (Refused number)) ⌝ }

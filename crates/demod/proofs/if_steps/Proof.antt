@@ -6,23 +6,19 @@ use Rattle.demod.specs.Programs.{ifSteps}
 use borrow.Author.Needs.{needs}
 use Rattle.demod.proofs.if_steps.Statement.{statement}
 use Rattle.demod.proofs.if_steps.Tie as tie
-use Rattle.demod.proofs.if_steps.Reads as reads
-use Rattle.demod.proofs.if_steps.Lts as lts
-use Rattle.demod.proofs.if_rows.Reads as if-rows-reads
-use Rattle.device.proofs.access_three.Reads as access-three-reads
 
 if-rows-requires : tie.Need-if-rows-requires
 if-rows-requires c κs = search needs
 
-access-three-requires : tie.Need-access-three-requires
-access-three-requires c κs = search needs
+access-all-requires : tie.Need-access-all-requires
+access-all-requires c κs = search needs
 
 same-length : tie.Need-same-length
 same-length c = search needs
 
 returns : tie.Need-returns
 unfolding ifSteps
-returns c = (by-program inRoom _ _ _ _ _ (rows-meant 3 _ _ (c .before .before .before .before .if-rows .ensures)) (c .before .before .access-three .ensures .0), search needs)
+returns c = (by-program inRoom _ _ _ _ _ (rows-meant 3 _ _ (c .before .before .before .before .if-rows .ensures)) (c .before .before .access-all .ensures .0), search needs)
 
 pub if-steps-spec : {M : Type 1} → statement M
-if-steps-spec = tie.close (tie.spec if-rows-requires access-three-requires same-length returns)
+if-steps-spec = tie.close (tie.spec if-rows-requires access-all-requires same-length returns)

@@ -6,23 +6,19 @@ use Rattle.demod.specs.Programs.{rateSteps}
 use borrow.Author.Needs.{needs}
 use Rattle.demod.proofs.rate_steps.Statement.{statement}
 use Rattle.demod.proofs.rate_steps.Tie as tie
-use Rattle.demod.proofs.rate_steps.Reads as reads
-use Rattle.demod.proofs.rate_steps.Lts as lts
-use Rattle.demod.proofs.rate_rows.Reads as rate-rows-reads
-use Rattle.device.proofs.access_four.Reads as access-four-reads
 
 rate-rows-requires : tie.Need-rate-rows-requires
 rate-rows-requires c κs = search needs
 
-access-four-requires : tie.Need-access-four-requires
-access-four-requires c κs = search needs
+access-all-requires : tie.Need-access-all-requires
+access-all-requires c κs = search needs
 
 same-length : tie.Need-same-length
 same-length c = search needs
 
 returns : tie.Need-returns
 unfolding rateSteps
-returns c = (by-program inRoom _ _ _ _ _ (rows-meant 4 _ _ (c .before .before .before .before .rate-rows .ensures)) (c .before .before .access-four .ensures .0), search needs)
+returns c = (by-program inRoom _ _ _ _ _ (rows-meant 4 _ _ (c .before .before .before .before .rate-rows .ensures)) (c .before .before .access-all .ensures .0), search needs)
 
 pub rate-steps-spec : {M : Type 1} → statement M
-rate-steps-spec = tie.close (tie.spec rate-rows-requires access-four-requires same-length returns)
+rate-steps-spec = tie.close (tie.spec rate-rows-requires access-all-requires same-length returns)
