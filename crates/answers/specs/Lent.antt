@@ -13,7 +13,7 @@ use Rattle.board.specs.declared.BoardRead.{BoardRead}
 use Rattle.board.specs.declared.BoardRead.the-variants as board-read
 use Rattle.board.specs.declared.Plan.{Plan}
 use Rattle.board.specs.Numbers.{boardOf, routeNumber}
-use Rattle.board.specs.Plans.{planOf}
+use Rattle.board.specs.Plans.{boardPlan}
 use Rattle.chip.specs.declared.Answer.the-variants.{Refused}
 use Rattle.fir.specs.Packing.{packed, unpackOf}
 use Rattle.gain.specs.Steps.{steps}
@@ -40,7 +40,7 @@ planBytes p = bitOf (p .inverted) ∷ routeNumber (p .path) ∷ bitOf (p .notch)
 
 unfoldable pub planInto : BoardRead → ℕ → List ℕ → Given
 planInto board-read.Refused hz out = given (Refused 1) out
-planInto (board-read.Is b) hz out = lentTo 0 (planOf b hz .hz) (planBytes (planOf b hz)) out
+planInto (board-read.Is b) hz out = lentTo 0 (boardPlan b hz .hz) (planBytes (boardPlan b hz)) out
 
 -- the same by a table. Document 02, #113: "new 19 table, for a malformed table; then 2 for a frequency in no band or shifted below 0 or past u64"; then 8
 abbrev pub planByInto : List ℕ → ℕ → List ℕ → Given

@@ -11,7 +11,7 @@ use Rattle.pll.specs.Plan.{planOf}
 use Rattle.worksheet.specs.declared.Filled.{Filled}
 use Rattle.worksheet.specs.declared.Filled.the-variants.{In, Refused}
 use Rattle.worksheet.specs.declared.Sheet.{Sheet}
-use Rattle.worksheet.specs.Sheet.{sheetOf, toldOf}
+use Rattle.worksheet.specs.Sheet.{sheetOf, filledBy}
 use Rattle.answers.specs.declared.Laid.{Laid}
 
 -- the kind of a number that names one
@@ -29,7 +29,7 @@ abbrev pub filledIn : Filled → Laid
 filledIn (In s) = record { refusal = 0; value = s .rest; bytes = sheetBytes s }
 filledIn Refused = nothing 2
 
--- a kind that is none is 1, a reference of 0 is 4, then 2
+-- a kind that is not valid is 1, a reference of 0 is 4, then 2
 unfoldable pub laidOf : ℕ → ℕ → Filled → Laid
 laidOf kind r f = cond (ltb 1 kind) (nothing 1) (cond (eqb r 0) (nothing 4) (filledIn f))
 
@@ -37,7 +37,7 @@ abbrev pub laidTo : Laid → List ℕ → Given
 laidTo l out = lentTo (l .refusal) (l .value) (l .bytes) out
 
 abbrev pub pllInto : ℕ → ℕ → ℕ → List ℕ → Given
-pllInto kind lo r out = laidTo (laidOf kind r (toldOf (planOf (kindNamed kind) lo r))) out
+pllInto kind lo r out = laidTo (laidOf kind r (filledBy (planOf (kindNamed kind) lo r))) out
 
 abbrev pub worksheetInto : ℕ → ℕ → ℕ → List ℕ → Given
 worksheetInto kind lo r out = laidTo (laidOf kind r (sheetOf (kindNamed kind) lo r)) out

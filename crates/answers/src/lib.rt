@@ -208,7 +208,7 @@ pub fn plan_pll(kind: u64, lo: u64, reference: u32, out: &mut [u8]) -> Answer
     ensures { λ r. ⌜ given r (now (out .exit)) ≡ pllInto kind lo reference (now (out .entry)) ⌝ }
 {
     let plan = pll::plan_pll(named(kind), lo, reference);
-    let laid = laid_out(kind, reference, worksheet::told(plan));
+    let laid = laid_out(kind, reference, worksheet::filled_by(plan));
     let bytes = laid.bytes;
     lending::lend(laid.refusal, laid.value, &bytes, out)
 }

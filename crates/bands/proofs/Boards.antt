@@ -18,7 +18,7 @@ use Rattle.board.specs.declared.Path.the-variants.{Hf, Vhf, Uhf}
 use Rattle.board.specs.declared.Plan.{Plan}
 use Rattle.board.specs.declared.Route.the-variants.{By}
 use Rattle.board.specs.Numbers.{pathNumber}
-use Rattle.board.specs.Plans.{below-up, inNotch, pathAt, planOf, tunerHz}
+use Rattle.board.specs.Plans.{below-up, inNotch, pathAt, boardPlan, tunerHz}
 use Rattle.bands.specs.declared.Band.{Band}
 use Rattle.bands.specs.Tables.{ascending, band, bandBytes, bandOf, bandsIn, bandsOf, boardTable, builtIn, planAt, planBy, planIn, plan, planned, routeOf, tableBytes, tableOk}
 use Rattle.bands.proofs.Laws.{shifted-up}
@@ -167,8 +167,8 @@ module _ (b : Band) (h : fine b ≡ true) (hz : ℕ) (from : b .first ≤ hz) (t
       let s : b .shift ≡ 0 = numbers .0 ∙ ap (λ (u : Bool). cond u 28_800_000 0) e in
       (omega arith, omega arith, omega arith)
 
-  right : planAt b hz ≡ planned 0 (planOf V4 hz)
-  unfolding planOf tunerHz
+  right : planAt b hz ≡ planned 0 (boardPlan V4 hz)
+  unfolding boardPlan tunerHz
   right =
       let l = lands (below-up hz) refl in
       let inverted : eqb (b .inverted) 1 ≡ below-up hz = ap (λ (n : ℕ). eqb n 1) (numbers .1) ∙ read-bit (below-up hz) in
@@ -176,7 +176,7 @@ module _ (b : Band) (h : fine b ≡ true) (hz : ℕ) (from : b .first ≤ hz) (t
       let notches : eqb (b .notch) 1 ≡ inNotch hz = ap (λ (n : ℕ). eqb n 1) (numbers .3) ∙ read-bit (inNotch hz) in
       sym (shifted-up b hz (l .0) (l .1)) ∙ (λ i. planned 0 (plan (l .2 i) (inverted i) (path i) (notches i)))
 
-all-right : (bs : List Band) → all fine bs ≡ true → AllRight (planOf V4) bs
+all-right : (bs : List Band) → all fine bs ≡ true → AllRight (boardPlan V4) bs
 all-right [] h = tt
 all-right (b ∷ bs) h =
     let p = both (fine b) (all fine bs) h in
@@ -188,9 +188,9 @@ all-fine = refl
 
 -- ---- every built-in board
 
-right-bands : (b : Board) → AllRight (planOf b) (builtIn b)
-unfolding builtIn planOf
-right-bands Generic = (λ hz from to word. sym (shifted-up (band 0 18446744073709551615 0 0 3 0) hz (omega arith) (omega arith)) ∙ ap (λ (n : ℕ). planned 0 (planOf Generic n)) (add-zero hz), tt)
+right-bands : (b : Board) → AllRight (boardPlan b) (builtIn b)
+unfolding builtIn boardPlan
+right-bands Generic = (λ hz from to word. sym (shifted-up (band 0 18446744073709551615 0 0 3 0) hz (omega arith) (omega arith)) ∙ ap (λ (n : ℕ). planned 0 (boardPlan Generic n)) (add-zero hz), tt)
 right-bands V4 = all-right (builtIn V4) all-fine
 
 gapless : (b : Board) → chained 0 (builtIn b) ≡ true
@@ -210,6 +210,6 @@ well-formed Generic = refl
 well-formed V4 = refl
 
 -- by the table of a built-in board the plan is the built-in plan, at every frequency of 64 bits
-pub built-in : (b : Board) (hz : ℕ) → hz < 18446744073709551616 → planBy (boardTable b) hz ≡ planned 0 (planOf b hz)
+pub built-in : (b : Board) (hz : ℕ) → hz < 18446744073709551616 → planBy (boardTable b) hz ≡ planned 0 (boardPlan b hz)
 unfolding planBy
-built-in b hz h = rw (well-formed b, bands-back b) (everywhere (planOf b) (builtIn b) 0 (gapless b) (right-bands b) hz (omega arith) h)
+built-in b hz h = rw (well-formed b, bands-back b) (everywhere (boardPlan b) (builtIn b) 0 (gapless b) (right-bands b) hz (omega arith) h)

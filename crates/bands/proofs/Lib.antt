@@ -3,4 +3,4 @@ pub mod Exact
 pub mod Laws
 pub mod Only
 pub mod Taken
-pub mod Told
+pub mod Refused

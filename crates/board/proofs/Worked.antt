@@ -6,14 +6,14 @@ use mathlib.Core.List.{[], _∷_, map}
 use Rattle.board.specs.declared.Path.the-variants.{Hf, Vhf, Uhf}
 use Rattle.board.specs.declared.Board.the-variants.{V4}
 use Rattle.board.specs.declared.Route.the-variants.{By}
-use Rattle.board.specs.Plans.{inNotch, pathAt, planOf, tunerHz}
+use Rattle.board.specs.Plans.{inNotch, pathAt, boardPlan, tunerHz}
 
-pub last-below : planOf V4 28_799_999 ≡ record { hz = 57_599_999; inverted = true; path = By Hf; notch = false }
-unfolding planOf tunerHz pathAt
+pub last-below : boardPlan V4 28_799_999 ≡ record { hz = 57_599_999; inverted = true; path = By Hf; notch = false }
+unfolding boardPlan tunerHz pathAt
 last-below = refl
 
-pub first-above : planOf V4 28_800_000 ≡ record { hz = 28_800_000; inverted = false; path = By Vhf; notch = false }
-unfolding planOf tunerHz pathAt
+pub first-above : boardPlan V4 28_800_000 ≡ record { hz = 28_800_000; inverted = false; path = By Vhf; notch = false }
+unfolding boardPlan tunerHz pathAt
 first-above = refl
 
 pub notched :

@@ -29,6 +29,6 @@ inNotch hz =
     || (leb 85_000_000 hz && leb hz 112_000_000)
     || (leb 172_000_000 hz && leb hz 242_000_000)
 
-unfoldable pub planOf : Board → ℕ → Plan
-planOf Generic hz = record { hz = hz; inverted = false; path = Direct; notch = false }
-planOf V4 hz = record { hz = tunerHz hz; inverted = below-up hz; path = By (pathAt hz); notch = inNotch hz }
+unfoldable pub boardPlan : Board → ℕ → Plan
+boardPlan Generic hz = record { hz = hz; inverted = false; path = Direct; notch = false }
+boardPlan V4 hz = record { hz = tunerHz hz; inverted = below-up hz; path = By (pathAt hz); notch = inNotch hz }

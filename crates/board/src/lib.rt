@@ -1,7 +1,7 @@
 // The boards and their tuning plans: src/tuner.rs, `plan_tuning` of the generic board and of the V4.
 // Document 01, "Modules": "`plan_tuning` for generic board and V4. Leave out `id` and filters."
 ghost use mathlib.Core.Path.{_≡_};
-ghost use Rattle.board.specs.Plans.{inNotch, pathAt, planOf, tunerHz};
+ghost use Rattle.board.specs.Plans.{inNotch, pathAt, boardPlan, tunerHz};
 ghost use Rattle.board.specs.Numbers.{boardNumber, boardOf, pathNumber, pathOf, routeNumber};
 
 // The Rust's `BoardConfig`.
@@ -73,7 +73,7 @@ fn in_notch(hz: u64) -> bool
 }
 
 pub fn plan_tuning(board: Board, hz: u64) -> Plan
-    ensures { λ r. ⌜ r ≡ planOf board hz ⌝ }
+    ensures { λ r. ⌜ r ≡ boardPlan board hz ⌝ }
 {
     match board {
         Board::Generic => Plan {

@@ -17,12 +17,13 @@ use Rattle.board.specs.declared.Route.the-variants.{By, Direct}
 use Rattle.chip.specs.declared.Answer.{Answer}
 use Rattle.chip.specs.declared.Answer.the-variants.{Refused}
 use Rattle.chip.specs.declared.Flow.{Flow}
-use Rattle.chip.specs.declared.Seen.{Seen}
-use Rattle.chip.specs.declared.Went.the-variants.{Going}
-use Rattle.chip.specs.Calls.{Called, answerOf, called, laidOut, performed, refusalWith, sealed, seenIn}
+use Rattle.chip.specs.declared.LockTries.{LockTries}
+use Rattle.chip.specs.declared.Progress.the-variants.{Going}
+use Rattle.chip.specs.Calls.{Called, answerOf, called, performed, refusalWith, lockTriesIn}
 use Rattle.chip.specs.Courses.{leftBy}
-use Rattle.chip.specs.Entries.{unseen}
-use Rattle.chip.specs.Steps.{Line, Logged, Step, Trace, behind, eight, every, inRoom, line, logged, onRoom, run, trace}
+use Rattle.chip.specs.Entries.{noTries}
+use Rattle.chip.specs.InCode.{laidOut, sealed, Logged, inRoom, logged, onRoom}
+use Rattle.chip.specs.Steps.{Line, Step, Trace, whileOpen, eight, every, line, run, trace}
 use Rattle.chip.proofs.Laws.{run-address}
 use Rattle.chip.proofs.Taken.{handed, performs, seen-in, stands, tried, untried}
 use Rattle.demod.specs.Programs.{ddcSteps}
@@ -41,10 +42,10 @@ use Rattle.r82xx.specs.Record.{sound, withChip, withLock, withNotch}
 use Rattle.r82xx.specs.Orders.{lockKept}
 use Rattle.r82xx.proofs.Refusals.{hz-fits}
 use Rattle.r82xx.proofs.Whole.{behind-eight, refuse-by}
-use Rattle.tuning.specs.Program.{innerSteps, tuneSteps, wholeOf}
+use Rattle.tuning.specs.Program.{innerSteps, tuneSteps, tuneAnswer}
 use Rattle.tuning.specs.Tries.{lockBy}
 use Rattle.tuning.proofs.Programs.{eight-inner, every-app}
-use Rattle.boards.specs.Hops.{ddcPart, heardBy, hopKept, hopRefusal, hopResult, hopRow, hopSeen, hopSteps, pathPart, pathReplies}
+use Rattle.boards.specs.Hops.{ddcPart, heardBy, hopKept, hopRefusal, hopResult, hopRow, hopLockTries, hopSteps, pathPart, pathReplies}
 
 -- ---- the parts, by what they go by
 
@@ -113,25 +114,25 @@ hop-eight kind address p by rs =
 -- ---- the steps by both plans: what is handed back, and what is told of the lock
 
 pub hop-by : (os rs room : List ℕ) (hz : ℕ) (t : Tuner) (d later : Driver) (p : Plan) (by : Pll) (f : Flow) (mid after : List ℕ) (answer whole : Answer) (lock : Bool)
-    → onRoom f mid ≡ run inRoom os (hopSteps (t .kind) (t .chip .address) p by rs) (line (t .chip) (logged room unseen) 0 Going false)
-    → whole ≡ wholeOf by hz → after ≡ sealed mid (f .log .count) → answer ≡ answerOf whole (f .log .went)
-    → lock ≡ lockBy (f .log .seen) (t .lock) → later ≡ heardBy d hz answer → f .log .count ≤ 64
+    → onRoom f mid ≡ run inRoom os (hopSteps (t .kind) (t .chip .address) p by rs) (line (t .chip) (logged room noTries) 0 Going false)
+    → whole ≡ tuneAnswer by hz → after ≡ sealed mid (f .log .count) → answer ≡ answerOf whole (f .log .progress)
+    → lock ≡ lockBy (f .log .lock) (t .lock) → later ≡ heardBy d hz answer → f .log .count ≤ 64
     → (called (both (withLock (withChip (withNotch t (p .notch)) (f .chip)) lock) later) after (f .log .count) answer
-    ≡ performed (wholeOf by hz) (hopKept t d p (wholeOf by hz) hz) room (trace os (hopSteps (t .kind) (t .chip .address) p by rs) (t .chip)))
-    × (f .log .seen ≡ seenIn (trace os (hopSteps (t .kind) (t .chip .address) p by rs) (t .chip) .log))
+    ≡ performed (tuneAnswer by hz) (hopKept t d p (tuneAnswer by hz) hz) room (trace os (hopSteps (t .kind) (t .chip .address) p by rs) (t .chip)))
+    × (f .log .lock ≡ lockTriesIn (trace os (hopSteps (t .kind) (t .chip .address) p by rs) (t .chip) .log))
 hop-by os rs room hz t d later p by f mid after answer whole lock k w q a l heard few =
     let ss : List Step = hopSteps (t .kind) (t .chip .address) p by rs in
     let tr : Trace = trace os ss (t .chip) in
     let eights : every eight ss ≡ true = hop-eight (t .kind) (t .chip .address) p by rs in
     let all : onRoom f mid ≡ laidOut room tr = stands os room ss (t .chip) f mid eights k in
     let count : f .log .count ≡ length (tr .log) = ap (λ (x : Line Logged). x .count) all in
-    let seen : f .log .seen ≡ seenIn (tr .log) = ap (λ (x : Line Logged). x .log .seen) all ∙ seen-in (tr .log) (omega arith) in
+    let seen : f .log .lock ≡ lockTriesIn (tr .log) = ap (λ (x : Line Logged). x .log .lock) all ∙ seen-in (tr .log) (omega arith) in
     let chip : f .chip ≡ tr .chip = ap (λ (x : Line Logged). x .chip) all in
-    let told : answer ≡ answerOf (wholeOf by hz) (f .log .went) = a ∙ ap (λ (x : Answer). answerOf x (f .log .went)) w in
-    let went : answerOf (wholeOf by hz) (f .log .went) ≡ answerOf (wholeOf by hz) (tr .went) = ap (λ (x : Line Logged). answerOf (wholeOf by hz) (x .went)) all in
-    let same : both (withLock (withChip (withNotch t (p .notch)) (f .chip)) lock) later ≡ hopKept t d p (wholeOf by hz) hz tr =
-    λ i. both (withLock (withChip (withNotch t (p .notch)) (chip i)) ((l ∙ ap (λ (s : Seen). lockBy s (t .lock)) seen) i)) ((heard ∙ ap (heardBy d hz) (told ∙ went)) i) in (
-      handed os room ss (t .chip) (hopKept t d p (wholeOf by hz) hz) (wholeOf by hz) (both (withLock (withChip (withNotch t (p .notch)) (f .chip)) lock) later) f mid after answer eights k q told same,
+    let told : answer ≡ answerOf (tuneAnswer by hz) (f .log .progress) = a ∙ ap (λ (x : Answer). answerOf x (f .log .progress)) w in
+    let progress : answerOf (tuneAnswer by hz) (f .log .progress) ≡ answerOf (tuneAnswer by hz) (tr .progress) = ap (λ (x : Line Logged). answerOf (tuneAnswer by hz) (x .progress)) all in
+    let same : both (withLock (withChip (withNotch t (p .notch)) (f .chip)) lock) later ≡ hopKept t d p (tuneAnswer by hz) hz tr =
+    λ i. both (withLock (withChip (withNotch t (p .notch)) (chip i)) ((l ∙ ap (λ (s : LockTries). lockBy s (t .lock)) seen) i)) ((heard ∙ ap (heardBy d hz) (told ∙ progress)) i) in (
+      handed os room ss (t .chip) (hopKept t d p (tuneAnswer by hz) hz) (tuneAnswer by hz) (both (withLock (withChip (withNotch t (p .notch)) (f .chip)) lock) later) f mid after answer eights k q told same,
       seen,
     )
 
@@ -146,21 +147,21 @@ module _ (os rs room : List ℕ) (hz : ℕ) (t : Tuner) (d : Driver) (p : Planne
       ∙ (λ i. refusalWith (by-tuner i && leb 1 (by-driver i)) (by-all i) 64 38 (length room) (length os) (length rs))
 
   pub hop-refused : (given ≡ 0 → ⊥)
-      → (called (both t d) room 0 (Refused given) ≡ hopResult p hz rs os t d room) × (unseen ≡ hopSeen p hz rs os t d room)
-  unfolding hopResult hopSeen leftBy
+      → (called (both t d) room 0 (Refused given) ≡ hopResult p hz rs os t d room) × (noTries ≡ hopLockTries p hz rs os t d room)
+  unfolding hopResult hopLockTries leftBy
   hop-refused h = (refuse-by _ given _ os _ (t .chip) _ (both t d) room number h, untried _ os _ (t .chip) (λ z. h (number ∙ z)))
 
-  pub hop-taken : (by : Pll) (x : Called Both) (seen : Seen) → given ≡ 0 → by ≡ planFor t (p .plan .hz)
-      → (x ≡ performed (wholeOf by hz) (hopKept t d (p .plan) (wholeOf by hz) hz) room (trace os (hopSteps (t .kind) (t .chip .address) (p .plan) by rs) (t .chip)))
-      × (seen ≡ seenIn (trace os (hopSteps (t .kind) (t .chip .address) (p .plan) by rs) (t .chip) .log))
-      → (x ≡ hopResult p hz rs os t d room) × (seen ≡ hopSeen p hz rs os t d room)
-  unfolding hopResult hopSeen leftBy
+  pub hop-taken : (by : Pll) (x : Called Both) (seen : LockTries) → given ≡ 0 → by ≡ planFor t (p .plan .hz)
+      → (x ≡ performed (tuneAnswer by hz) (hopKept t d (p .plan) (tuneAnswer by hz) hz) room (trace os (hopSteps (t .kind) (t .chip .address) (p .plan) by rs) (t .chip)))
+      × (seen ≡ lockTriesIn (trace os (hopSteps (t .kind) (t .chip .address) (p .plan) by rs) (t .chip) .log))
+      → (x ≡ hopResult p hz rs os t d room) × (seen ≡ hopLockTries p hz rs os t d room)
+  unfolding hopResult hopLockTries leftBy
   hop-taken by x seen z e h =
       let zero : refusalWith (sound t && soundDriver d) (hopRefusal p (t .ifreq)) 64 38 (length room) (length os) (length rs) ≡ 0 = sym number ∙ z in (
         h .0
-            ∙ (λ i. performed (wholeOf (e i) hz) (hopKept t d (p .plan) (wholeOf (e i) hz) hz) room (trace os (hopSteps (t .kind) (t .chip .address) (p .plan) (e i) rs) (t .chip)))
+            ∙ (λ i. performed (tuneAnswer (e i) hz) (hopKept t d (p .plan) (tuneAnswer (e i) hz) hz) room (trace os (hopSteps (t .kind) (t .chip .address) (p .plan) (e i) rs) (t .chip)))
             ∙ performs _ _ os _ (t .chip) _ (both t d) room zero,
         h .1
-            ∙ (λ i. seenIn (trace os (hopSteps (t .kind) (t .chip .address) (p .plan) (e i) rs) (t .chip) .log))
+            ∙ (λ i. lockTriesIn (trace os (hopSteps (t .kind) (t .chip .address) (p .plan) (e i) rs) (t .chip) .log))
             ∙ tried _ os _ (t .chip) zero,
       )

@@ -12,8 +12,8 @@ use Rattle.board.specs.declared.Route.{Route}
 use Rattle.board.specs.declared.Route.the-variants.{By, Direct}
 use Rattle.chip.specs.declared.Answer.{Answer}
 use Rattle.chip.specs.declared.Answer.the-variants.{Done, Refused, Stopped}
-use Rattle.chip.specs.declared.Seen.{Seen}
-use Rattle.chip.specs.Calls.{Called, answerOf, seenIn}
+use Rattle.chip.specs.declared.LockTries.{LockTries}
+use Rattle.chip.specs.Calls.{Called, answerOf, lockTriesIn}
 use Rattle.chip.specs.Courses.{Course, askedBy, entriesBy, leftBy}
 use Rattle.chip.specs.Courses.Course.{Taken}
 use Rattle.chip.specs.Steps.{Step, Trace}
@@ -30,7 +30,7 @@ use Rattle.r82xx.specs.declared.Tuner.{Tuner}
 use Rattle.r82xx.specs.Calls.{hzRefusal, planFor}
 use Rattle.r82xx.specs.Orders.{lockKept}
 use Rattle.r82xx.specs.Record.{sound, withNotch}
-use Rattle.tuning.specs.Program.{tuneSteps, wholeOf}
+use Rattle.tuning.specs.Program.{tuneSteps, tuneAnswer}
 
 -- "Here the board path is taken only if the kind is R828D", and where the plan has one
 abbrev pub pathPart : Kind → Route → List ℕ → List Step
@@ -68,20 +68,20 @@ heardBy d hz (Stopped index) = d
 
 -- both records after the steps: the notch is stored before the first of them, so it stays whatever comes
 abbrev pub hopKept : Tuner → Driver → Plan → Answer → ℕ → Trace → Both
-hopKept t d p whole hz tr = both (lockKept (withNotch t (p .notch)) tr) (heardBy d hz (answerOf whole (tr .went)))
+hopKept t d p whole hz tr = both (lockKept (withNotch t (p .notch)) tr) (heardBy d hz (answerOf whole (tr .progress)))
 
 -- the row; the value is the hz asked
 abbrev pub hopRow : Planned → ℕ → List ℕ → Tuner → Driver → Course Both
 hopRow p hz rs t d =
-    Taken (hopRefusal p (t .ifreq)) 64 38 rs (wholeOf (planFor t (p .plan .hz)) hz)
+    Taken (hopRefusal p (t .ifreq)) 64 38 rs (tuneAnswer (planFor t (p .plan .hz)) hz)
     (hopSteps (t .kind) (t .chip .address) (p .plan) (planFor t (p .plan .hz)) rs)
-    (hopKept t d (p .plan) (wholeOf (planFor t (p .plan .hz)) hz) hz)
+    (hopKept t d (p .plan) (tuneAnswer (planFor t (p .plan .hz)) hz) hz)
 
 -- what it leaves, by the table's plan, the outcomes and the room that are lent to it
 unfoldable pub hopResult : Planned → ℕ → List ℕ → List ℕ → Tuner → Driver → List ℕ → Called Both
 hopResult p hz rs os t d room = leftBy (sound t && soundDriver d) (hopRow p hz rs t d) os (t .chip) (both t d) room
 
 -- #101: what it tells of the lock, read off the entries that it makes
-unfoldable pub hopSeen : Planned → ℕ → List ℕ → List ℕ → Tuner → Driver → List ℕ → Seen
-hopSeen p hz rs os t d room =
-    seenIn (entriesBy (askedBy (sound t && soundDriver d) (hopRow p hz rs t d) (length os) (length room)) os (t .chip))
+unfoldable pub hopLockTries : Planned → ℕ → List ℕ → List ℕ → Tuner → Driver → List ℕ → LockTries
+hopLockTries p hz rs os t d room =
+    lockTriesIn (entriesBy (askedBy (sound t && soundDriver d) (hopRow p hz rs t d) (length os) (length room)) os (t .chip))

@@ -4,13 +4,14 @@ ghost use mathlib.Core.Path.{_≡_};
 ghost use mathlib.Core.Bool.{cond};
 ghost use Prim.Native.Nat.{_+_, _*_, _≤_, _<_};
 ghost use lib.ListN.{length};
-ghost use Rattle.chip.specs.Calls.{called, performed, seenIn};
-ghost use Rattle.chip.specs.Entries.{saw};
-ghost use Rattle.chip.specs.Steps.{due, inRoom, onRoom, run, trace};
+ghost use Rattle.chip.specs.Calls.{called, performed, lockTriesIn};
+ghost use Rattle.chip.specs.Entries.{lockTries};
+ghost use Rattle.chip.specs.InCode.{inRoom, onRoom};
+ghost use Rattle.chip.specs.Steps.{closingOwed, run, trace};
 ghost use Rattle.driver.specs.Calls.{both};
-ghost use Rattle.tuning.specs.Program.{dividerNumber, wholeOf};
+ghost use Rattle.tuning.specs.Program.{dividerNumber, tuneAnswer};
 ghost use Rattle.bands.specs.Tables.{planBy};
-ghost use Rattle.boards.specs.Hops.{ddcPart, heardBy, hopKept, hopRefusal, hopResult, hopSeen, hopSteps, pathPart, pathReplies};
+ghost use Rattle.boards.specs.Hops.{ddcPart, heardBy, hopKept, hopRefusal, hopResult, hopLockTries, hopSteps, pathPart, pathReplies};
 use bands::Planned;
 use board::Plan;
 use board::Route;
@@ -41,9 +42,9 @@ fn path_part(
     replies: &[u8],
     room: &mut [u8],
 ) -> Flow
-    requires { ⌜ (3 ≤ length (now replies)) × (f .log .count + 10 + due (f .log .held) ≤ length (now outcomes)) × (16 * (f .log .count + 10 + due (f .log .held)) ≤ length (now room)) ⌝ }
+    requires { ⌜ (3 ≤ length (now replies)) × (f .log .count + 10 + closingOwed (f .log .opened) ≤ length (now outcomes)) × (16 * (f .log .count + 10 + closingOwed (f .log .opened)) ≤ length (now room)) ⌝ }
     ensures { λ r. ⌜ onRoom r (now (room .exit)) ≡ run inRoom (now (outcomes .entry)) (pathPart kind route (now (replies .entry))) (onRoom f (now (room .entry))) ⌝ }
-    ensures bounds { λ r. ⌜ r .log .count + due (r .log .held) ≤ f .log .count + 10 + due (f .log .held) ⌝ }
+    ensures bounds { λ r. ⌜ r .log .count + closingOwed (r .log .opened) ≤ f .log .count + 10 + closingOwed (f .log .opened) ⌝ }
 {
     match kind {
         Kind::R820T => f,
@@ -69,9 +70,9 @@ fn path_replies(kind: Kind, route: Route) -> usize
 
 // The DDC byte, where the PLL has a plan.
 fn ddc_part(f: Flow, plan: Pll, inverted: bool, outcomes: &[u8], room: &mut [u8]) -> Flow
-    requires { ⌜ (f .log .count + 1 + due (f .log .held) ≤ length (now outcomes)) × (16 * (f .log .count + 1 + due (f .log .held)) ≤ length (now room)) ⌝ }
+    requires { ⌜ (f .log .count + 1 + closingOwed (f .log .opened) ≤ length (now outcomes)) × (16 * (f .log .count + 1 + closingOwed (f .log .opened)) ≤ length (now room)) ⌝ }
     ensures { λ r. ⌜ onRoom r (now (room .exit)) ≡ run inRoom (now (outcomes .entry)) (ddcPart plan inverted) (onRoom f (now (room .entry))) ⌝ }
-    ensures bounds { λ r. ⌜ r .log .count + due (r .log .held) ≤ f .log .count + 1 + due (f .log .held) ⌝ }
+    ensures bounds { λ r. ⌜ r .log .count + closingOwed (r .log .opened) ≤ f .log .count + 1 + closingOwed (f .log .opened) ⌝ }
 {
     match plan {
         Pll::Refused => f,
@@ -89,21 +90,21 @@ fn hop_steps(
     replies: &[u8],
     room: &mut [u8],
 ) -> Flow
-    requires { ⌜ (dividerNumber by ≤ 5) × (38 ≤ length (now replies)) × (f .log .count + 64 + due (f .log .held) ≤ length (now outcomes)) × (16 * (f .log .count + 64 + due (f .log .held)) ≤ length (now room)) ⌝ }
+    requires { ⌜ (dividerNumber by ≤ 5) × (38 ≤ length (now replies)) × (f .log .count + 64 + closingOwed (f .log .opened) ≤ length (now outcomes)) × (16 * (f .log .count + 64 + closingOwed (f .log .opened)) ≤ length (now room)) ⌝ }
     ensures { λ r. ⌜ onRoom r (now (room .exit))
         ≡ run inRoom (now (outcomes .entry)) (hopSteps kind (f .chip .address) plan by (now (replies .entry))) (onRoom f (now (room .entry))) ⌝ }
-    ensures bounds { λ r. ⌜ r .log .count + due (r .log .held) ≤ f .log .count + 64 + due (f .log .held) ⌝ }
+    ensures bounds { λ r. ⌜ r .log .count + closingOwed (r .log .opened) ≤ f .log .count + 64 + closingOwed (f .log .opened) ⌝ }
 {
     let route = plan.path;
     let at = path_replies(kind, route);
     let pathed = path_part(f, kind, route, outcomes, replies, room);
-    let tuning = Tuning {
+    let request = Tuning {
         kind: kind,
         notch: plan.notch,
         plan: by,
         hz: plan.hz,
     };
-    let tuned = tuning::tune(pathed, tuning, outcomes, &replies[at..], room);
+    let tuned = tuning::tune(pathed, request, outcomes, &replies[at..], room);
     ddc_part(tuned, by, plan.inverted, outcomes, room)
 }
 
@@ -118,7 +119,7 @@ pub fn hop_refusal(p: Planned, ifreq: u64) -> u8
     r82xx::hz_refusal(plan.hz, ifreq)
 }
 
-// The driver's record behind it.
+// The driver's record after it.
 fn heard(d: Driver, hz: u64, answer: Answer) -> Driver
     ensures { λ r. ⌜ r ≡ heardBy d hz answer ⌝ }
 {
@@ -144,36 +145,36 @@ fn hop(
 ) -> Hopped
     requires { ⌜ (dividerNumber by ≤ 5) × (38 ≤ length (now replies)) × (64 ≤ length (now outcomes)) × (1032 ≤ length (now room)) ⌝ }
     ensures { λ r. ⌜ (called (both (r .tuner) (r .driver)) (now (room .exit)) (r .count) (r .answer)
-        ≡ performed (wholeOf by hz) (hopKept tuner driver plan (wholeOf by hz) hz) (now (room .entry))
+        ≡ performed (tuneAnswer by hz) (hopKept tuner driver plan (tuneAnswer by hz) hz) (now (room .entry))
         (trace (now (outcomes .entry)) (hopSteps (tuner .kind) (tuner .chip .address) plan by (now (replies .entry))) (tuner .chip)))
-        × (saw (r .tries) (r .locked) ≡ seenIn (trace (now (outcomes .entry)) (hopSteps (tuner .kind) (tuner .chip .address) plan by (now (replies .entry))) (tuner .chip) .log)) ⌝ }
+        × (lockTries (r .tries) (r .locked) ≡ lockTriesIn (trace (now (outcomes .entry)) (hopSteps (tuner .kind) (tuner .chip .address) plan by (now (replies .entry))) (tuner .chip) .log)) ⌝ }
 {
     let kind = tuner.kind;
-    let chip = tuner.chip;
+    let chip_state = tuner.chip;
     let start = Flow {
-        chip: chip,
+        chip: chip_state,
         log: chip::START,
     };
     let f = hop_steps(start, kind, plan, by, outcomes, replies, room);
     let answered = chip::finish(f, tuning::whole_answer(by, hz), room);
     let left = f.chip;
     let log = f.log;
-    let seen = log.seen;
+    let lock = log.lock;
     let mut next = tuner;
     next.chip = left;
     next.notch = plan.notch;
-    next.lock = tuning::lock_after(seen, tuner.lock);
+    next.lock = tuning::lock_after(lock, tuner.lock);
     Hopped {
         tuner: next,
         driver: heard(driver, hz, answered),
         answer: answered,
         count: log.count,
-        tries: seen.tries,
-        locked: seen.locked,
+        tries: lock.tries,
+        locked: lock.locked,
     }
 }
 
-// The board-level tune behind its table: whoever has looked at the plan before, to refuse it, works it out once.
+// The board-level tune with the table's plan worked out already: a caller that needed the plan before, to refuse the call, works it out once.
 pub fn tune_planned(
     driver: Driver,
     tuner: Tuner,
@@ -185,7 +186,7 @@ pub fn tune_planned(
 ) -> Hopped
     ensures { λ r. ⌜ (called (both (r .tuner) (r .driver)) (now (room .exit)) (r .count) (r .answer)
         ≡ hopResult planned hz (now (replies .entry)) (now (outcomes .entry)) tuner driver (now (room .entry)))
-        × (saw (r .tries) (r .locked) ≡ hopSeen planned hz (now (replies .entry)) (now (outcomes .entry)) tuner driver (now (room .entry))) ⌝ }
+        × (lockTries (r .tries) (r .locked) ≡ hopLockTries planned hz (now (replies .entry)) (now (outcomes .entry)) tuner driver (now (room .entry))) ⌝ }
 {
     let whole = r82xx::sound(tuner.nominal, tuner.corrected)
         & (1 <= driver::xtal_by(driver.nominal, driver.ppm));
@@ -226,7 +227,7 @@ pub fn tune_board(
 ) -> Hopped
     ensures { λ r. ⌜ (called (both (r .tuner) (r .driver)) (now (room .exit)) (r .count) (r .answer)
         ≡ hopResult (planBy (now (table .entry)) hz) hz (now (replies .entry)) (now (outcomes .entry)) tuner driver (now (room .entry)))
-        × (saw (r .tries) (r .locked) ≡ hopSeen (planBy (now (table .entry)) hz) hz (now (replies .entry)) (now (outcomes .entry)) tuner driver (now (room .entry))) ⌝ }
+        × (lockTries (r .tries) (r .locked) ≡ hopLockTries (planBy (now (table .entry)) hz) hz (now (replies .entry)) (now (outcomes .entry)) tuner driver (now (room .entry))) ⌝ }
 {
     let planned = bands::plan_by_table(table, hz);
     tune_planned(driver, tuner, planned, hz, outcomes, replies, room)

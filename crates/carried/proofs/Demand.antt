@@ -25,7 +25,7 @@ use Rattle.wire.specs.Parts.{part, partsFrom}
 use Rattle.wire.proofs.Joins.{parts-joined}
 use Rattle.chip.specs.declared.Answer.{Answer}
 use Rattle.chip.specs.declared.Answer.the-variants.{Done, Refused, Stopped}
-use Rattle.chip.specs.declared.Went.the-variants.{Going, Refused11}
+use Rattle.chip.specs.declared.Progress.the-variants.{Going, Refused11}
 use Rattle.chip.specs.Calls.{Called, answerOf, callOf, called, indexOf, numberOf, performed}
 use Rattle.device.specs.Calls.{noChip}
 use Rattle.lending.specs.Lent.{lentTo}
@@ -40,21 +40,21 @@ use Rattle.records.specs.Tuners.{tunerBytes, tunerOf, tunerParts, tunerWidths}
 use Rattle.records.specs.declared.TunerRead.{TunerRead}
 use Rattle.records.proofs.Exact.{Ranged, read-written}
 use Rattle.records.proofs.Made.{sized}
-use Rattle.replies.specs.declared.Reply.{Reply}
-use Rattle.replies.specs.Replies.{callReply, replyOf}
+use Rattle.reply.specs.declared.Reply.{Reply}
+use Rattle.reply.specs.Replies.{callReply, replyOf}
 use Rattle.tuners.specs.Still.{freshInto}
 use Rattle.sequences.specs.Asides.{Aside, asideAsked, asideEntries, asideGiven, asideResult}
-use Rattle.sequences.specs.Calls.{Call, after, call, entries, result}
+use Rattle.sequences.specs.Calls.{Call, tunerAfter, call, entries, result}
 use Rattle.sequences.specs.Sequences.{Sequence}
 use Rattle.sequences.specs.Sequences.Sequence.{fresh as first, next as more, between as aside}
 use Rattle.sequences.proofs.Demand as sequence
 use Rattle.sequences.proofs.Failed as eleven
 use Rattle.sequences.proofs.Failed.{nothing-failed}
-use Rattle.history.specs.Histories.{Cut, passable, stops, wentIn}
+use Rattle.history.specs.Histories.{Cut, passable, stops, progressIn}
 use Rattle.chip.specs.Steps.{Step, Trace, every, trace}
 use Rattle.chip.specs.Courses.{leftBy}
 use Rattle.chip.specs.declared.Chip.{Chip}
-use Rattle.chip.specs.declared.Went.{Went}
+use Rattle.chip.specs.declared.Progress.{Progress}
 use Rattle.sequences.specs.Calls.Order.{Tuned}
 use Rattle.r82xx.specs.Orders as tuner
 use Rattle.sequences.proofs.Asides.{aside-stepping}
@@ -174,7 +174,7 @@ next-behind t es s r k h n one l (away z told reply bytes) =
     record { tuner = t; bytes = bytes; ranges = r; sequence = rw (away-entries l n reply, append-nil es) s }
 next-behind t es s r k h n one l (made z told reply room bytes) =
     record {
-      tuner = after k t;
+      tuner = tunerAfter k t;
       bytes = bytes;
       ranges = next-ranged t es s r k h;
       sequence = rw (made-entries t es s r k h l reply room) (more t es s k (typed-given (k .order) t h));
@@ -231,13 +231,13 @@ done-zero : {R : Type 0} (number : ℕ) (os : List ℕ) (ss : List Step) (c : Ch
 unfolding callOf
 done-zero {R} number os ss c keep old room = go (eqb number 0) refl
   where
-    by-went : (w : Went) → numberOf (answerOf (Done 0) w) ≡ 0 → answerOf (Done 0) w ≡ Done 0
-    by-went Going h = refl
-    by-went (Refused11 k) h = absurd (omega arith)
+    by-progress : (w : Progress) → numberOf (answerOf (Done 0) w) ≡ 0 → answerOf (Done 0) w ≡ Done 0
+    by-progress Going h = refl
+    by-progress (Refused11 k) h = absurd (omega arith)
 
     go : (b : Bool) → eqb number 0 ≡ b → numberOf (cond b (performed (Done 0) keep room (trace os ss c)) (called old room 0 (Refused number)) .answer) ≡ 0
         → cond b (performed (Done 0) keep room (trace os ss c)) (called old room 0 (Refused number)) .answer ≡ Done 0
-    go true e h = by-went (trace os ss c .went) h
+    go true e h = by-progress (trace os ss c .progress) h
     go false e h = absurd (eqb-false number 0 e h)
 
 reload-answer : (t : Tuner) (os room : List ℕ) → numberOf (result (call (Tuned Reload) os room) t .answer) ≡ 0 → result (call (Tuned Reload) os room) t .answer ≡ Done 0
@@ -416,10 +416,10 @@ module _ (b : List ℕ) (es : List Entry) (c : Carried b es) where
             )
 
     -- (e) "11 also gives the failing entry's index"
-    pub index-told : reply .refusal ≡ 11 → wentIn (entriesOf k b) ≡ Refused11 (reply .index)
+    pub index-told : reply .refusal ≡ 11 → progressIn (entriesOf k b) ≡ Refused11 (reply .index)
     index-told e =
         let p = stopped e in
-        ap wentIn (p .2) ∙ sequence.index-told t es calls inner (typed-given (inner .order) t h) (reply .index) (p .1)
+        ap progressIn (p .2) ∙ sequence.index-told t es calls inner (typed-given (inner .order) t h) (reply .index) (p .1)
 
   -- what is turned away does not hang on the outcomes: a call that was made is made with other ones
   made-too : (k : Lent) (h : typed (k .exported) ≡ true) → eqb (turned (k .exported) (k .next) t) 0 ≡ true
@@ -460,11 +460,11 @@ module _ (b : List ℕ) (es : List Entry) (c : Carried b es) where
           let all : entriesOf k b ≡ entries (inner k refl) t = made-entries t es calls ranges (inner k refl) refl (leaves k b) same room′ in
           let there : Played (t .chip .address) (es ++ entries (inner k refl) t) before now =
           subst (λ (a : ℕ). Played a (es ++ entries (inner k refl) t) before now) address (subst (λ (l : List Entry). Played (getD b 1 0) (es ++ l) before now) all played) in
-          let r : Ranged (after (inner k refl) t) = next-ranged t es calls ranges (inner k refl) refl in
+          let r : Ranged (tunerAfter (inner k refl) t) = next-ranged t es calls ranges (inner k refl) refl in
           let w = sequence.reload-done t es calls os room answer before now there i l in
           let at : byteIn (getD initArray i 0) (lastIn (t .chip .address) es (5 + i)) ≡ byteIn (getD initArray i 0) (lastIn (getD b 1 0) es (5 + i)) =
           ap (λ (a : ℕ). byteIn (getD initArray i 0) (lastIn a es (5 + i))) (sym address) in (
             w .holds ∙ at,
-            ap (λ (d : List ℕ). getD d (2 + i) 0) bytes ∙ shadow-byte-of (after (inner k refl) t) r i l ∙ w .shadow ∙ at,
-            ap (λ (d : List ℕ). getD d (51 + i) 1) bytes ∙ doubtful-byte-of (after (inner k refl) t) r i l ∙ ap flagByte (w .doubtful),
+            ap (λ (d : List ℕ). getD d (2 + i) 0) bytes ∙ shadow-byte-of (tunerAfter (inner k refl) t) r i l ∙ w .shadow ∙ at,
+            ap (λ (d : List ℕ). getD d (51 + i) 1) bytes ∙ doubtful-byte-of (tunerAfter (inner k refl) t) r i l ∙ ap flagByte (w .doubtful),
           )

@@ -21,8 +21,8 @@ use Rattle.boards.specs.Hops.{heardBy, hopKept, hopResult, hopRow}
 use Rattle.chip.specs.declared.Answer.{Answer}
 use Rattle.chip.specs.declared.Answer.the-variants.{Done, Refused, Stopped}
 use Rattle.chip.specs.declared.Chip.{Chip}
-use Rattle.chip.specs.declared.Went.{Went}
-use Rattle.chip.specs.declared.Went.the-variants.{Going, Refused11}
+use Rattle.chip.specs.declared.Progress.{Progress}
+use Rattle.chip.specs.declared.Progress.the-variants.{Going, Refused11}
 use Rattle.chip.specs.Calls.{Called, answerOf, callOf, called, numberOf, performed, refusalWith}
 use Rattle.chip.specs.Courses.{Course, leftBy, stepsOf}
 use Rattle.chip.specs.Courses.Course.{Still, Taken}
@@ -43,8 +43,8 @@ use Rattle.records.specs.Tuners.{tunerOf}
 use Rattle.records.specs.declared.DriverRead.{DriverRead}
 use Rattle.records.proofs.Driven.{RangedDriver, driver-read}
 use Rattle.records.proofs.Exact.{both as and-both}
-use Rattle.replies.specs.Replies.{replyOf}
-use Rattle.tuning.specs.Program.{wholeOf}
+use Rattle.reply.specs.Replies.{replyOf}
+use Rattle.tuning.specs.Program.{tuneAnswer}
 use Rattle.tuners.specs.Over.{nextOf, unlessRefused}
 use Rattle.drivers.specs.Drivers.{freshInto, bothReady, correctOver, corrects, correctsMade, hopArgument, hopOver, overBoth, rateOver, ratesMade, ratesRefused}
 use Rattle.history.proofs.Fitted.{most-trace}
@@ -94,12 +94,12 @@ true-small : (rate xtal : ℕ) → xtal < 4_294_967_296 → trueOf rate xtal < 1
 unfolding trueOf
 true-small rate xtal h = omega (arith, div-le-self (xtal * 2 ^ 22) (sentOf (ratioOf rate xtal)))
 
-whole-answers : (plan : Pll) (hz : ℕ) → late (wholeOf plan hz) ≡ true
+whole-answers : (plan : Pll) (hz : ℕ) → late (tuneAnswer plan hz) ≡ true
 whole-answers pll.Refused hz = refl
 whole-answers (pll.Planned p) hz = refl
 
 module _ (t : Tuner) (d : Driver) (r : RangedDriver d) where
-  rated-ranged : (rate : ℕ) → rate < 4_294_967_296 → (w : Went) → RangedDriver (ratedBy d rate (xtalOf d) w)
+  rated-ranged : (rate : ℕ) → rate < 4_294_967_296 → (w : Progress) → RangedDriver (ratedBy d rate (xtalOf d) w)
   rated-ranged rate h Going =
       record { nominal = r .nominal; ppm = r .ppm; frequency = r .frequency; rate = h; actual = true-small rate (xtalOf d) (xtal-small (d .nominal) (d .ppm)); right = r .right }
   rated-ranged rate h (Refused11 k) = r
@@ -111,8 +111,8 @@ module _ (t : Tuner) (d : Driver) (r : RangedDriver d) where
 
   pub rate-steady : (rate : ℕ) (p : Planned) → rate < 4_294_967_296 → Steady Heard (both t d) (rateRow rate p t d)
   rate-steady rate p h =
-      stepping _ 17 0 [] (Done 0) _ (λ tr. both (retuned t (ifFor (t .ifreq) rate) (tr .chip)) (ratedBy d rate (xtalOf d) (tr .went))) refl refl
-      (λ tr. rated-ranged rate h (tr .went))
+      stepping _ 17 0 [] (Done 0) _ (λ tr. both (retuned t (ifFor (t .ifreq) rate) (tr .chip)) (ratedBy d rate (xtalOf d) (tr .progress))) refl refl
+      (λ tr. rated-ranged rate h (tr .progress))
 
   pub correction-steady : (ppm : ℤ) → SFits w32 ppm → Steady Heard (both t d) (correctionRow ppm t d)
   correction-steady ppm f = go (leb 1 (xtalBy (t .nominal) ppm)) (leb 1 (xtalBy (d .nominal) ppm)) refl
@@ -127,9 +127,9 @@ module _ (t : Tuner) (d : Driver) (r : RangedDriver d) where
 
   pub hop-steady : (hz : ℕ) (p : Planned) (rs : List ℕ) → hz < 18_446_744_073_709_551_616 → Steady Heard (both t d) (hopRow p hz rs t d)
   hop-steady hz p rs h =
-      stepping _ 64 38 rs (wholeOf (planFor t (p .plan .hz)) hz) _ (hopKept t d (p .plan) (wholeOf (planFor t (p .plan .hz)) hz) hz)
+      stepping _ 64 38 rs (tuneAnswer (planFor t (p .plan .hz)) hz) _ (hopKept t d (p .plan) (tuneAnswer (planFor t (p .plan .hz)) hz) hz)
       (whole-answers (planFor t (p .plan .hz)) hz) (hop-starts (t .kind) (p .plan .path) rs _)
-      (λ tr. heard-ranged hz h (answerOf (wholeOf (planFor t (p .plan .hz)) hz) (tr .went)))
+      (λ tr. heard-ranged hz h (answerOf (tuneAnswer (planFor t (p .plan .hz)) hz) (tr .progress)))
 
 -- ---- what a call on both leaves of the driver's
 

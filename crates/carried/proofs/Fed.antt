@@ -17,7 +17,7 @@ use Rattle.chip.specs.declared.Answer.{Answer}
 use Rattle.chip.specs.declared.Answer.the-variants.{Done, Refused, Stopped}
 use Rattle.chip.specs.Calls.{Called, called}
 use Rattle.chip.specs.Courses.{leftBy}
-use Rattle.chip.specs.Entries.{unseen}
+use Rattle.chip.specs.Entries.{noTries}
 use Rattle.chip.specs.Steps.{every}
 use Rattle.chip.proofs.Laws.{and-left}
 use Rattle.bands.specs.Tables.{planBy}
@@ -31,8 +31,8 @@ use Rattle.r82xx.specs.Record.{sound}
 use Rattle.records.specs.declared.TunerRead.{TunerRead}
 use Rattle.records.specs.Drivers.{driverOf}
 use Rattle.records.specs.Tuners.{tunerBytes, tunerOf}
-use Rattle.replies.specs.Replies.{callReply, replyOf, tunedOf}
-use Rattle.tuners.specs.Over.{After, keptOf, nextOf, overTuner, overTuning}
+use Rattle.reply.specs.Replies.{callReply, replyOf, tunedOf}
+use Rattle.tuners.specs.Over.{After, isWritten, nextOf, overTuner, overTuning}
 use Rattle.records.proofs.Exact.{read-written}
 use Rattle.sequences.specs.Calls.{call, isByte}
 use Rattle.sequences.specs.Calls.Order.{SampleRate, Tuned}
@@ -41,7 +41,7 @@ use Rattle.stream.specs.declared.Command.the-variants.{Frequency, Rate, GainDb,
 use Rattle.stream.specs.Commands.{commandOf}
 use Rattle.stream.specs.Pending.{gathered, isStream, pendingOf, usedBy}
 use Rattle.commands.specs.Over.{Feeds, completedBy, fedOf, feedOver, feeds, noCommand, notRun, runOver, waitingBy}
-use Rattle.commands.specs.Rows.{beside, commandRow, isUnknown, seenBy}
+use Rattle.commands.specs.Rows.{beside, commandRow, isUnknown, lockTriesBy}
 use Rattle.commands.proofs.Runs.{bandwidth-taken, by-correction, by-rate, by-tuner, by-tuning, driver-sound, gain-taken, index-taken, isTaken, left, over-is, rate-is, rated, reload-taken}
 use Rattle.carried.specs.Carried.{Carried}
 use Rattle.carried.specs.Carried.Carried.{next}
@@ -76,7 +76,7 @@ written-stands : (x : Called Tuner) (b : List ℕ) → x .count < 4_294_967_296 
 unfolding nextOf
 written-stands x b few h = go (x .answer) (eqb (x .count) 0) refl h
   where
-    go : (a : Answer) (z : Bool) → eqb (x .count) 0 ≡ z → stands (replyOf a (x .count)) ≡ false → cond (keptOf a (x .count)) (sets b 0 (tunerBytes (x .next))) b ≡ b
+    go : (a : Answer) (z : Bool) → eqb (x .count) 0 ≡ z → stands (replyOf a (x .count)) ≡ false → cond (isWritten a (x .count)) (sets b 0 (tunerBytes (x .next))) b ≡ b
     go (Done v) z e k = absurd (true≢false k)
     go (Refused n) true e k = rw e
     go (Refused n) false e k = absurd (true≢false (sym (stood n (x .count) (eqb n 0) few e) ∙ k))
@@ -87,11 +87,11 @@ written-stands x b few h = go (x .answer) (eqb (x .count) 0) refl h
 taken-there : (x : Called Tuner) (b : List ℕ) → x .count < 4_294_967_296 → length b ≡ 78
     → cond (stands (callReply x)) (take 78 (nextOf tunerBytes (x .answer) (x .count) (x .next) b)) b ≡ nextOf tunerBytes (x .answer) (x .count) (x .next) b
 unfolding nextOf
-taken-there x b few n = go (stands (callReply x)) refl (keptOf (x .answer) (x .count))
+taken-there x b few n = go (stands (callReply x)) refl (isWritten (x .answer) (x .count))
   where
     go : (z : Bool) → stands (callReply x) ≡ z → (y : Bool)
         → cond (stands (callReply x)) (take 78 (nextOf tunerBytes (x .answer) (x .count) (x .next) b)) b ≡ nextOf tunerBytes (x .answer) (x .count) (x .next) b
-    go true e y = rw e (take-all 78 (nextOf tunerBytes (x .answer) (x .count) (x .next) b) (sized (keptOf (x .answer) (x .count))))
+    go true e y = rw e (take-all 78 (nextOf tunerBytes (x .answer) (x .count) (x .next) b) (sized (isWritten (x .answer) (x .count))))
       where
         sized : (y : Bool) → length (cond y (sets b 0 (tunerBytes (x .next))) b) ≤ 78
         sized true = simp length-sets (omega arith)
@@ -138,12 +138,12 @@ module _ (b : List ℕ) (es : List Entry) (c : Carried b es) (table rs os d room
     -- a call of the tuner's table
     own-goes : (x : Command) (o : order.Order)
         → commandRow x table rs (tunerOf b .tuner) (driverOf d .driver) ≡ beside (driverOf d .driver) (order.courseOf o (tunerOf b .tuner))
-        → isUnknown x ≡ false → isTaken (order.courseOf o (tunerOf b .tuner)) ≡ true → seenBy x rs os (tunerOf b .tuner) room ≡ unseen
+        → isUnknown x ≡ false → isTaken (order.courseOf o (tunerOf b .tuner)) ≡ true → lockTriesBy x rs os (tunerOf b .tuner) room ≡ noTries
         → tunerTyped o ≡ true → tunerLeft o os room b b ≡ byAfter (overTuner (order.courseOf o) os b room b) b → Goes es (runOver x table rs os d b room)
     own-goes x o row known taken none h l =
         let a : After = overTuner (order.courseOf o) os b room b in
         let is = over-is table rs os d b room driver-bytes good whole x o row known taken in
-        let run = by-tuner table rs os d b room driver-bytes good whole x o row known taken none x refl b refl (a .answer) (a .room) (a .next) refl (tunedOf (a .answer) unseen) refl in
+        let run = by-tuner table rs os d b room driver-bytes good whole x o row known taken none x refl b refl (a .answer) (a .room) (a .next) refl (tunedOf (a .answer) noTries) refl in
         let there : byAfter a b .bytes ≡ a .next =
         ap (λ (z : After). byAfter z b .bytes) is ∙ taken-there (left table rs os d b room driver-bytes good whole x o row known taken) b (few-of o h) (long b es c) ∙ sym (ap (λ (z : After). z .next) is) in
         subst (Goes es) run
@@ -170,7 +170,7 @@ module _ (b : List ℕ) (es : List Entry) (c : Carried b es) (table rs os d room
         let v = rateOver os rate table d b room d b in
         let is = rate-is table rs os d b room driver-bytes good whole rate in
         let x = rated table rs os d b room driver-bytes good whole rate in
-        let run = by-rate table rs os d b room driver-bytes good whole rate (Rate rate) refl d b refl refl (v .answer) (v .room) (v .driver) (v .tuner) refl (tunedOf (v .answer) unseen) refl in
+        let run = by-rate table rs os d b room driver-bytes good whole rate (Rate rate) refl d b refl refl (v .answer) (v .room) (v .driver) (v .tuner) refl (tunedOf (v .answer) noTries) refl in
         let there : byRates v b .bytes ≡ v .tuner =
         ap (λ (z : Rates). byRates z b .bytes) is ∙ taken-there (tunerOnly x) b (few-rate rate) (long b es c) ∙ sym (ap (λ (z : Rates). z .tuner) is) in
         subst (Goes es) run
@@ -179,17 +179,17 @@ module _ (b : List ℕ) (es : List Entry) (c : Carried b es) (table rs os d room
     correction-goes : (ppm : ℤ) → Goes es (runOver (Correction ppm) table rs os d b room)
     correction-goes ppm =
         let v = correctOver ppm b d in
-        let run = by-correction table rs os d b room driver-bytes good whole ppm (Correction ppm) refl (v .answer) (v .tuner) (v .driver) refl (tunedOf (v .answer) unseen) refl in
+        let run = by-correction table rs os d b room driver-bytes good whole ppm (Correction ppm) refl (v .answer) (v .tuner) (v .driver) refl (tunedOf (v .answer) noTries) refl in
         subst (Goes es) run (next b es c (lent (Correct ppm d) os room b) refl)
 
     -- 1 is told of nothing: the tuner's bytes are a record, and so are the driver's
     own-one : (x : Command) (o : order.Order)
         → commandRow x table rs (tunerOf b .tuner) (driverOf d .driver) ≡ beside (driverOf d .driver) (order.courseOf o (tunerOf b .tuner))
-        → isUnknown x ≡ false → isTaken (order.courseOf o (tunerOf b .tuner)) ≡ true → seenBy x rs os (tunerOf b .tuner) room ≡ unseen
+        → isUnknown x ≡ false → isTaken (order.courseOf o (tunerOf b .tuner)) ≡ true → lockTriesBy x rs os (tunerOf b .tuner) room ≡ noTries
         → tunerTyped o ≡ true → tunerLeft o os room b b ≡ byAfter (overTuner (order.courseOf o) os b room b) b → amiss (Own o) ≡ false → OneNot (runOver x table rs os d b room)
     own-one x o row known taken none h l right =
         let a : After = overTuner (order.courseOf o) os b room b in
-        let run = by-tuner table rs os d b room driver-bytes good whole x o row known taken none x refl b refl (a .answer) (a .room) (a .next) refl (tunedOf (a .answer) unseen) refl in
+        let run = by-tuner table rs os d b room driver-bytes good whole x o row known taken none x refl b refl (a .answer) (a .room) (a .next) refl (tunedOf (a .answer) noTries) refl in
         subst OneNot run (subst (λ (z : Left). eqb (z .reply .refusal) 1 ≡ false) l (refused-one b es c (lent (Own o) os room b) h ∙ right))
 
     tuning-one : (hz : ℕ) → OneNot (runOver (Frequency hz) table rs os d b room)
@@ -202,13 +202,13 @@ module _ (b : List ℕ) (es : List Entry) (c : Carried b es) (table rs os d room
     rate-one : (rate : ℕ) → OneNot (runOver (Rate rate) table rs os d b room)
     rate-one rate =
         let v = rateOver os rate table d b room d b in
-        let run = by-rate table rs os d b room driver-bytes good whole rate (Rate rate) refl d b refl refl (v .answer) (v .room) (v .driver) (v .tuner) refl (tunedOf (v .answer) unseen) refl in
+        let run = by-rate table rs os d b room driver-bytes good whole rate (Rate rate) refl d b refl refl (v .answer) (v .room) (v .driver) (v .tuner) refl (tunedOf (v .answer) noTries) refl in
         subst OneNot run (refused-one b es c (lent (RateOf rate table d d) os room b) refl ∙ rw ok)
 
     correction-one : (ppm : ℤ) → OneNot (runOver (Correction ppm) table rs os d b room)
     correction-one ppm =
         let v = correctOver ppm b d in
-        let run = by-correction table rs os d b room driver-bytes good whole ppm (Correction ppm) refl (v .answer) (v .tuner) (v .driver) refl (tunedOf (v .answer) unseen) refl in
+        let run = by-correction table rs os d b room driver-bytes good whole ppm (Correction ppm) refl (v .answer) (v .tuner) (v .driver) refl (tunedOf (v .answer) noTries) refl in
         subst OneNot run (refused-one b es c (lent (Correct ppm d) os room b) refl ∙ rw ok)
 
     run-one : (x : Command) → OneNot (runOver x table rs os d b room)

@@ -33,15 +33,15 @@ use Rattle.records.specs.Drivers.{driverFits, driverFrom, driverOf, driverWidth
 use Rattle.records.specs.Tuners.{tunerBytes, tunerOf, tunerParts, tunerRead, tunerWidths}
 use Rattle.records.proofs.Exact.{Ranged, both as and-both, read-written}
 use Rattle.records.proofs.Made.{sized}
-use Rattle.replies.specs.Replies.{callReply, replyOf}
+use Rattle.reply.specs.Replies.{callReply, replyOf}
 use Rattle.wire.specs.Parts.{num, partsFrom}
 use Rattle.wire.proofs.Joins.{length-joined}
-use Rattle.tuners.specs.Over.{handed, keptOf, nextOf, overTuner, overTuning, readyOf, refusal, unlessRefused}
+use Rattle.tuners.specs.Over.{handed, isWritten, nextOf, overTuner, overTuning, readyOf, refusal, unlessRefused}
 use Rattle.tuners.specs.Still.{answerOver, changedInto, ofRecord, tableOver}
 use Rattle.drivers.specs.Drivers.{bothReady, correctOver, corrects, correctsMade, hopArgument, overBoth, ratesMade, ratesRefused}
 use Rattle.history.specs.Histories.{stops}
 use Rattle.transcript.specs.declared.Entry.{Entry}
-use Rattle.sequences.specs.Calls.{Call, Order, after, call, result, resultOf, rowOf, soundFor, tunerPart}
+use Rattle.sequences.specs.Calls.{Call, Order, tunerAfter, call, result, resultOf, rowOf, soundFor, tunerPart}
 use Rattle.sequences.specs.Calls.{tunerOf as tunerHalf}
 use Rattle.sequences.specs.Calls.Order.{Tuned, SampleRate, Correction, BoardPath, BoardTune}
 use Rattle.sequences.specs.Sequences.{Sequence}
@@ -86,7 +86,7 @@ stands-some number count n h = go (eqb count 0) refl
         rw (n, same, some)
 
 -- what a host reads off the reply is whether the next record was written
-stands-kept : (a : Answer) (count : ℕ) → plain a ≡ true → count < 4_294_967_296 → stands (replyOf a count) ≡ keptOf a count
+stands-kept : (a : Answer) (count : ℕ) → plain a ≡ true → count < 4_294_967_296 → stands (replyOf a count) ≡ isWritten a count
 stands-kept (Done value) count p h = refl
 stands-kept (Refused number) count p h = stands-some number count (not-true (eqb number 0) p) h
 stands-kept (Stopped index) count p h = stands-some 11 count refl h
@@ -95,19 +95,19 @@ stands-kept (Stopped index) count p h = stands-some 11 count refl h
 module _ {R : Type 0} (P : R → Type 0) (image : R → List ℕ) (n : ℕ) (old : R) (x : Called R) (s : Settled P old x) (long : length (image (x .next)) ≡ n) where
   -- the next record written into a slice of its own
   pub taken-over : (out : List ℕ) → n ≤ length out → x .count < 4_294_967_296
-      → cond (stands (callReply x)) (take n (cond (keptOf (x .answer) (x .count)) (sets out 0 (image (x .next))) out)) (image old) ≡ image (x .next)
-  taken-over out h few = go (keptOf (x .answer) (x .count)) refl
+      → cond (stands (callReply x)) (take n (cond (isWritten (x .answer) (x .count)) (sets out 0 (image (x .next))) out)) (image old) ≡ image (x .next)
+  taken-over out h few = go (isWritten (x .answer) (x .count)) refl
     where
-      go : (b : Bool) → keptOf (x .answer) (x .count) ≡ b
-          → cond (stands (callReply x)) (take n (cond (keptOf (x .answer) (x .count)) (sets out 0 (image (x .next))) out)) (image old) ≡ image (x .next)
+      go : (b : Bool) → isWritten (x .answer) (x .count) ≡ b
+          → cond (stands (callReply x)) (take n (cond (isWritten (x .answer) (x .count)) (sets out 0 (image (x .next))) out)) (image old) ≡ image (x .next)
       go true e = rw (stands-kept (x .answer) (x .count) (s .named) few, e) (found n (image (x .next)) out long h)
       go false e = rw (stands-kept (x .answer) (x .count) (s .named) few, e) (ap image (sym (s .same e)))
 
   -- or over the one that is given
-  pub in-place : length (image old) ≡ n → cond (keptOf (x .answer) (x .count)) (sets (image old) 0 (image (x .next))) (image old) ≡ image (x .next)
-  in-place l = go (keptOf (x .answer) (x .count)) refl
+  pub in-place : length (image old) ≡ n → cond (isWritten (x .answer) (x .count)) (sets (image old) 0 (image (x .next))) (image old) ≡ image (x .next)
+  in-place l = go (isWritten (x .answer) (x .count)) refl
     where
-      go : (b : Bool) → keptOf (x .answer) (x .count) ≡ b → cond (keptOf (x .answer) (x .count)) (sets (image old) 0 (image (x .next))) (image old) ≡ image (x .next)
+      go : (b : Bool) → isWritten (x .answer) (x .count) ≡ b → cond (isWritten (x .answer) (x .count)) (sets (image old) 0 (image (x .next))) (image old) ≡ image (x .next)
       go true e = rw e (covered (image old) (image (x .next)) (long ∙ sym l))
       go false e = rw e (ap image (sym (s .same e)))
 
@@ -138,7 +138,7 @@ pub record Told (number : ℕ) (one eleven : Bool) : Type 0 where
 pub data Passed (t : Tuner) (k : Call) (number : ℕ) (one : Bool) (l : Left) : Type 0 where
   away : eqb number 0 ≡ false → Told number one false → l .reply ≡ replyOf (Refused number) 0 → l .bytes ≡ tunerBytes t → Passed t k number one l
   made : eqb number 0 ≡ true → Told (numberOf (result k t .answer)) one (stops (result k t .answer)) → l .reply ≡ callReply (result k t)
-      → (0 < result k t .count → l .room ≡ result k t .room) → l .bytes ≡ tunerBytes (after k t) → Passed t k number one l
+      → (0 < result k t .count → l .room ≡ result k t .room) → l .bytes ≡ tunerBytes (tunerAfter k t) → Passed t k number one l
 
 -- the number by which a call is turned away, which does not hang on the outcomes
 abbrev slotted : Order → List ℕ → Tuner → ℕ
@@ -176,14 +176,14 @@ module _ (t : Tuner) (es : List Entry) (s : Sequence t es) (r : Ranged t) where
   given-sound = rw (le-leb 1 (t .nominal) (r .known), le-leb 1 (t .corrected) (r .right))
 
   -- the record that a call leaves is in its ranges
-  pub next-ranged : (k : Call) → typedOrder (k .order) ≡ true → Ranged (after k t)
+  pub next-ranged : (k : Call) → typedOrder (k .order) ≡ true → Ranged (tunerAfter k t)
   next-ranged k h = order-ranged t r (k .order) (k .outcomes) (k .room) h
 
   pub few : (k : Call) → typedOrder (k .order) ≡ true → result k t .count < 4_294_967_296
   few k h = omega (arith, count-told t es s k (typed-given (k .order) t h), most-entries k t, row-few (k .order) t)
 
-  long : (k : Call) → typedOrder (k .order) ≡ true → length (tunerBytes (after k t)) ≡ 78
-  long k h = image-long (after k t) (next-ranged k h)
+  long : (k : Call) → typedOrder (k .order) ≡ true → length (tunerBytes (tunerAfter k t)) ≡ 78
+  long k h = image-long (tunerAfter k t) (next-ranged k h)
 
   fixed : (k : Call) → typedOrder (k .order) ≡ true → Settled Fielded t (result k t)
   fixed k h = settled (k .order) (k .outcomes) (k .room) t fields h

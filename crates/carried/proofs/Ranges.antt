@@ -9,10 +9,10 @@ use lib.Dec.{eqb}
 use lib.ListN.{getD, drop, length, replicate, take}
 use lib.Seq.{length-sets}
 use Rattle.chip.specs.declared.Chip.{Chip}
-use Rattle.chip.specs.declared.Went.the-variants.{Going}
+use Rattle.chip.specs.declared.Progress.the-variants.{Going}
 use Rattle.chip.specs.Calls.{Called}
 use Rattle.chip.specs.Chips.{attemptedBy}
-use Rattle.chip.specs.Steps.{Step, Trace, after, line, okFor, trace}
+use Rattle.chip.specs.Steps.{Step, Trace, chipAfter, line, okFor, trace}
 use Rattle.chip.specs.Steps.Step.{Open, Close, Send, Mask, Plain}
 use Rattle.r82xx.specs.declared.Tuner.{Tuner}
 use Rattle.records.proofs.Exact.{Ranged}
@@ -39,7 +39,7 @@ formed-by c n bytes ok f =
       doubtful = length-sets (c .doubtful) (getD bytes 0 0 - 5) (replicate (n - 1) (not ok)) ∙ f .doubtful;
     }
 
-formed-step : (s : Step) (c : Chip) (ok : Bool) → Formed c → Formed (after s c ok)
+formed-step : (s : Step) (c : Chip) (ok : Bool) → Formed c → Formed (chipAfter s c ok)
 formed-step Open c ok f = f
 formed-step Close c ok f = f
 formed-step (Send n bytes) c ok f = formed-by c n bytes ok f

@@ -25,12 +25,12 @@ use Rattle.chip.specs.declared.Answer.{Answer}
 use Rattle.chip.specs.declared.Answer.the-variants.{Done, Refused, Stopped}
 use Rattle.chip.specs.declared.Chip.{Chip}
 use Rattle.chip.specs.declared.Update.{Update}
-use Rattle.chip.specs.declared.Went.{Went}
-use Rattle.chip.specs.declared.Went.the-variants.{Going, Refused11}
-use Rattle.chip.specs.Calls.{Called, answerOf, callOf, called, lentOf, numberOf, performed, refusalWith}
+use Rattle.chip.specs.declared.Progress.{Progress}
+use Rattle.chip.specs.declared.Progress.the-variants.{Going, Refused11}
+use Rattle.chip.specs.Calls.{Called, answerOf, callOf, called, tooShort, numberOf, performed, refusalWith}
 use Rattle.chip.specs.Courses.{Course, argumentOf, leftBy, repliesOf}
 use Rattle.chip.specs.Courses.Course.{Still, Taken}
-use Rattle.chip.specs.Steps.{Step, Trace, acts, behind, every, inList, inner, line, okFor, run, step, taken, trace, updates}
+use Rattle.chip.specs.Steps.{Step, Trace, acts, whileOpen, every, inList, inner, line, okFor, run, step, taken, trace, updates}
 use Rattle.chip.specs.Steps.Step.{Open, Close, Send, Mask, Plain}
 use Rattle.chip.proofs.Laws.{active, and-left}
 use Rattle.device.specs.Accesses.{accessStep}
@@ -41,12 +41,12 @@ use Rattle.pll.specs.declared.Kind.{Kind}
 use Rattle.pll.specs.declared.Kind.the-variants.{R820T, R828D}
 use Rattle.pll.specs.declared.Pll.{Pll}
 use Rattle.pll.specs.declared.Pll.the-variants as pll
-use Rattle.registers.specs.Rates.{holds, ratioOf, rateNumber}
+use Rattle.registers.specs.Rates.{ratioHolds, ratioOf, rateNumber}
 use Rattle.reference.specs.declared.Corrected.{Corrected}
 use Rattle.reference.specs.declared.Corrected.the-variants as corrected
 use Rattle.reference.specs.Correct.{correctedOf}
 use Rattle.reference.proofs.Corrections.{in-range}
-use Rattle.tuning.specs.Program.{wholeOf}
+use Rattle.tuning.specs.Program.{tuneAnswer}
 use Rattle.writes.specs.Lists.{bandwidthUpdates, gainUpdates, ifUpdates, pathUpdates}
 use Rattle.r82xx.specs.declared.Tuner.{Tuner}
 use Rattle.r82xx.specs.Record.{endedBy, withChip, withCorrected, withGain, withIf, withLock, withNotch}
@@ -60,7 +60,7 @@ use Rattle.driver.specs.Calls.{Both, boardRow, both, retuned}
 use Rattle.history.specs.Histories.{stops}
 use Rattle.history.proofs.Runs.{run-log}
 use Rattle.records.proofs.Exact.{Ranged}
-use Rattle.tuners.specs.Over.{keptOf}
+use Rattle.tuners.specs.Over.{isWritten}
 use Rattle.sequences.specs.Calls.{Order, given, isByte, resultOf, rowOf, soundFor, tunerPart}
 use Rattle.sequences.specs.Calls.Order.{Tuned, SampleRate, Correction, BoardPath, BoardTune}
 use Rattle.sequences.proofs.Views.{result-row}
@@ -116,7 +116,7 @@ starts (s ∷ ss) = inner s
 -- what is asked of a row: its answer is no refusal by 0, at rest it changes the record only where it is done, its steps begin, and it keeps the ranges
 -- P, of the tuner's record or of both
 pub data Steady {R : Type 0} (P : R → Type 0) (old : R) : Course R → Type 0 where
-  resting : (next : R) (answer : Answer) → plain answer ≡ true → (keptOf answer 0 ≡ false → next ≡ old) → P next → Steady P old (Still next answer)
+  resting : (next : R) (answer : Answer) → plain answer ≡ true → (isWritten answer 0 ≡ false → next ≡ old) → P next → Steady P old (Still next answer)
   stepping : (argument n m : ℕ) (rs : List ℕ) (whole : Answer) (ss : List Step) (keep : Trace → R) → late whole ≡ true → starts ss ≡ true
       → ((tr : Trace) → P (keep tr)) → Steady P old (Taken argument n m rs whole ss keep)
 
@@ -143,22 +143,22 @@ some-entry os (s ∷ ss) c h =
 -- what a call leaves: no refusal by 0, the record as it was where the next one is not written, and its ranges
 pub record Settled {R : Type 0} (P : R → Type 0) (old : R) (x : Called R) : Type 0 where
   pub named : plain (x .answer) ≡ true
-  pub same : keptOf (x .answer) (x .count) ≡ false → x .next ≡ old
+  pub same : isWritten (x .answer) (x .count) ≡ false → x .next ≡ old
   pub ranges : P (x .next)
 
-kept-some : (a : Answer) (n : ℕ) → 1 ≤ n → keptOf a n ≡ true
+kept-some : (a : Answer) (n : ℕ) → 1 ≤ n → isWritten a n ≡ true
 kept-some (Done value) n h = refl
 kept-some (Refused number) n h = ap not (ne-eqb n 0 (λ e. omega arith))
 kept-some (Stopped index) n h = ap not (ne-eqb n 0 (λ e. omega arith))
 
-late-plain : (whole : Answer) (w : Went) → late whole ≡ true → plain (answerOf whole w) ≡ true
+late-plain : (whole : Answer) (w : Progress) → late whole ≡ true → plain (answerOf whole w) ≡ true
 late-plain (Done value) Going h = refl
 late-plain (Refused number) Going h = ap (λ (n : ℕ). not (eqb n 0)) (eqb-true number 2 h)
 late-plain (Stopped index) Going h = refl
 late-plain whole (Refused11 k) h = refl
 
 module _ {R : Type 0} (P : R → Type 0) (old : R) (f : P old) (c : Chip) (s : Bool) (os room : List ℕ) where
-  at-rest : (next : R) (answer : Answer) → plain answer ≡ true → (keptOf answer 0 ≡ false → next ≡ old) → P next → (b : Bool)
+  at-rest : (next : R) (answer : Answer) → plain answer ≡ true → (isWritten answer 0 ≡ false → next ≡ old) → P next → (b : Bool)
       → Settled P old (cond b (called next room 0 answer) (called old room 0 (Refused 1)))
   at-rest next answer p k g true = record { named = p; same = k; ranges = g }
   at-rest next answer p k g false = record { named = refl; same = λ e. refl; ranges = f }
@@ -168,8 +168,8 @@ module _ {R : Type 0} (P : R → Type 0) (old : R) (f : P old) (c : Chip) (s : B
   in-steps number whole ss keep p n g true e =
       let tr : Trace = trace os ss c in
       record {
-        named = late-plain whole (tr .went) p;
-        same = λ k. absurd (true≢false (sym (kept-some (answerOf whole (tr .went)) (length (tr .log)) (some-entry os ss c n)) ∙ k));
+        named = late-plain whole (tr .progress) p;
+        same = λ k. absurd (true≢false (sym (kept-some (answerOf whole (tr .progress)) (length (tr .log)) (some-entry os ss c n)) ∙ k));
         ranges = g tr;
       }
   in-steps number whole ss keep p n g false e = record { named = ap not e; same = λ k. refl; ranges = f }
@@ -183,8 +183,8 @@ module _ {R : Type 0} (P : R → Type 0) (old : R) (f : P old) (c : Chip) (s : B
 -- a record in its ranges, and an argument that is not refused: then no call is refused 1, and 11 is a step's failing
 module _ (test : ℕ → Bool) (bare : Bare test) where
   -- what was lent too short is refused by 8, 9 or 10
-  lent-number : (n m room os rs : ℕ) → test (lentOf n m room os rs) ≡ false
-  unfolding lentOf
+  lent-number : (n m room os rs : ℕ) → test (tooShort n m room os rs) ≡ false
+  unfolding tooShort
   lent-number n m room os rs = go (ltb room (16 * n + 8)) (ltb os n) (ltb rs m)
     where
       go : (a b c : Bool) → test (cond a 8 (cond b 9 (cond c 10 0))) ≡ false
@@ -193,7 +193,7 @@ module _ (test : ℕ → Bool) (bare : Bare test) where
       go false false true = bare .replies
       go false false false = bare .none
 
-  late-number : (whole : Answer) (w : Went) → late whole ≡ true → test (numberOf (answerOf whole w)) ≡ (stops (answerOf whole w) && test 11)
+  late-number : (whole : Answer) (w : Progress) → late whole ≡ true → test (numberOf (answerOf whole w)) ≡ (stops (answerOf whole w) && test 11)
   late-number (Done value) Going h = bare .none
   late-number (Refused number) Going h = ap test (eqb-true number 2 h) ∙ bare .frequency
   late-number (Stopped index) Going h = refl
@@ -208,7 +208,7 @@ module _ (test : ℕ → Bool) (bare : Bare test) where
     steps-number : (number : ℕ) (whole : Answer) (ss : List Step) (keep : Trace → Tuner) → late whole ≡ true → test number ≡ false → (b : Bool)
         → test (numberOf (cond b (performed whole keep room (trace os ss (t .chip))) (called t room 0 (Refused number)) .answer))
         ≡ (stops (cond b (performed whole keep room (trace os ss (t .chip))) (called t room 0 (Refused number)) .answer) && test 11)
-    steps-number number whole ss keep p n true = late-number whole (trace os ss (t .chip) .went) p
+    steps-number number whole ss keep p n true = late-number whole (trace os ss (t .chip) .progress) p
     steps-number number whole ss keep p n false = n
 
     pub row-number : (row : Course Tuner) → Steady Fielded t row → eqb (argumentOf row) 0 ≡ true
@@ -244,7 +244,7 @@ module _ (t : Tuner) (f : Fielded t) where
   locked : (l n : Bool) (c : Chip) → Fielded (withNotch (withLock (withChip t c) l) n)
   locked l n c = record { nominal = f .nominal; known = f .known; corrected = f .corrected; right = f .right; gain = f .gain; ifreq = f .ifreq }
 
-  ended : (u v : Tuner) → Fielded u → Fielded v → (w : Went) (c : Chip) → Fielded (endedBy u v w c)
+  ended : (u v : Tuner) → Fielded u → Fielded v → (w : Progress) (c : Chip) → Fielded (endedBy u v w c)
   ended u v g h Going c = record { nominal = h .nominal; known = h .known; corrected = h .corrected; right = h .right; gain = h .gain; ifreq = h .ifreq }
   ended u v g h (Refused11 k) c = record { nominal = g .nominal; known = g .known; corrected = g .corrected; right = g .right; gain = g .gain; ifreq = g .ifreq }
 
@@ -259,7 +259,7 @@ module _ (t : Tuner) (f : Fielded t) where
   bracket-steady : (n : ℕ) (us : List Update) (answer : Answer) (cut whole : Tuner) → late answer ≡ true → Fielded cut → Fielded whole → Steady Fielded t (bracket n us answer cut whole)
   unfolding bracket
   bracket-steady n us answer cut whole p g h =
-      stepping 0 (n + 2) 0 [] answer (behind (updates us)) _ p refl (λ tr. ended cut whole g h (tr .went) (tr .chip))
+      stepping 0 (n + 2) 0 [] answer (whileOpen (updates us)) _ p refl (λ tr. ended cut whole g h (tr .progress) (tr .chip))
 
   gain-steady : (k : ℕ) → Steady Fielded t (gainRow k t)
   unfolding gainRow
@@ -275,7 +275,7 @@ module _ (t : Tuner) (f : Fielded t) where
   board-steady path-read.Refused rs = resting t (Refused 1) refl (λ e. refl) f
   board-steady (path-read.Is path) rs = stepping 0 10 3 rs (Done 0) (boardPathSteps (t .kind) path rs) _ refl refl (λ tr. moved (tr .chip))
 
-  pub whole-late : (plan : Pll) (hz : ℕ) → late (wholeOf plan hz) ≡ true
+  pub whole-late : (plan : Pll) (hz : ℕ) → late (tuneAnswer plan hz) ≡ true
   whole-late pll.Refused hz = refl
   whole-late (pll.Planned p) hz = refl
 
@@ -306,7 +306,7 @@ module _ (t : Tuner) (f : Fielded t) where
   steady (Tuned (Gain db)) h = gain-steady (chosenOf db)
   steady (Tuned (GainIndex k)) h = gain-steady (clamped k)
   steady (Tuned (InputPath path)) h = path-steady (pathOf path) (t .kind)
-  steady (Tuned (Tune hz rs)) h = stepping _ 53 35 rs (wholeOf (planFor t hz) hz) _ (lockKept t) (whole-late (planFor t hz) hz) refl (λ tr. locked _ (t .notch) (tr .chip))
+  steady (Tuned (Tune hz rs)) h = stepping _ 53 35 rs (tuneAnswer (planFor t hz) hz) _ (lockKept t) (whole-late (planFor t hz) hz) refl (λ tr. locked _ (t .notch) (tr .chip))
   steady (Tuned (Notch on)) h = resting (withNotch t on) (Done 0) refl (λ e. absurd (true≢false e)) (locked (t .lock) on (t .chip))
   steady (Tuned GainTold) h = resting t _ refl (λ e. refl) f
   steady (Tuned IfTold) h = resting t _ refl (λ e. refl) f
@@ -317,7 +317,7 @@ module _ (t : Tuner) (f : Fielded t) where
       (λ e. leb-true 1 (xtalBy (t .nominal) ppm) (and-left (leb 1 (xtalBy (t .nominal) ppm)) (leb 1 (xtalBy (d .nominal) ppm)) e))
   steady (BoardPath path rs) h = board-steady (pathOf path) rs
   steady (BoardTune hz table rs d) h =
-      stepping _ 64 38 rs (wholeOf (planFor t (planBy table hz .plan .hz)) hz) _ (lockKept (withNotch t (planBy table hz .plan .notch)))
+      stepping _ 64 38 rs (tuneAnswer (planFor t (planBy table hz .plan .hz)) hz) _ (lockKept (withNotch t (planBy table hz .plan .notch)))
       (whole-late (planFor t (planBy table hz .plan .hz)) hz)
       (hop-starts (t .kind) (planBy table hz .plan .path) rs _) (λ tr. locked _ (planBy table hz .plan .notch) (tr .chip))
 
@@ -395,7 +395,7 @@ module _ (test : ℕ → Bool) (bare : Bare test) where
 
   rate-test : (rate xtal : ℕ) → test (rateNumber rate xtal) ≡ false
   unfolding rateNumber
-  rate-test rate xtal = go (eqb rate 0) (eqb xtal 0) (holds (ratioOf rate xtal))
+  rate-test rate xtal = go (eqb rate 0) (eqb xtal 0) (ratioHolds (ratioOf rate xtal))
     where
       go : (a b c : Bool) → test (cond a 3 (cond b 4 (cond c 0 13))) ≡ false
       go true b c = bare .rate

@@ -7,7 +7,7 @@ use native.Mathlib.Omega.{arith}
 use lib.Ieee.{ofBits, toBits}
 use lib.ListN.{getD, replicate, take}
 use Rattle.bands.specs.Tables.{ascending, bandOf, bandsIn, planAt, planBy, planIn, tableOk}
-use Rattle.chip.specs.Calls.{callOf, lentOf, lockedIn, triesIn}
+use Rattle.chip.specs.Calls.{callOf, tooShort, lockedIn, triesIn}
 use Rattle.chip.specs.Chips.{attemptedBy, maskOf}
 use Rattle.chip.specs.Courses.{leftBy}
 use Rattle.chip.specs.Steps.{every, run, step, trace}
@@ -19,12 +19,12 @@ use Rattle.driver.specs.Record.{xtalBy}
 use Rattle.driver.specs.Calls.{rateResult}
 use Rattle.boards.specs.Hops.{hopResult}
 use Rattle.lending.specs.Lent.{lentTo}
-use Rattle.pll.specs.Divide.{firstOf, inVco}
+use Rattle.pll.specs.Divide.{firstMixer, inVco}
 use Rattle.pll.specs.Fraction.{turnOf, turnsOf}
 use Rattle.pll.specs.Plan.{planOf, planWith}
 use Rattle.pll.specs.Setting.{settingOf}
 use Rattle.reference.specs.Correct.{correctedOf}
-use Rattle.registers.specs.Rates.{holds, rateNumber}
+use Rattle.registers.specs.Rates.{ratioHolds, rateNumber}
 use Rattle.r82xx.specs.Record.{madeOf}
 use Rattle.r82xx.specs.Orders.{resultOf}
 use Rattle.r82xx.specs.Orders.Order.{Tune}
@@ -35,9 +35,9 @@ use Rattle.status.specs.Reversal.{reversed}
 use Rattle.tuning.specs.Mux.{lastAt, rangeOf}
 use Rattle.tuning.specs.Program.{innerSteps}
 use Rattle.tuning.specs.Tries.{repairUpdates, replyBytes, triesFrom}
-use Rattle.tuners.specs.Over.{nextOf, overTuner, overTuning, readyOf, seenOver, unlessRefused}
+use Rattle.tuners.specs.Over.{nextOf, overTuner, overTuning, readyOf, lockTriesOver, unlessRefused}
 use Rattle.tuners.specs.Still.{freshInto}
-use Rattle.drivers.specs.Drivers.{bothReady, overBoth, seenBoth}
+use Rattle.drivers.specs.Drivers.{bothReady, overBoth, lockTriesBoth}
 use Rattle.wire.specs.Bytes.{leBytes, leValue}
 use Rattle.wire.specs.Parts.{joined}
 use Rattle.sequences.specs.Asides.{Aside, aside}
@@ -87,18 +87,18 @@ worked-carried =
     (next first _ (between first _ (next new [] (fresh 1 0x74 28_800_000 (replicate 80 0xff) (omega arith) refl) tuning refl) pin refl) rating refl) hopping refl
 
 pub tuned : leaves tuning new .reply .refusal ≡ 0
-unfolding madeOf lentTo tunerBytes joined leBytes overTuning overTuner unlessRefused readyOf tunerOf isTuner tunerFits flagsOnly leValue leftBy callOf lentOf trace run step inVco firstOf settingOf turnOf turnsOf planWith planOf innerSteps repairUpdates triesFrom replyBytes rangeOf lastAt reversed attemptedBy maskOf toBits ofBits
+unfolding madeOf lentTo tunerBytes joined leBytes overTuning overTuner unlessRefused readyOf tunerOf isTuner tunerFits flagsOnly leValue leftBy callOf tooShort trace run step inVco firstMixer settingOf turnOf turnsOf planWith planOf innerSteps repairUpdates triesFrom replyBytes rangeOf lastAt reversed attemptedBy maskOf toBits ofBits
 tuned = refl
 
 pub rated : leaves rating first .reply .refusal ≡ 0
-unfolding madeOf lentTo tunerBytes joined leBytes overTuning overTuner unlessRefused readyOf tunerOf isTuner tunerFits flagsOnly leValue leftBy callOf lentOf trace run step inVco firstOf settingOf turnOf turnsOf planWith planOf innerSteps repairUpdates triesFrom replyBytes rangeOf lastAt reversed attemptedBy maskOf resultOf nextOf seenOver overBoth bothReady driverOf isDriver driverFits driverBytes rateResult xtalBy correctedOf holds rateNumber resetSteps rateSteps ifSteps ddcSteps accessStep planBy tableOk ascending bandsIn planIn triesIn lockedIn toBits ofBits
+unfolding madeOf lentTo tunerBytes joined leBytes overTuning overTuner unlessRefused readyOf tunerOf isTuner tunerFits flagsOnly leValue leftBy callOf tooShort trace run step inVco firstMixer settingOf turnOf turnsOf planWith planOf innerSteps repairUpdates triesFrom replyBytes rangeOf lastAt reversed attemptedBy maskOf resultOf nextOf lockTriesOver overBoth bothReady driverOf isDriver driverFits driverBytes rateResult xtalBy correctedOf ratioHolds rateNumber resetSteps rateSteps ifSteps ddcSteps accessStep planBy tableOk ascending bandsIn planIn triesIn lockedIn toBits ofBits
 rated = refl
 
 -- entry 11 failed, which is no closing, and of the mux's registers 0x17 alone is in doubt
 pub hopped : (leaves hopping second .reply .refusal ≡ 11) × (leaves hopping second .reply .index ≡ 11)
-unfolding madeOf lentTo tunerBytes joined leBytes overTuning overTuner unlessRefused readyOf tunerOf isTuner tunerFits flagsOnly leValue leftBy callOf lentOf trace run step inVco firstOf settingOf turnOf turnsOf planWith planOf innerSteps repairUpdates triesFrom replyBytes rangeOf lastAt reversed attemptedBy maskOf resultOf nextOf seenOver overBoth bothReady driverOf isDriver driverFits driverBytes rateResult xtalBy correctedOf holds rateNumber resetSteps rateSteps ifSteps ddcSteps accessStep planBy tableOk ascending bandsIn planIn triesIn lockedIn hopResult seenBoth bandOf planAt outputSteps bitSteps toBits ofBits
+unfolding madeOf lentTo tunerBytes joined leBytes overTuning overTuner unlessRefused readyOf tunerOf isTuner tunerFits flagsOnly leValue leftBy callOf tooShort trace run step inVco firstMixer settingOf turnOf turnsOf planWith planOf innerSteps repairUpdates triesFrom replyBytes rangeOf lastAt reversed attemptedBy maskOf resultOf nextOf lockTriesOver overBoth bothReady driverOf isDriver driverFits driverBytes rateResult xtalBy correctedOf ratioHolds rateNumber resetSteps rateSteps ifSteps ddcSteps accessStep planBy tableOk ascending bandsIn planIn triesIn lockedIn hopResult lockTriesBoth bandOf planAt outputSteps bitSteps toBits ofBits
 hopped = (refl, refl)
 
 pub doubted : (getD third (51 + 18) 1 ≡ 1) × (getD third (51 + 21) 1 ≡ 0)
-unfolding madeOf lentTo tunerBytes joined leBytes overTuning overTuner unlessRefused readyOf tunerOf isTuner tunerFits flagsOnly leValue leftBy callOf lentOf trace run step inVco firstOf settingOf turnOf turnsOf planWith planOf innerSteps repairUpdates triesFrom replyBytes rangeOf lastAt reversed attemptedBy maskOf resultOf nextOf seenOver overBoth bothReady driverOf isDriver driverFits driverBytes rateResult xtalBy correctedOf holds rateNumber resetSteps rateSteps ifSteps ddcSteps accessStep planBy tableOk ascending bandsIn planIn triesIn lockedIn hopResult seenBoth bandOf planAt outputSteps bitSteps toBits ofBits
+unfolding madeOf lentTo tunerBytes joined leBytes overTuning overTuner unlessRefused readyOf tunerOf isTuner tunerFits flagsOnly leValue leftBy callOf tooShort trace run step inVco firstMixer settingOf turnOf turnsOf planWith planOf innerSteps repairUpdates triesFrom replyBytes rangeOf lastAt reversed attemptedBy maskOf resultOf nextOf lockTriesOver overBoth bothReady driverOf isDriver driverFits driverBytes rateResult xtalBy correctedOf ratioHolds rateNumber resetSteps rateSteps ifSteps ddcSteps accessStep planBy tableOk ascending bandsIn planIn triesIn lockedIn hopResult lockTriesBoth bandOf planAt outputSteps bitSteps toBits ofBits
 doubted = (refl, refl)

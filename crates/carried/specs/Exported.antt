@@ -18,9 +18,9 @@ use Rattle.r82xx.specs.Orders as tuner
 use Rattle.r82xx.specs.Orders.Order.{Initialize, Reload, Bandwidth, IfFreq, Gain, GainIndex, InputPath, Tune, Notch, GainTold, IfTold, TableTold}
 use Rattle.driver.specs.Calls.{boardRow}
 use Rattle.records.specs.Drivers.{driverOf}
-use Rattle.replies.specs.declared.Reply.{Reply}
-use Rattle.replies.specs.declared.TuneReply.{TuneReply}
-use Rattle.replies.specs.Replies.{callReply, replyOf}
+use Rattle.reply.specs.declared.Reply.{Reply}
+use Rattle.reply.specs.declared.TuneReply.{TuneReply}
+use Rattle.reply.specs.Replies.{callReply, replyOf}
 use Rattle.tuners.specs.Over.{After, Tuned as Tunings, overTuner, overTuning}
 use Rattle.tuners.specs.Still.{answerOver, changedInto, tableOver}
 use Rattle.drivers.specs.Drivers.{Corrects, Hops, Rates, correctOver, hopOver, rateOver}

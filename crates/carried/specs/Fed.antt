@@ -3,7 +3,7 @@
 -- Assumes nothing.
 use mathlib.Core.List.{List}
 use Rattle.transcript.specs.declared.Entry.{Entry}
-use Rattle.replies.specs.declared.Reply.{Reply}
+use Rattle.reply.specs.declared.Reply.{Reply}
 use Rattle.commands.specs.declared.FeedReply.{FeedReply}
 use Rattle.commands.specs.Over.{Feeds}
 use Rattle.carried.specs.Exported.{readBy}

@@ -9,11 +9,12 @@ use lib.ListN.{getD, set}
 use lib.Dec.{eqb}
 use Rattle.transcript.specs.declared.Entry.{Entry}
 use Rattle.chip.specs.declared.Chip.{Chip}
-use Rattle.chip.specs.declared.Went.{Went}
-use Rattle.chip.specs.declared.Went.the-variants.{Going, Refused11}
+use Rattle.chip.specs.declared.Progress.{Progress}
+use Rattle.chip.specs.declared.Progress.the-variants.{Going, Refused11}
 use Rattle.chip.specs.Chips.{attemptedBy, maskedByte, pair, withLists}
 use Rattle.chip.specs.Entries.{written}
-use Rattle.chip.specs.Steps.{Step, Line, acts, after, closing, due, emit, every, goes, heldFor, inner, line, okFor, run, step, taken, toldOf, wentFor}
+use Rattle.chip.specs.InCode.{closing}
+use Rattle.chip.specs.Steps.{Step, Line, acts, chipAfter, closingOwed, emit, every, goes, openedFor, inner, line, okFor, run, step, taken, progressOf, progressFor}
 use Rattle.chip.specs.Steps.Step.{Open, Close, Send, Mask, Plain}
 
 pub and-left : (a b : Bool) → (a && b) ≡ true → a ≡ true
@@ -25,15 +26,15 @@ and-right true b h = h
 and-right false b h = cc
 
 -- an open repeater costs one entry, its closing, and a shut one none
-pub due-one : (held : Bool) → due held ≤ 1
-due-one true = omega arith
-due-one false = omega arith
+pub owed-one : (opened : Bool) → closingOwed opened ≤ 1
+owed-one true = omega arith
+owed-one false = omega arith
 
-pub due-held : (held : Bool) → held ≡ true → due held ≡ 1
-due-held held e = ap due e
+pub owed-opened : (opened : Bool) → opened ≡ true → closingOwed opened ≡ 1
+owed-opened opened e = ap closingOwed e
 
 -- no step moves the chip to another address
-pub after-address : (s : Step) (c : Chip) (ok : Bool) → after s c ok .address ≡ c .address
+pub after-address : (s : Step) (c : Chip) (ok : Bool) → chipAfter s c ok .address ≡ c .address
 unfolding attemptedBy
 after-address Open c ok = refl
 after-address Close c ok = refl
@@ -43,38 +44,38 @@ after-address (Plain e) c ok = refl
 
 module _ {L : Type 0} (put : L → ℕ → Entry → L) (os : List ℕ) where
   -- a step that is not taken leaves the line as it was
-  pub idle : (s : Step) (w : Line L) → acts s (w .went) (w .held) ≡ false → w ≡ step put os s w
+  pub idle : (s : Step) (w : Line L) → acts s (w .progress) (w .opened) ≡ false → w ≡ step put os s w
   unfolding step
   idle s w h = rw h
 
   -- a step that is taken
-  pub active : (s : Step) (w : Line L) → acts s (w .went) (w .held) ≡ true → taken put os (okFor os (w .count) s) s w ≡ step put os s w
+  pub active : (s : Step) (w : Line L) → acts s (w .progress) (w .opened) ≡ true → taken put os (okFor os (w .count) s) s w ≡ step put os s w
   unfolding step
   active s w h = rw h
 
   -- the same, where the next record and how it went were worked out apart
-  pub made : (s : Step) (w : Line L) (c : Chip) (u : Went)
-      → c ≡ after s (w .chip) (okFor os (w .count) s)
-      → u ≡ wentFor s (okFor os (w .count) s) (w .count) (w .went)
-      → acts s (w .went) (w .held) ≡ true
-      → line c (put (w .log) (w .count) (emit s (w .chip) (okFor os (w .count) s))) (w .count + 1) u (heldFor s (okFor os (w .count) s) (w .held)) ≡ step put os s w
+  pub made : (s : Step) (w : Line L) (c : Chip) (u : Progress)
+      → c ≡ chipAfter s (w .chip) (okFor os (w .count) s)
+      → u ≡ progressFor s (okFor os (w .count) s) (w .count) (w .progress)
+      → acts s (w .progress) (w .opened) ≡ true
+      → line c (put (w .log) (w .count) (emit s (w .chip) (okFor os (w .count) s))) (w .count + 1) u (openedFor s (okFor os (w .count) s) (w .opened)) ≡ step put os s w
   made s w c u p q h =
-      (λ i. line (p i) (put (w .log) (w .count) (emit s (w .chip) (okFor os (w .count) s))) (w .count + 1) (q i) (heldFor s (okFor os (w .count) s) (w .held)))
+      (λ i. line (p i) (put (w .log) (w .count) (emit s (w .chip) (okFor os (w .count) s))) (w .count + 1) (q i) (openedFor s (okFor os (w .count) s) (w .opened)))
       ∙ active s w h
 
   -- the same for a masked write, whose byte was worked out apart too
-  pub made-mask : (w : Line L) (r v m byte : ℕ) (c : Chip) (u : Went)
+  pub made-mask : (w : Line L) (r v m byte : ℕ) (c : Chip) (u : Progress)
       → byte ≡ maskedByte (w .chip) r v m
       → c ≡ withLists (w .chip) (set (w .chip .shadow) (r - 5) byte) (set (w .chip .doubtful) (r - 5) (not (eqb (getD os (w .count) 0) 0)))
-      → u ≡ toldOf (eqb (getD os (w .count) 0) 0) (w .count)
-      → goes (w .went) ≡ true
-      → line c (put (w .log) (w .count) (written (w .chip .address) 2 (pair r byte) (eqb (getD os (w .count) 0) 0))) (w .count + 1) u (w .held) ≡ step put os (Mask r v m) w
+      → u ≡ progressOf (eqb (getD os (w .count) 0) 0) (w .count)
+      → goes (w .progress) ≡ true
+      → line c (put (w .log) (w .count) (written (w .chip .address) 2 (pair r byte) (eqb (getD os (w .count) 0) 0))) (w .count + 1) u (w .opened) ≡ step put os (Mask r v m) w
   unfolding attemptedBy
   made-mask w r v m byte c u b p q h =
-      (λ i. line (p i) (put (w .log) (w .count) (written (w .chip .address) 2 (pair r byte) (eqb (getD os (w .count) 0) 0))) (w .count + 1) (q i) (w .held))
+      (λ i. line (p i) (put (w .log) (w .count) (written (w .chip .address) 2 (pair r byte) (eqb (getD os (w .count) 0) 0))) (w .count + 1) (q i) (w .opened))
       ∙ (λ i. line (withLists (w .chip) (set (w .chip .shadow) (r - 5) (b i)) (set (w .chip .doubtful) (r - 5) (not (eqb (getD os (w .count) 0) 0))))
       (put (w .log) (w .count) (written (w .chip .address) 2 (pair r (b i)) (eqb (getD os (w .count) 0) 0))) (w .count + 1)
-      (toldOf (eqb (getD os (w .count) 0) 0) (w .count)) (w .held))
+      (progressOf (eqb (getD os (w .count) 0) 0) (w .count)) (w .opened))
       ∙ active (Mask r v m) w h
 
   -- ---- programs one after the other
@@ -105,75 +106,75 @@ module _ {L : Type 0} (put : L → ℕ → Entry → L) (os : List ℕ) where
 
   -- ---- a closing
 
-  pub closing-going : (w : Line L) → goes (w .went) ≡ true → closing put os w ≡ w
+  pub closing-going : (w : Line L) → goes (w .progress) ≡ true → closing put os w ≡ w
   unfolding closing
   closing-going w h = rw h
 
-  pub closing-stopped : (w : Line L) → goes (w .went) ≡ false → closing put os w ≡ step put os Close w
+  pub closing-stopped : (w : Line L) → goes (w .progress) ≡ false → closing put os w ≡ step put os Close w
   unfolding closing
   closing-stopped w h = rw h
 
-  close-held : (w : Line L) → step put os Close w .held ≡ false
-  close-held w = go (w .held) refl
+  close-opened : (w : Line L) → step put os Close w .opened ≡ false
+  close-opened w = go (w .opened) refl
     where
-      go : (h : Bool) → w .held ≡ h → step put os Close w .held ≡ false
-      go true e = sym (ap (λ (x : Line L). x .held) (active Close w e))
-      go false e = sym (ap (λ (x : Line L). x .held) (idle Close w e)) ∙ e
+      go : (h : Bool) → w .opened ≡ h → step put os Close w .opened ≡ false
+      go true e = sym (ap (λ (x : Line L). x .opened) (active Close w e))
+      go false e = sym (ap (λ (x : Line L). x .opened) (idle Close w e)) ∙ e
 
-  pub close-went : (w : Line L) → step put os Close w .went ≡ w .went
-  close-went w = go (w .held) refl
+  pub close-progress : (w : Line L) → step put os Close w .progress ≡ w .progress
+  close-progress w = go (w .opened) refl
     where
-      go : (h : Bool) → w .held ≡ h → step put os Close w .went ≡ w .went
-      go true e = sym (ap (λ (x : Line L). x .went) (active Close w e))
-      go false e = sym (ap (λ (x : Line L). x .went) (idle Close w e))
+      go : (h : Bool) → w .opened ≡ h → step put os Close w .progress ≡ w .progress
+      go true e = sym (ap (λ (x : Line L). x .progress) (active Close w e))
+      go false e = sym (ap (λ (x : Line L). x .progress) (idle Close w e))
 
   -- once closed, a closing does nothing more
   pub close-close : (w : Line L) → step put os Close (step put os Close w) ≡ step put os Close w
-  close-close w = sym (idle Close (step put os Close w) (close-held w))
+  close-close w = sym (idle Close (step put os Close w) (close-opened w))
 
   pub close-closing : (w : Line L) → step put os Close (closing put os w) ≡ step put os Close w
-  close-closing w = go (goes (w .went)) refl
+  close-closing w = go (goes (w .progress)) refl
     where
-      go : (g : Bool) → goes (w .went) ≡ g → step put os Close (closing put os w) ≡ step put os Close w
+      go : (g : Bool) → goes (w .progress) ≡ g → step put os Close (closing put os w) ≡ step put os Close w
       go true e = ap (step put os Close) (closing-going w e)
       go false e = ap (step put os Close) (closing-stopped w e) ∙ close-close w
 
   -- ---- what follows a failing step is not taken
 
-  inner-acts : (s : Step) (went : Went) (held : Bool) → inner s ≡ true → goes went ≡ false → acts s went held ≡ false
-  inner-acts Open went held i h = h
-  inner-acts Close went held i h = cc
-  inner-acts (Send n bytes) went held i h = h
-  inner-acts (Mask r v m) went held i h = h
-  inner-acts (Plain e) went held i h = h
+  inner-acts : (s : Step) (progress : Progress) (opened : Bool) → inner s ≡ true → goes progress ≡ false → acts s progress opened ≡ false
+  inner-acts Open progress opened i h = h
+  inner-acts Close progress opened i h = cc
+  inner-acts (Send n bytes) progress opened i h = h
+  inner-acts (Mask r v m) progress opened i h = h
+  inner-acts (Plain e) progress opened i h = h
 
-  pub idle-run : (ss : List Step) (w : Line L) → every inner ss ≡ true → goes (w .went) ≡ false → w ≡ run put os ss w
+  pub idle-run : (ss : List Step) (w : Line L) → every inner ss ≡ true → goes (w .progress) ≡ false → w ≡ run put os ss w
   unfolding run every
   idle-run [] w i h = refl
   idle-run (s ∷ ss) w i h =
-      let same : w ≡ step put os s w = idle s w (inner-acts s (w .went) (w .held) (and-left (inner s) (every inner ss) i) h) in
+      let same : w ≡ step put os s w = idle s w (inner-acts s (w .progress) (w .opened) (and-left (inner s) (every inner ss) i) h) in
       idle-run ss w (and-right (inner s) (every inner ss) i) h ∙ ap (run put os ss) same
 
   -- a failing step, or a line that came stopped: what is left of the program is not taken, and the repeater is closed
-  pub stop : (rest : List Step) (x y : Line L) → goes (x .went) ≡ false → every inner rest ≡ true → run put os rest x ≡ y → step put os Close x ≡ closing put os y
+  pub stop : (rest : List Step) (x y : Line L) → goes (x .progress) ≡ false → every inner rest ≡ true → run put os rest x ≡ y → step put os Close x ≡ closing put os y
   stop rest x y h i e =
       let same : x ≡ y = idle-run rest x i h ∙ e in
       sym (closing-stopped x h) ∙ ap (closing put os) same
 
   -- steps one after the other, each looked at: a failed one that others follow, one that went, and the last
-  pub cut-here : (s : Step) (rest : List Step) (w x y : Line L) → x ≡ step put os s w → goes (x .went) ≡ false → every inner rest ≡ true
+  pub cut-here : (s : Step) (rest : List Step) (w x y : Line L) → x ≡ step put os s w → goes (x .progress) ≡ false → every inner rest ≡ true
       → y ≡ step put os Close x → y ≡ closing put os (run put os (s ∷ rest) w)
   cut-here s rest w x y p h i q = q ∙ stop rest x (run put os (s ∷ rest) w) h i (one-more s rest w x (run put os rest x) p refl)
 
-  pub went-on : (s : Step) (rest : List Step) (w x y : Line L) → x ≡ step put os s w → y ≡ closing put os (run put os rest x)
+  pub progress-on : (s : Step) (rest : List Step) (w x y : Line L) → x ≡ step put os s w → y ≡ closing put os (run put os rest x)
       → y ≡ closing put os (run put os (s ∷ rest) w)
-  went-on s rest w x y p q = q ∙ ap (closing put os) (one-more s rest w x (run put os rest x) p refl)
+  progress-on s rest w x y p q = q ∙ ap (closing put os) (one-more s rest w x (run put os rest x) p refl)
 
   pub ended-here : (s : Step) (w x y : Line L) → x ≡ step put os s w → y ≡ closing put os x → y ≡ closing put os (run put os (s ∷ []) w)
   ended-here s w x y p q = q ∙ ap (closing put os) (one-last s w x p)
 
   -- a program that went through
-  pub keep : (x y : Line L) → x ≡ y → goes (x .went) ≡ true → x ≡ closing put os y
+  pub keep : (x y : Line L) → x ≡ y → goes (x .progress) ≡ true → x ≡ closing put os y
   keep x y e h = sym (closing-going x h) ∙ ap (closing put os) e
 
   -- a program whose list was worked out apart
@@ -183,14 +184,14 @@ module _ {L : Type 0} (put : L → ℕ → Entry → L) (os : List ℕ) where
   -- two parts behind one open repeater
   pub part : (xs ys : List Step) (w : Line L) → every inner ys ≡ true
       → closing put os (run put os ys (closing put os (run put os xs w))) ≡ closing put os (run put os (xs ++ ys) w)
-  part xs ys w i = go (goes (run put os xs w .went)) refl
+  part xs ys w i = go (goes (run put os xs w .progress)) refl
     where
-      go : (g : Bool) → goes (run put os xs w .went) ≡ g
+      go : (g : Bool) → goes (run put os xs w .progress) ≡ g
           → closing put os (run put os ys (closing put os (run put os xs w))) ≡ closing put os (run put os (xs ++ ys) w)
       go true e = ap (λ (x : Line L). closing put os (run put os ys x)) (closing-going (run put os xs w) e) ∙ ap (closing put os) (sym (run-app xs ys w))
       go false e =
           let x : Line L = run put os xs w in
-          let shut : goes (step put os Close x .went) ≡ false = ap goes (close-went x) ∙ e in
+          let shut : goes (step put os Close x .progress) ≡ false = ap goes (close-progress x) ∙ e in
           ap (λ (v : Line L). closing put os (run put os ys v)) (closing-stopped x e)
           ∙ sym (stop ys (step put os Close x) (run put os ys (step put os Close x)) shut i refl)
           ∙ close-close x
@@ -207,16 +208,16 @@ module _ {L : Type 0} (put : L → ℕ → Entry → L) (os : List ℕ) where
   bracketed ss w x y p q = ap (step put os Close) q ∙ ap (λ (v : Line L). step put os Close (closing put os (run put os ss v))) p ∙ bracket ss w
 
   -- a bracket whose opening failed, or that came stopped: nothing of it is taken but the closing of what is open
-  pub unopened : (ss : List Step) (w x y : Line L) → x ≡ step put os Open w → goes (x .went) ≡ false → every inner ss ≡ true
+  pub unopened : (ss : List Step) (w x y : Line L) → x ≡ step put os Open w → goes (x .progress) ≡ false → every inner ss ≡ true
       → y ≡ step put os Close x → y ≡ run put os (Open ∷ (ss ++ (Close ∷ []))) w
   unopened ss w x y p h i q =
       q ∙ ap (step put os Close) (idle-run ss x i h) ∙ sym (close-closing (run put os ss x)) ∙ bracketed ss w x (closing put os (run put os ss x)) p refl
 
   -- no step moves the chip to another address
   pub step-address : (s : Step) (w : Line L) → step put os s w .chip .address ≡ w .chip .address
-  step-address s w = go (acts s (w .went) (w .held)) refl
+  step-address s w = go (acts s (w .progress) (w .opened)) refl
     where
-      go : (a : Bool) → acts s (w .went) (w .held) ≡ a → step put os s w .chip .address ≡ w .chip .address
+      go : (a : Bool) → acts s (w .progress) (w .opened) ≡ a → step put os s w .chip .address ≡ w .chip .address
       go true e = sym (ap (λ (x : Line L). x .chip .address) (active s w e)) ∙ after-address s (w .chip) (okFor os (w .count) s)
       go false e = sym (ap (λ (x : Line L). x .chip .address) (idle s w e))
 
@@ -230,13 +231,13 @@ module _ {L : Type 0} (put : L → ℕ → Entry → L) (os : List ℕ) where
   by-bytes n xs ys w v e h = h ∙ ap (λ (l : List ℕ). step put os (Send n l) w) e
 
   pub closing-closing : (w : Line L) → closing put os (closing put os w) ≡ closing put os w
-  closing-closing w = go (goes (w .went)) refl
+  closing-closing w = go (goes (w .progress)) refl
     where
-      go : (g : Bool) → goes (w .went) ≡ g → closing put os (closing put os w) ≡ closing put os w
+      go : (g : Bool) → goes (w .progress) ≡ g → closing put os (closing put os w) ≡ closing put os w
       go true e = ap (closing put os) (closing-going w e)
       go false e =
           ap (closing put os) (closing-stopped w e)
-          ∙ closing-stopped (step put os Close w) (ap goes (close-went w) ∙ e)
+          ∙ closing-stopped (step put os Close w) (ap goes (close-progress w) ∙ e)
           ∙ close-close w
           ∙ sym (closing-stopped w e)
 

@@ -14,7 +14,8 @@ use lib.Seq.{drop-cons, getD-take, length-take-le, take-at}
 use Rattle.transcript.specs.declared.Entry.{Entry}
 use Rattle.chip.specs.declared.Update.{Update}
 use Rattle.chip.specs.declared.Updates.{Updates}
-use Rattle.chip.specs.Steps.{Step, Line, allIn, every, filler, inRange, inner, listed, meantOf, padded, run, step, updateStep}
+use Rattle.chip.specs.InCode.{filler, listed, meantOf, padded}
+use Rattle.chip.specs.Steps.{Step, Line, allIn, every, inRange, inner, run, step, updateStep}
 use Rattle.chip.specs.Steps.Step.{Mask}
 use Rattle.chip.proofs.Laws.{and-left, and-right}
 

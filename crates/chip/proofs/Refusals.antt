@@ -5,7 +5,7 @@ use mathlib.Core.Bool.{Bool, true, false, cond}
 use native.Mathlib.Omega.{arith}
 use borrow.Author.Tests.{eqb-false, eqb-true, ltb-false}
 use lib.Dec.{eqb, ltb}
-use Rattle.chip.specs.Calls.{lentOf, refusalWith}
+use Rattle.chip.specs.Calls.{tooShort, refusalWith}
 
 -- lent slices that suffice
 pub record Enough (n m room outcomes replies : ℕ) : Type 0 where
@@ -17,8 +17,8 @@ first-zero : (b : Bool) (a k : ℕ) → 0 < a → cond b a k ≡ 0 → (b ≡ fa
 first-zero true a k h e = absurd (omega arith)
 first-zero false a k h e = (refl, e)
 
-pub enough : (n m room outcomes replies : ℕ) → lentOf n m room outcomes replies ≡ 0 → Enough n m room outcomes replies
-unfolding lentOf
+pub enough : (n m room outcomes replies : ℕ) → tooShort n m room outcomes replies ≡ 0 → Enough n m room outcomes replies
+unfolding tooShort
 enough n m room outcomes replies e =
     let a = first-zero (ltb room (16 * n + 8)) 8 (cond (ltb outcomes n) 9 (cond (ltb replies m) 10 0)) (omega arith) e in
     let b = first-zero (ltb outcomes n) 9 (cond (ltb replies m) 10 0) (omega arith) (a .1) in

@@ -8,25 +8,25 @@ use lib.Dec.{eqb, ltb}
 use lib.ListN.{length}
 use lib.Seq.{sets}
 use Rattle.transcript.specs.declared.Entry.{Entry}
-use Rattle.transcript.specs.Sections.{entriesBytes, sectionBytes, trailerBytes}
+use Rattle.transcript.specs.Sections.{sectionBytes}
 use Rattle.chip.specs.declared.Answer.{Answer}
 use Rattle.chip.specs.declared.Answer.the-variants.{Done, Refused, Stopped}
 use Rattle.chip.specs.declared.Chip.{Chip}
-use Rattle.chip.specs.declared.Seen.{Seen}
-use Rattle.chip.specs.declared.Went.{Went}
-use Rattle.chip.specs.declared.Went.the-variants.{Going, Refused11}
-use Rattle.chip.specs.Entries.{isTry, lockBit, look, saw, unseen}
-use Rattle.chip.specs.Steps.{Step, Line, Logged, Trace, line, logged, trace}
+use Rattle.chip.specs.declared.LockTries.{LockTries}
+use Rattle.chip.specs.declared.Progress.{Progress}
+use Rattle.chip.specs.declared.Progress.the-variants.{Going, Refused11}
+use Rattle.chip.specs.Entries.{isTry, lockBit, lockTries}
+use Rattle.chip.specs.Steps.{Step, Trace, trace}
 
 -- "8 room, 9 outcomes, 10 replies | lent slice too short": for a call of at most n entries and m replies; 0 where all suffice.
 -- "room is 16 bytes for each of its most entries, plus 8"
-unfoldable pub lentOf : ℕ → ℕ → ℕ → ℕ → ℕ → ℕ
-lentOf n m room outcomes replies =
+unfoldable pub tooShort : ℕ → ℕ → ℕ → ℕ → ℕ → ℕ
+tooShort n m room outcomes replies =
     cond (ltb room (16 * n + 8)) 8 (cond (ltb outcomes n) 9 (cond (ltb replies m) 10 0))
 
 -- 1 unless the records given are in their ranges, then an argument's number where it is refused, then 8, 9, 10
 abbrev pub refusalWith : Bool → ℕ → ℕ → ℕ → ℕ → ℕ → ℕ → ℕ
-refusalWith sound argument n m room os rs = cond sound (cond (eqb argument 0) (lentOf n m room os rs) argument) 1
+refusalWith sound argument n m room os rs = cond sound (cond (eqb argument 0) (tooShort n m room os rs) argument) 1
 
 -- document 01's number, value and index of an answer: "A refused call's value is 0; 11 also gives the failing entry's index"
 abbrev pub numberOf : Answer → ℕ
@@ -44,8 +44,8 @@ indexOf (Done value) = 0
 indexOf (Refused number) = 0
 indexOf (Stopped index) = index
 
--- the answer of a call whose steps went so, and which answers `whole` where none failed
-abbrev pub answerOf : Answer → Went → Answer
+-- the answer of a call by how far it has come: `whole` where no step failed
+abbrev pub answerOf : Answer → Progress → Answer
 answerOf whole Going = whole
 answerOf whole (Refused11 k) = Stopped k
 
@@ -62,7 +62,7 @@ called next room count answer = record { next = next; room = room; count = count
 -- steps were taken: "Each call with steps writes its section at the start of the lent room"; "Bytes past the section stay as they were"
 abbrev pub performed : {R : Type 0} → Answer → (Trace → R) → List ℕ → Trace → Called R
 performed whole keep room t =
-    called (keep t) (sets room 0 (sectionBytes (t .log))) (length (t .log)) (answerOf whole (t .went))
+    called (keep t) (sets room 0 (sectionBytes (t .log))) (length (t .log)) (answerOf whole (t .progress))
 
 -- a call refused by a number before any step, or performed
 unfoldable pub callOf : {R : Type 0} → ℕ → Answer → List ℕ → List Step → Chip → (Trace → R) → R → List ℕ → Called R
@@ -73,15 +73,6 @@ callOf number whole os ss c keep old room =
 abbrev pub callEntries : ℕ → List ℕ → List Step → Chip → List Entry
 callEntries number os ss c = cond (eqb number 0) (trace os ss c .log) []
 
--- the room once the trailer stands behind its entries
-abbrev pub sealed : List ℕ → ℕ → List ℕ
-sealed room count = sets room (16 * count) (trailerBytes count)
-
--- what all tries have said, read off the entries
-unfoldable pub seenFrom : Seen → List Entry → Seen
-seenFrom s [] = s
-seenFrom s (e ∷ es) = seenFrom (look s e) es
-
 -- #101: "Tries equal the three-byte reads in the transcript that were done", "and locked means a try read the lock bit"
 unfoldable pub triesIn : List Entry → ℕ
 triesIn [] = 0
@@ -91,10 +82,5 @@ unfoldable pub lockedIn : List Entry → Bool
 lockedIn [] = false
 lockedIn (e ∷ es) = (isTry e && lockBit e) || lockedIn es
 
-abbrev pub seenIn : List Entry → Seen
-seenIn es = saw (triesIn es) (lockedIn es)
-
--- a trace as the code leaves it: its entries laid out in the room
-abbrev pub laidOut : List ℕ → Trace → Line Logged
-laidOut room t =
-    line (t .chip) (logged (sets room 0 (entriesBytes (t .log))) (seenFrom unseen (t .log))) (length (t .log)) (t .went) (t .held)
+abbrev pub lockTriesIn : List Entry → LockTries
+lockTriesIn es = lockTries (triesIn es) (lockedIn es)

@@ -21,14 +21,18 @@ abbrev pub withLists : Chip → List ℕ → List Bool → Chip
 withLists c shadow doubtful = chipOf (c .address) shadow doubtful
 
 -- "A write of n bytes attempts n-1 registers upward from its first byte"; #106: "The shadow and the last attempted bytes are then one and the same
--- list". The bytes after the first are stored, done or not, and doubtful are they if the write failed. Registers count from 0x05.
+-- list". The bytes after the first are stored, done or not, and they are doubtful if the write failed. Registers count from 0x05.
+-- It is right on one condition: the write names registers of the record alone, that is it has 2 to 8 bytes, its first is 0x05 or above, and its last register is
+-- 0x1f or below. Otherwise it would be wrong: below 0x05 the subtraction stops at 0, so that a byte would be stored for 0x05, and past 0x1f `sets` drops bytes that
+-- the chip was sent. `fine` of crates/history/specs/Programs.antt asks this of a step, crates/sequences/proofs/Programs.antt shows it of every call's program, and
+-- that the record follows the chip is claimed of programs of fine steps alone.
 unfoldable pub attemptedBy : Chip → ℕ → List ℕ → Bool → Chip
 attemptedBy c n bytes ok =
     withLists c
     (sets (c .shadow) (getD bytes 0 0 - 5) (take (n - 1) (drop 1 bytes)))
     (sets (c .doubtful) (getD bytes 0 0 - 5) (replicate (n - 1) (not ok)))
 
--- two bytes of data, with the zeros behind them
+-- two bytes of data, with the zeros after them
 abbrev pub pair : ℕ → ℕ → List ℕ
 pair register byte = register ∷ byte ∷ 0 ∷ 0 ∷ 0 ∷ 0 ∷ 0 ∷ 0 ∷ []
 

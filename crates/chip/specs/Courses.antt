@@ -1,4 +1,4 @@
--- A call as data: a row says what it answers without a step, or by which number its argument is refused, what it asks to be lent, what it answers when all
+-- A call as data: a row says its answer without a step, or by which number its argument is refused, what it asks to be lent, its answer when all
 -- is done, its program and the record that it keeps. The methods' contracts, the boundary's order of refusals and demand 3 read the same row.
 -- Document 01, "Transcript and script", "Refusal numbers".
 -- Assumes nothing.

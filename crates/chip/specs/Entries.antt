@@ -1,6 +1,6 @@
 -- The entries that steps make. Document 01, "Transcript and script", the table of kinds.
 -- Assumes nothing.
-use Prim.Native.Nat.{ℕ, _+_, _%_, _^_}
+use Prim.Native.Nat.{ℕ}
 use mathlib.Core.Bool.{Bool, true, false, cond, not, _&&_, _||_}
 use mathlib.Core.List.{List, [], _∷_}
 use lib.Dec.{eqb}
@@ -8,7 +8,7 @@ use lib.ListN.{getD}
 use Rattle.transcript.specs.declared.Entry.{Entry}
 use Rattle.transcript.specs.Entries.{zeros8}
 use Rattle.status.specs.Reversal.{lockedBy}
-use Rattle.chip.specs.declared.Seen.{Seen}
+use Rattle.chip.specs.declared.LockTries.{LockTries}
 
 -- "outcome (0 done, 1 failed)"
 abbrev pub flagOf : Bool → ℕ
@@ -45,8 +45,8 @@ abbrev pub wait : ℕ → Entry
 wait ms = record { kind = 9; outcome = 0; target = 0; n = 0; address = ms; bytes = zeros8 }
 
 -- an entry once it is known how its step went: "zeros if failed" for the two reads
-abbrev pub settled : Entry → Bool → Entry
-settled e ok =
+abbrev pub withOutcome : Entry → Bool → Entry
+withOutcome e ok =
     record {
       kind = e .kind;
       outcome = flagOf ok;
@@ -64,12 +64,8 @@ lockBit e = lockedBy (getD (e .bytes) 2 0)
 abbrev pub isTry : Entry → Bool
 isTry e = eqb (e .kind) 3 && eqb (e .n) 3 && eqb (e .outcome) 0
 
--- what the tries have said, one entry later. The count is kept in 16 bits, which no room's 4,096 entries reach
-unfoldable pub look : Seen → Entry → Seen
-look s e = cond (isTry e) (record { tries = (s .tries + 1) % 2 ^ 16; locked = s .locked || lockBit e }) s
+abbrev pub lockTries : ℕ → Bool → LockTries
+lockTries tries locked = record { tries = tries; locked = locked }
 
-abbrev pub saw : ℕ → Bool → Seen
-saw tries locked = record { tries = tries; locked = locked }
-
-abbrev pub unseen : Seen
-unseen = saw 0 false
+abbrev pub noTries : LockTries
+noTries = lockTries 0 false

@@ -3,3 +3,4 @@ pub mod Entries
 pub mod Steps
 pub mod Calls
 pub mod Courses
+pub mod InCode

@@ -10,9 +10,10 @@ ghost use lib.ListN.{length, getD, take, drop, replicate};
 ghost use lib.Seq.{sets};
 ghost use Rattle.chip.specs.declared.Chip.{Chip};
 ghost use Rattle.chip.specs.Chips.{chipOf, maskOf};
-ghost use Rattle.chip.specs.Entries.{flagOf, look, settled};
-ghost use Rattle.chip.specs.Steps.{due, toldOf, step, run, closing, inRoom, onLog, onRoom, line, logged, masked, listed, meantOf, updates, allIn, inRange, behind, chunkBytes, chunkStep, chunkTable, within, tunerWrite};
-ghost use Rattle.chip.specs.Calls.{lentOf, answerOf, numberOf, refusalWith, sealed, valueOf};
+ghost use Rattle.chip.specs.Entries.{flagOf, withOutcome};
+ghost use Rattle.chip.specs.Steps.{closingOwed, progressOf, step, run, line, masked, updates, allIn, inRange, whileOpen, chunkBytes, chunkStep, chunkTable, within, tunerWrite};
+ghost use Rattle.chip.specs.InCode.{withTry, closing, inRoom, onLog, onRoom, logged, listed, meantOf, sealed};
+ghost use Rattle.chip.specs.Calls.{tooShort, answerOf, numberOf, refusalWith, valueOf};
 ghost use Rattle.chip.specs.Steps.Step.{Open, Close, Send, Mask, Plain};
 use transcript::Entry;
 
@@ -53,56 +54,56 @@ pub struct Update {
     pub mask: u8,
 }
 
-// What fills an array behind the updates that are meant; it is never taken.
+// What fills an array after the updates that are meant; it is never taken.
 pub const FILLER: Update = Update {
     register: 0,
     value: 0,
     mask: 0,
 };
 
-// Updates of registers, the first n of them meant; fillers stand behind them.
+// Updates of registers, the first n of them meant; fillers stand after them.
 pub struct Updates {
     pub list: [Update; 16],
     pub n: usize,
 }
 
-// How the steps have gone: on, or to refusal 11, with the failing step's entry by its index.
-pub enum Went {
+// How far a call has come: no step has failed yet, or it ends with refusal 11, with the index of the failing step's entry.
+pub enum Progress {
     Going,
     Refused11(usize),
 }
 
-// What the done three-byte reads of the status have said. 16 bits hold the count, since a room has 4,096 entries at most, and leave the log little padding, which
-// each copy of it would carry along.
-pub struct Seen {
+// What the done three-byte reads of the status (the tries for a lock) have said: how many there were, and whether one read the lock bit. 16 bits hold the count,
+// since a room has 4,096 entries at most; a wider one would leave padding in the log, which each copy of the log would carry.
+pub struct LockTries {
     pub tries: u16,
     pub locked: bool,
 }
 
-// What is known before any try.
-pub const UNSEEN: Seen = Seen {
+// Before any try.
+pub const NO_TRIES: LockTries = LockTries {
     tries: 0,
     locked: false,
 };
 
-// What is carried from step to step but for the chip: small, so that steps carry the chip nowhere. One that writes a register takes the chip's lists beside
-// it, where they lie.
+// What is carried from step to step beside the chip: how many entries there are, how far the call has come, whether the repeater is open, and what the tries
+// have said. It is small, so that a step is cheap; a step that writes a register also takes the chip's two lists, by reference.
 pub struct Log {
     pub count: usize,
-    pub went: Went,
-    pub held: bool,
-    pub seen: Seen,
+    pub progress: Progress,
+    pub opened: bool,
+    pub lock: LockTries,
 }
 
 // The log of a call that has taken no step yet.
 pub const START: Log = Log {
     count: 0,
-    went: Went::Going,
-    held: false,
-    seen: UNSEEN,
+    progress: Progress::Going,
+    opened: false,
+    lock: NO_TRIES,
 };
 
-// What parts of a call hand on.
+// What one part of a call hands on to the next: the chip and the log.
 pub struct Flow {
     pub chip: Chip,
     pub log: Log,
@@ -127,10 +128,14 @@ fn flag(ok: bool) -> u8
     if ok { 0 } else { 1 }
 }
 
-fn told(ok: bool, k: usize) -> Went
-    ensures { λ r. ⌜ r ≡ toldOf ok k ⌝ }
+fn progress_after(ok: bool, k: usize) -> Progress
+    ensures { λ r. ⌜ r ≡ progressOf ok k ⌝ }
 {
-    if ok { Went::Going } else { Went::Refused11(k) }
+    if ok {
+        Progress::Going
+    } else {
+        Progress::Refused11(k)
+    }
 }
 
 // An update of the bits under a mask.
@@ -170,8 +175,8 @@ pub fn mask_into(old: u8, value: u8, mask: u8) -> u8
 }
 
 // An entry once it is known how its step went.
-fn settle(e: Entry, ok: bool) -> Entry
-    ensures { λ r. ⌜ r ≡ settled e ok ⌝ }
+fn with_outcome(e: Entry, ok: bool) -> Entry
+    ensures { λ r. ⌜ r ≡ withOutcome e ok ⌝ }
 {
     let kind = e.kind;
     let outcome = flag(ok);
@@ -196,11 +201,11 @@ fn settle(e: Entry, ok: bool) -> Entry
     }
 }
 
-fn looked(s: Seen, e: Entry) -> Seen
-    ensures { λ r. ⌜ r ≡ look s e ⌝ }
+fn with_try(s: LockTries, e: Entry) -> LockTries
+    ensures { λ r. ⌜ r ≡ withTry s e ⌝ }
 {
     if (e.kind == transcript::I2C_READ) & (e.n == 3) & (e.outcome == 0) {
-        return Seen {
+        return LockTries {
             tries: std::num::wrapping_add_u16(s.tries, 1),
             locked: s.locked | status::locks(e.bytes[2]),
         };
@@ -208,22 +213,22 @@ fn looked(s: Seen, e: Entry) -> Seen
     s
 }
 
-// A step's entry behind those laid out so far, and what is carried on.
-fn log_entry(l: Log, e: Entry, ok: bool, went: Went, held: bool, room: &mut [u8]) -> Log
+// Writes a step's entry into the room after those that are there, and returns the log with it.
+fn log_entry(l: Log, e: Entry, ok: bool, progress: Progress, opened: bool, room: &mut [u8]) -> Log
     requires { ⌜ 16 * l .count + 16 ≤ length (now room) ⌝ }
     ensures { λ r. ⌜ ((chip : Chip) → onLog chip r (now (room .exit))
-        ≡ line chip (inRoom (logged (now (room .entry)) (l .seen)) (l .count) (settled e ok)) (l .count + 1) went held) ⌝ }
-    ensures bounds { λ r. ⌜ r .count + due (r .held) ≡ l .count + 1 + due held ⌝ }
+        ≡ line chip (inRoom (logged (now (room .entry)) (l .lock)) (l .count) (withOutcome e ok)) (l .count + 1) progress opened) ⌝ }
+    ensures bounds { λ r. ⌜ r .count + closingOwed (r .opened) ≡ l .count + 1 + closingOwed opened ⌝ }
 {
     let k = l.count;
-    let seen = l.seen;
-    let done = settle(e, ok);
+    let lock = l.lock;
+    let done = with_outcome(e, ok);
     done.put(room, 16 * k);
     Log {
         count: k + 1,
-        went: went,
-        held: held,
-        seen: looked(seen, done),
+        progress: progress,
+        opened: opened,
+        lock: with_try(lock, done),
     }
 }
 
@@ -247,10 +252,10 @@ fn attempt(n: usize, bytes: [u8; 8], ok: bool, shadow: &mut [u8; 27], doubtful: 
 pub fn log_open(l: Log, outcomes: &[u8], room: &mut [u8]) -> Log
     requires { ⌜ (l .count < length (now outcomes)) × (16 * l .count + 16 ≤ length (now room)) ⌝ }
     ensures { λ r. ⌜ ((chip : Chip) → onLog chip r (now (room .exit)) ≡ step inRoom (now (outcomes .entry)) Open (onLog chip l (now (room .entry)))) ⌝ }
-    ensures bounds { λ r. ⌜ r .count + due (r .held) ≤ l .count + 2 ⌝ }
+    ensures bounds { λ r. ⌜ r .count + closingOwed (r .opened) ≤ l .count + 2 ⌝ }
 {
-    let went = l.went;
-    let Went::Going = went else {
+    let progress = l.progress;
+    let Progress::Going = progress else {
         return l;
     };
     let k = l.count;
@@ -263,22 +268,22 @@ pub fn log_open(l: Log, outcomes: &[u8], room: &mut [u8]) -> Log
         address: 0,
         bytes: [1, 0, 0, 0, 0, 0, 0, 0],
     };
-    log_entry(l, e, ok, told(ok, k), ok, room)
+    log_entry(l, e, ok, progress_after(ok, k), ok, room)
 }
 
-// "A failed closing is recorded and otherwise ignored": its outcome is told by its entry alone.
+// "A failed closing is recorded and otherwise ignored": its outcome stands in its entry alone.
 pub fn log_close(l: Log, outcomes: &[u8], room: &mut [u8]) -> Log
-    requires { ⌜ (l .count + due (l .held) ≤ length (now outcomes)) × (16 * (l .count + due (l .held)) ≤ length (now room)) ⌝ }
+    requires { ⌜ (l .count + closingOwed (l .opened) ≤ length (now outcomes)) × (16 * (l .count + closingOwed (l .opened)) ≤ length (now room)) ⌝ }
     ensures { λ r. ⌜ ((chip : Chip) → onLog chip r (now (room .exit)) ≡ step inRoom (now (outcomes .entry)) Close (onLog chip l (now (room .entry)))) ⌝ }
-    ensures bounds { λ r. ⌜ r .count + due (r .held) ≤ l .count + due (l .held) ⌝ }
+    ensures bounds { λ r. ⌜ r .count + closingOwed (r .opened) ≤ l .count + closingOwed (l .opened) ⌝ }
 {
-    let held = l.held;
-    if !held {
+    let opened = l.opened;
+    if !opened {
         return l;
     }
     let k = l.count;
     let ok = outcomes[k] == 0;
-    let went = l.went;
+    let progress = l.progress;
     let e = Entry {
         kind: transcript::REPEATER,
         outcome: 0,
@@ -287,23 +292,23 @@ pub fn log_close(l: Log, outcomes: &[u8], room: &mut [u8]) -> Log
         address: 0,
         bytes: [0, 0, 0, 0, 0, 0, 0, 0],
     };
-    log_entry(l, e, ok, went, false, room)
+    log_entry(l, e, ok, progress, false, room)
 }
 
-// The end of a part behind an open repeater: where a step of it failed, the repeater is closed.
+// The end of a part of a call that is run while the repeater is open: where a step of it failed, the repeater is closed.
 pub fn log_end(l: Log, outcomes: &[u8], room: &mut [u8]) -> Log
-    requires { ⌜ (l .count + due (l .held) ≤ length (now outcomes)) × (16 * (l .count + due (l .held)) ≤ length (now room)) ⌝ }
+    requires { ⌜ (l .count + closingOwed (l .opened) ≤ length (now outcomes)) × (16 * (l .count + closingOwed (l .opened)) ≤ length (now room)) ⌝ }
     ensures { λ r. ⌜ ((chip : Chip) → onLog chip r (now (room .exit)) ≡ closing inRoom (now (outcomes .entry)) (onLog chip l (now (room .entry)))) ⌝ }
-    ensures bounds { λ r. ⌜ r .count + due (r .held) ≤ l .count + due (l .held) ⌝ }
+    ensures bounds { λ r. ⌜ r .count + closingOwed (r .opened) ≤ l .count + closingOwed (l .opened) ⌝ }
 {
-    let went = l.went;
-    let Went::Going = went else {
+    let progress = l.progress;
+    let Progress::Going = progress else {
         return log_close(l, outcomes, room);
     };
     l
 }
 
-// `i2c_write_raw` of n bytes, the first of them a register of the record. It and the masked write change the chip's lists where they lie.
+// `i2c_write_raw` of n bytes, the first of them a register of the record. It and the masked write change the chip's lists in place.
 fn send(
     l: Log,
     address: u8,
@@ -319,15 +324,15 @@ fn send(
     ensures { λ r. ⌜ onLog (chipOf address (now (shadow .exit)) (now (doubtful .exit))) r (now (room .exit))
         ≡ step inRoom (now (outcomes .entry)) (Send n bytes)
         (onLog (chipOf address (now (shadow .entry)) (now (doubtful .entry))) l (now (room .entry))) ⌝ }
-    ensures bounds { λ r. ⌜ r .count + due (r .held) ≤ l .count + 1 + due (l .held) ⌝ }
+    ensures bounds { λ r. ⌜ r .count + closingOwed (r .opened) ≤ l .count + 1 + closingOwed (l .opened) ⌝ }
 {
-    let went = l.went;
-    let Went::Going = went else {
+    let progress = l.progress;
+    let Progress::Going = progress else {
         return l;
     };
     let k = l.count;
     let ok = outcomes[k] == 0;
-    let held = l.held;
+    let opened = l.opened;
     let e = Entry {
         kind: transcript::I2C_WRITE,
         outcome: 0,
@@ -337,7 +342,7 @@ fn send(
         bytes: bytes,
     };
     attempt(n as usize, bytes, ok, shadow, doubtful);
-    log_entry(l, e, ok, told(ok, k), held, room)
+    log_entry(l, e, ok, progress_after(ok, k), opened, room)
 }
 
 // `write_reg_mask_raw`: the shadow is stored before the write is tried.
@@ -354,15 +359,15 @@ pub fn write_reg_mask_raw(
     ensures { λ r. ⌜ onLog (chipOf address (now (shadow .exit)) (now (doubtful .exit))) r (now (room .exit))
         ≡ step inRoom (now (outcomes .entry)) (Mask (u .register) (u .value) (u .mask))
         (onLog (chipOf address (now (shadow .entry)) (now (doubtful .entry))) l (now (room .entry))) ⌝ }
-    ensures bounds { λ r. ⌜ r .count + due (r .held) ≤ l .count + 1 + due (l .held) ⌝ }
+    ensures bounds { λ r. ⌜ r .count + closingOwed (r .opened) ≤ l .count + 1 + closingOwed (l .opened) ⌝ }
 {
-    let went = l.went;
-    let Went::Going = went else {
+    let progress = l.progress;
+    let Progress::Going = progress else {
         return l;
     };
     let k = l.count;
     let ok = outcomes[k] == 0;
-    let held = l.held;
+    let opened = l.opened;
     let index = (u.register - REG_SHADOW_START) as usize;
     let byte = mask_into(shadow[index], u.value, u.mask);
     shadow[index] = byte;
@@ -375,26 +380,26 @@ pub fn write_reg_mask_raw(
         address: 0,
         bytes: [u.register, byte, 0, 0, 0, 0, 0, 0],
     };
-    log_entry(l, e, ok, told(ok, k), held, room)
+    log_entry(l, e, ok, progress_after(ok, k), opened, room)
 }
 
 // Any step that leaves the chip's record alone: its entry as it is when the step is done.
 pub fn log_plain(l: Log, e: Entry, outcomes: &[u8], room: &mut [u8]) -> Log
     requires { ⌜ (l .count < length (now outcomes)) × (16 * l .count + 16 ≤ length (now room)) ⌝ }
     ensures { λ r. ⌜ ((chip : Chip) → onLog chip r (now (room .exit)) ≡ step inRoom (now (outcomes .entry)) (Plain e) (onLog chip l (now (room .entry)))) ⌝ }
-    ensures bounds { λ r. ⌜ r .count + due (r .held) ≤ l .count + 1 + due (l .held) ⌝ }
+    ensures bounds { λ r. ⌜ r .count + closingOwed (r .opened) ≤ l .count + 1 + closingOwed (l .opened) ⌝ }
 {
-    let went = l.went;
-    let Went::Going = went else {
+    let progress = l.progress;
+    let Progress::Going = progress else {
         return l;
     };
     let k = l.count;
     let ok = (outcomes[k] == 0) | (e.kind == transcript::WAIT);
-    let held = l.held;
-    log_entry(l, e, ok, told(ok, k), held, room)
+    let opened = l.opened;
+    log_entry(l, e, ok, progress_after(ok, k), opened, room)
 }
 
-// The first n of a list of updates, behind an open repeater.
+// The first n of a list of updates, while the repeater is open.
 pub fn write_list(
     l: Log,
     address: u8,
@@ -405,25 +410,25 @@ pub fn write_list(
     room: &mut [u8],
 ) -> Log
     requires { ⌜ (us .n ≤ 16) × (allIn (meantOf us) ≡ true)
-        × (l .count + us .n + due (l .held) ≤ length (now outcomes)) × (16 * (l .count + us .n + due (l .held)) ≤ length (now room)) ⌝ }
+        × (l .count + us .n + closingOwed (l .opened) ≤ length (now outcomes)) × (16 * (l .count + us .n + closingOwed (l .opened)) ≤ length (now room)) ⌝ }
     ensures { λ r. ⌜ onLog (chipOf address (now (shadow .exit)) (now (doubtful .exit))) r (now (room .exit))
         ≡ closing inRoom (now (outcomes .entry)) (run inRoom (now (outcomes .entry)) (updates (meantOf us))
         (onLog (chipOf address (now (shadow .entry)) (now (doubtful .entry))) l (now (room .entry)))) ⌝ }
-    ensures bounds { λ r. ⌜ r .count + due (r .held) ≤ l .count + us .n + due (l .held) ⌝ }
+    ensures bounds { λ r. ⌜ r .count + closingOwed (r .opened) ≤ l .count + us .n + closingOwed (l .opened) ⌝ }
 {
     let list = us.list;
     let n = us.n;
     let mut l = l;
-    let went = l.went;
-    let Went::Going = went else {
+    let progress = l.progress;
+    let Progress::Going = progress else {
         return log_close(l, outcomes, room);
     };
     let mut i = 0;
     while i < n {
         let u = list[i];
         l = write_reg_mask_raw(l, address, u, shadow, doubtful, outcomes, room);
-        let went = l.went;
-        let Went::Going = went else {
+        let progress = l.progress;
+        let Progress::Going = progress else {
             return log_close(l, outcomes, room);
         };
         i += 1;
@@ -442,11 +447,11 @@ pub fn write_one(
     room: &mut [u8],
 ) -> Log
     requires { ⌜ (inRange u ≡ true)
-        × (l .count + 1 + due (l .held) ≤ length (now outcomes)) × (16 * (l .count + 1 + due (l .held)) ≤ length (now room)) ⌝ }
+        × (l .count + 1 + closingOwed (l .opened) ≤ length (now outcomes)) × (16 * (l .count + 1 + closingOwed (l .opened)) ≤ length (now room)) ⌝ }
     ensures { λ r. ⌜ onLog (chipOf address (now (shadow .exit)) (now (doubtful .exit))) r (now (room .exit))
         ≡ closing inRoom (now (outcomes .entry)) (run inRoom (now (outcomes .entry)) (updates (u ∷ []))
         (onLog (chipOf address (now (shadow .entry)) (now (doubtful .entry))) l (now (room .entry)))) ⌝ }
-    ensures bounds { λ r. ⌜ r .count + due (r .held) ≤ l .count + 1 + due (l .held) ⌝ }
+    ensures bounds { λ r. ⌜ r .count + closingOwed (r .opened) ≤ l .count + 1 + closingOwed (l .opened) ⌝ }
 {
     let written = write_reg_mask_raw(l, address, u, shadow, doubtful, outcomes, room);
     log_end(written, outcomes, room)
@@ -463,15 +468,15 @@ pub fn write_two(
     room: &mut [u8],
 ) -> Log
     requires { ⌜ (inRange u ≡ true) × (inRange v ≡ true)
-        × (l .count + 2 + due (l .held) ≤ length (now outcomes)) × (16 * (l .count + 2 + due (l .held)) ≤ length (now room)) ⌝ }
+        × (l .count + 2 + closingOwed (l .opened) ≤ length (now outcomes)) × (16 * (l .count + 2 + closingOwed (l .opened)) ≤ length (now room)) ⌝ }
     ensures { λ r. ⌜ onLog (chipOf address (now (shadow .exit)) (now (doubtful .exit))) r (now (room .exit))
         ≡ closing inRoom (now (outcomes .entry)) (run inRoom (now (outcomes .entry)) (updates (u ∷ v ∷ []))
         (onLog (chipOf address (now (shadow .entry)) (now (doubtful .entry))) l (now (room .entry)))) ⌝ }
-    ensures bounds { λ r. ⌜ r .count + due (r .held) ≤ l .count + 2 + due (l .held) ⌝ }
+    ensures bounds { λ r. ⌜ r .count + closingOwed (r .opened) ≤ l .count + 2 + closingOwed (l .opened) ⌝ }
 {
     let written = write_reg_mask_raw(l, address, u, shadow, doubtful, outcomes, room);
-    let went = written.went;
-    let Went::Going = went else {
+    let progress = written.progress;
+    let Progress::Going = progress else {
         return log_close(written, outcomes, room);
     };
     write_one(written, address, v, shadow, doubtful, outcomes, room)
@@ -482,13 +487,13 @@ pub fn with_repeater(f: Flow, us: Updates, outcomes: &[u8], room: &mut [u8]) -> 
     requires { ⌜ (us .n ≤ 16) × (allIn (meantOf us) ≡ true)
         × (f .log .count + us .n + 2 ≤ length (now outcomes)) × (16 * (f .log .count + us .n + 2) ≤ length (now room)) ⌝ }
     ensures { λ r. ⌜ onRoom r (now (room .exit))
-        ≡ run inRoom (now (outcomes .entry)) (behind (updates (meantOf us))) (onRoom f (now (room .entry))) ⌝ }
-    ensures bounds { λ r. ⌜ r .log .count + due (r .log .held) ≤ f .log .count + us .n + 2 ⌝ }
+        ≡ run inRoom (now (outcomes .entry)) (whileOpen (updates (meantOf us))) (onRoom f (now (room .entry))) ⌝ }
+    ensures bounds { λ r. ⌜ r .log .count + closingOwed (r .log .opened) ≤ f .log .count + us .n + 2 ⌝ }
 {
     let chip = f.chip;
     let opened = log_open(f.log, outcomes, room);
-    let went = opened.went;
-    let Went::Going = went else {
+    let progress = opened.progress;
+    let Progress::Going = progress else {
         let shut = log_close(opened, outcomes, room);
         return Flow {
             chip: chip,
@@ -543,7 +548,7 @@ fn send_chunk(
     ensures { λ r. ⌜ onLog (chipOf address (now (shadow .exit)) (now (doubtful .exit))) r (now (room .exit))
         ≡ step inRoom (now (outcomes .entry)) (chunkStep bs k)
         (onLog (chipOf address (now (shadow .entry)) (now (doubtful .entry))) l (now (room .entry))) ⌝ }
-    ensures bounds { λ r. ⌜ r .count + due (r .held) ≤ l .count + 1 + due (l .held) ⌝ }
+    ensures bounds { λ r. ⌜ r .count + closingOwed (r .opened) ≤ l .count + 1 + closingOwed (l .opened) ⌝ }
 {
     let at = k.at;
     let size = k.size;
@@ -570,23 +575,23 @@ fn first_chunks(
     outcomes: &[u8],
     room: &mut [u8],
 ) -> Log
-    requires { ⌜ (l .count + 3 + due (l .held) ≤ length (now outcomes)) × (16 * (l .count + 3 + due (l .held)) ≤ length (now room)) ⌝ }
+    requires { ⌜ (l .count + 3 + closingOwed (l .opened) ≤ length (now outcomes)) × (16 * (l .count + 3 + closingOwed (l .opened)) ≤ length (now room)) ⌝ }
     ensures { λ r. ⌜ onLog (chipOf address (now (shadow .exit)) (now (doubtful .exit))) r (now (room .exit))
         ≡ closing inRoom (now (outcomes .entry)) (run inRoom (now (outcomes .entry)) (map (chunkStep bs) (drop 0 (take 3 chunkTable)))
         (onLog (chipOf address (now (shadow .entry)) (now (doubtful .entry))) l (now (room .entry)))) ⌝ }
-    ensures bounds { λ r. ⌜ r .count + due (r .held) ≤ l .count + 3 + due (l .held) ⌝ }
+    ensures bounds { λ r. ⌜ r .count + closingOwed (r .opened) ≤ l .count + 3 + closingOwed (l .opened) ⌝ }
 {
     let one = Chunk { at: 0, size: 7 };
     let two = Chunk { at: 7, size: 7 };
     let three = Chunk { at: 14, size: 2 };
     let first = send_chunk(l, address, bs, one, shadow, doubtful, outcomes, room);
-    let went = first.went;
-    let Went::Going = went else {
+    let progress = first.progress;
+    let Progress::Going = progress else {
         return log_close(first, outcomes, room);
     };
     let second = send_chunk(first, address, bs, two, shadow, doubtful, outcomes, room);
-    let went = second.went;
-    let Went::Going = went else {
+    let progress = second.progress;
+    let Progress::Going = progress else {
         return log_close(second, outcomes, room);
     };
     let third = send_chunk(second, address, bs, three, shadow, doubtful, outcomes, room);
@@ -603,17 +608,17 @@ fn last_chunks(
     outcomes: &[u8],
     room: &mut [u8],
 ) -> Log
-    requires { ⌜ (l .count + 2 + due (l .held) ≤ length (now outcomes)) × (16 * (l .count + 2 + due (l .held)) ≤ length (now room)) ⌝ }
+    requires { ⌜ (l .count + 2 + closingOwed (l .opened) ≤ length (now outcomes)) × (16 * (l .count + 2 + closingOwed (l .opened)) ≤ length (now room)) ⌝ }
     ensures { λ r. ⌜ onLog (chipOf address (now (shadow .exit)) (now (doubtful .exit))) r (now (room .exit))
         ≡ closing inRoom (now (outcomes .entry)) (run inRoom (now (outcomes .entry)) (map (chunkStep bs) (drop 3 (take 5 chunkTable)))
         (onLog (chipOf address (now (shadow .entry)) (now (doubtful .entry))) l (now (room .entry)))) ⌝ }
-    ensures bounds { λ r. ⌜ r .count + due (r .held) ≤ l .count + 2 + due (l .held) ⌝ }
+    ensures bounds { λ r. ⌜ r .count + closingOwed (r .opened) ≤ l .count + 2 + closingOwed (l .opened) ⌝ }
 {
     let four = Chunk { at: 16, size: 7 };
     let five = Chunk { at: 23, size: 4 };
     let first = send_chunk(l, address, bs, four, shadow, doubtful, outcomes, room);
-    let went = first.went;
-    let Went::Going = went else {
+    let progress = first.progress;
+    let Progress::Going = progress else {
         return log_close(first, outcomes, room);
     };
     let second = send_chunk(first, address, bs, five, shadow, doubtful, outcomes, room);
@@ -624,12 +629,12 @@ fn last_chunks(
 pub fn i2c_write_first(f: Flow, bs: [u8; 27], outcomes: &[u8], room: &mut [u8]) -> Flow
     requires { ⌜ (f .log .count + 5 ≤ length (now outcomes)) × (16 * (f .log .count + 5) ≤ length (now room)) ⌝ }
     ensures { λ r. ⌜ onRoom r (now (room .exit)) ≡ run inRoom (now (outcomes .entry)) (tunerWrite bs 0 3) (onRoom f (now (room .entry))) ⌝ }
-    ensures bounds { λ r. ⌜ r .log .count + due (r .log .held) ≤ f .log .count + 5 ⌝ }
+    ensures bounds { λ r. ⌜ r .log .count + closingOwed (r .log .opened) ≤ f .log .count + 5 ⌝ }
 {
     let chip = f.chip;
     let opened = log_open(f.log, outcomes, room);
-    let went = opened.went;
-    let Went::Going = went else {
+    let progress = opened.progress;
+    let Progress::Going = progress else {
         let shut = log_close(opened, outcomes, room);
         return Flow {
             chip: chip,
@@ -663,12 +668,12 @@ pub fn i2c_write_first(f: Flow, bs: [u8; 27], outcomes: &[u8], room: &mut [u8]) 
 pub fn i2c_write_last(f: Flow, bs: [u8; 27], outcomes: &[u8], room: &mut [u8]) -> Flow
     requires { ⌜ (f .log .count + 4 ≤ length (now outcomes)) × (16 * (f .log .count + 4) ≤ length (now room)) ⌝ }
     ensures { λ r. ⌜ onRoom r (now (room .exit)) ≡ run inRoom (now (outcomes .entry)) (tunerWrite bs 3 5) (onRoom f (now (room .entry))) ⌝ }
-    ensures bounds { λ r. ⌜ r .log .count + due (r .log .held) ≤ f .log .count + 4 ⌝ }
+    ensures bounds { λ r. ⌜ r .log .count + closingOwed (r .log .opened) ≤ f .log .count + 4 ⌝ }
 {
     let chip = f.chip;
     let opened = log_open(f.log, outcomes, room);
-    let went = opened.went;
-    let Went::Going = went else {
+    let progress = opened.progress;
+    let Progress::Going = progress else {
         let shut = log_close(opened, outcomes, room);
         return Flow {
             chip: chip,
@@ -699,9 +704,9 @@ pub fn i2c_write_last(f: Flow, bs: [u8; 27], outcomes: &[u8], room: &mut [u8]) -
 }
 
 // Which lent slice is too short for a call of at most n entries and m replies: 8, 9, 10, or 0 where all suffice.
-pub fn lent(n: usize, m: usize, room: usize, outcomes: usize, replies: usize) -> u8
+pub fn too_short(n: usize, m: usize, room: usize, outcomes: usize, replies: usize) -> u8
     requires { ⌜ n ≤ 4096 ⌝ }
-    ensures { λ r. ⌜ r ≡ lentOf n m room outcomes replies ⌝ }
+    ensures { λ r. ⌜ r ≡ tooShort n m room outcomes replies ⌝ }
 {
     if room < 16 * n + 8 {
         return ROOM;
@@ -715,7 +720,7 @@ pub fn lent(n: usize, m: usize, room: usize, outcomes: usize, replies: usize) ->
     0
 }
 
-// 1 unless the records given are whole, then an argument's number, 0 for none, then 8, 9, 10; 0 where none is given.
+// 1 unless the records given are whole, then an argument's number, 0 for none, then 8, 9, 10; 0 where nothing is refused.
 pub fn refusal(
     whole: bool,
     argument: u8,
@@ -734,7 +739,7 @@ pub fn refusal(
     if argument != 0 {
         return argument;
     }
-    lent(n, m, room, outcomes, replies)
+    too_short(n, m, room, outcomes, replies)
 }
 
 // The number of an answer's refusal, 0 for none, and its value.
@@ -758,17 +763,17 @@ pub fn value_of(answer: Answer) -> u64
     }
 }
 
-// The trailer, and the answer: what the call answers where no step failed, else refusal 11 with the index.
+// Writes the trailer, and returns the answer: `whole` where no step failed, else refusal 11 with the index.
 pub fn finish(f: Flow, whole: Answer, room: &mut [u8]) -> Answer
     requires { ⌜ (f .log .count ≤ 4096) × (16 * f .log .count + 8 ≤ length (now room)) ⌝ }
-    ensures { λ r. ⌜ (r ≡ answerOf whole (f .log .went)) × (now (room .exit) ≡ sealed (now (room .entry)) (f .log .count)) ⌝ }
+    ensures { λ r. ⌜ (r ≡ answerOf whole (f .log .progress)) × (now (room .exit) ≡ sealed (now (room .entry)) (f .log .count)) ⌝ }
 {
     let log = f.log;
     let count = log.count;
-    let went = log.went;
+    let progress = log.progress;
     transcript::seal(room, count);
-    match went {
-        Went::Going => whole,
-        Went::Refused11(k) => Answer::Stopped(k),
+    match progress {
+        Progress::Going => whole,
+        Progress::Refused11(index) => Answer::Stopped(index),
     }
 }

@@ -16,14 +16,14 @@ use Rattle.stream.specs.Pending.{gathered, isStream, pendingOf, streamBytes, us
 use Rattle.stream.proofs.Cuts.{Counted, counted, feed-append, host-loop, left-over, still-less}
 use Rattle.stream.proofs.Images.{back, kept}
 use Rattle.commands.specs.Over.{Feeds, completedBy, feedOver, gottenOver, runOver, waitingBy}
-use Rattle.commands.specs.Lines.{Lends, Line, Records, Told, afterCall, execBy, feedsOf, hostCalls, hostFeeds, lineOf}
+use Rattle.commands.specs.Lines.{Lends, Line, Records, CommandResult, afterCall, execBy, feedsOf, hostCalls, hostFeeds, lineOf}
 
 module _ (table : List ℕ) (lends : ℕ → Lends) where
-  abbrev exec : ℕ → List ℕ → Records → Ran Records Told
+  abbrev exec : ℕ → List ℕ → Records → Ran Records CommandResult
   exec = execBy table lends
 
   -- the exported call on the bytes of a stream that waits so
-  call-by : (chunk : List ℕ) (w : Fed Records Told) → length (w .pending) ≤ 8
+  call-by : (chunk : List ℕ) (w : Fed Records CommandResult) → length (w .pending) ≤ 8
       → feedsOf table lends chunk (lineOf w)
       ≡ gottenOver (usedBy (w .pending) chunk) (gathered (w .pending) chunk) table (lends (w .number) .replies) (lends (w .number) .outcomes) (w .state .driver) (w .state .tuner) (lends (w .number) .room)
   unfolding feedOver
@@ -32,7 +32,7 @@ module _ (table : List ℕ) (lends : ℕ → Lends) where
       (ap (λ (p : List ℕ). gottenOver (usedBy p chunk) (gathered p chunk) table (lends (w .number) .replies) (lends (w .number) .outcomes) (w .state .driver) (w .state .tuner) (lends (w .number) .room)) (back (w .pending)))
 
   -- one call leaves the line as one call of the definition does, and uses as much of the chunk
-  same-call : (chunk : List ℕ) (w : Fed Records Told) → length (w .pending) ≤ 8
+  same-call : (chunk : List ℕ) (w : Fed Records CommandResult) → length (w .pending) ≤ 8
       → (afterCall (feedsOf table lends chunk (lineOf w)) (lineOf w) ≡ lineOf (callOnce exec chunk w)) × (feedsOf table lends chunk (lineOf w) .answer .used ≡ usedBy (w .pending) chunk)
   unfolding callOnce execBy
   same-call chunk w h = (
@@ -60,7 +60,7 @@ module _ (table : List ℕ) (lends : ℕ → Lends) where
       go false = (ap (λ (n : ℕ). record { stream = streamBytes bytes; records = w .state; number = n; told = w .told }) (add-zero (w .number)), refl)
 
   -- "Feeding the stream in any cuts": one chunk, by as many calls as it takes
-  pub one-chunk : (turns : ℕ) (chunk : List ℕ) (w : Fed Records Told) → length (w .pending) ≤ 8 → hostCalls table lends turns chunk (lineOf w) ≡ lineOf (calls exec turns chunk w)
+  pub one-chunk : (turns : ℕ) (chunk : List ℕ) (w : Fed Records CommandResult) → length (w .pending) ≤ 8 → hostCalls table lends turns chunk (lineOf w) ≡ lineOf (calls exec turns chunk w)
   unfolding hostCalls calls
   one-chunk zero chunk w h = refl
   one-chunk (suc turns) chunk w h =
@@ -78,7 +78,7 @@ module _ (table : List ℕ) (lends : ℕ → Lends) where
       go false e = e
 
   -- the host's loop, chunk by chunk, is the feeding of all bytes end to end
-  pub any-cuts : (cs : List (List ℕ)) (w : Fed Records Told) → length (w .pending) ≤ 8 → hostFeeds table lends cs (lineOf w) ≡ lineOf (feed exec (joined cs) w)
+  pub any-cuts : (cs : List (List ℕ)) (w : Fed Records CommandResult) → length (w .pending) ≤ 8 → hostFeeds table lends cs (lineOf w) ≡ lineOf (feed exec (joined cs) w)
   unfolding hostFeeds joined feed
   any-cuts [] w h = refl
   any-cuts (c ∷ cs) w h =
@@ -89,5 +89,5 @@ module _ (table : List ℕ) (lends : ℕ → Lends) where
       ∙ ap lineOf (sym (feed-append exec c (joined cs) w))
 
   -- so any two ways to cut the same bytes leave the same stream, records, answers and transcripts
-  pub cuts-agree : (cs ds : List (List ℕ)) (w : Fed Records Told) → length (w .pending) ≤ 8 → joined cs ≡ joined ds → hostFeeds table lends cs (lineOf w) ≡ hostFeeds table lends ds (lineOf w)
+  pub cuts-agree : (cs ds : List (List ℕ)) (w : Fed Records CommandResult) → length (w .pending) ≤ 8 → joined cs ≡ joined ds → hostFeeds table lends cs (lineOf w) ≡ hostFeeds table lends ds (lineOf w)
   cuts-agree cs ds w h e = any-cuts cs w h ∙ ap (λ (bs : List ℕ). lineOf (feed exec bs w)) e ∙ sym (any-cuts ds w h)

@@ -15,12 +15,13 @@ use Rattle.records.specs.declared.DriverRead.{DriverRead}
 use Rattle.records.specs.declared.TunerRead.{TunerRead}
 use Rattle.records.specs.Drivers.{driverOf}
 use Rattle.records.specs.Tuners.{tunerOf}
-use Rattle.replies.specs.declared.TuneReply.{TuneReply}
+use Rattle.reply.specs.declared.TuneReply.{TuneReply}
 use Rattle.records.proofs.Turns.{sets-whole}
 use Rattle.stream.specs.declared.Command.{Command}
 use Rattle.stream.specs.declared.Gathered.{Gathered}
 use Rattle.stream.specs.Commands.{commandOf}
-use Rattle.stream.specs.Pending.{gathered, gatheredBy, gatheredOf, heldIn, imageOf, isStream, padded, pendingOf, streamBytes, usedBy}
+use Rattle.stream.specs.InCode.{gatheredBy, gatheredOf, pendingCount, streamAfter}
+use Rattle.stream.specs.Pending.{gathered, isStream, zeroPadded, pendingOf, streamBytes, usedBy}
 use Rattle.stream.proofs.Laws.{is-none, is-one, stream-held, stream-length}
 use Rattle.commands.specs.declared.FeedReply.{FeedReply}
 use Rattle.commands.specs.Over.{feedOver, feeds, fedOf, noCommand, pendingAnswer, runOver}
@@ -73,31 +74,31 @@ gathered-most p chunk h = go (leb (9 - length p) (length chunk)) refl
     go true e = simp (length-append, length-take) (omega arith)
     go false e = simp (length-append, length-take) (omega (arith, leb-false (9 - length p) (length chunk) e))
 
-pub padded-cut : (bs : List ℕ) → length bs ≤ 8 → take 8 (padded 9 bs) ≡ padded 8 bs
+pub padded-cut : (bs : List ℕ) → length bs ≤ 8 → take 8 (zeroPadded 9 bs) ≡ zeroPadded 8 bs
 padded-cut bs h =
-    let size : length (padded 8 bs) ≡ 8 = simp (length-append, length-replicate) (omega arith) in
+    let size : length (zeroPadded 8 bs) ≡ 8 = simp (length-append, length-replicate) (omega arith) in
     let one : 9 - length bs ≡ 8 - length bs + 1 = omega arith in
     ap (λ (n : ℕ). take 8 (bs ++ replicate n 0)) one
     ∙ ap (λ (xs : List ℕ). take 8 (bs ++ xs)) (last-zero (8 - length bs))
     ∙ ap (take 8) (sym (append-assoc bs (replicate (8 - length bs) 0) (0 ∷ [])))
-    ∙ take-at (padded 8 bs) (0 ∷ []) 8 size
+    ∙ take-at (zeroPadded 8 bs) (0 ∷ []) 8 size
   where
     last-zero : (n : ℕ) → replicate {A = ℕ} (n + 1) 0 ≡ replicate n 0 ++ (0 ∷ [])
     last-zero zero = refl
     last-zero (suc n) = let e : suc n + 1 ≡ suc (n + 1) = omega arith in ap (λ (m : ℕ). replicate m 0) e ∙ ap (λ (xs : List ℕ). 0 ∷ xs) (last-zero n)
 
 -- the whole of nine bytes
-pub padded-nine : (bs : List ℕ) → length bs ≡ 9 → padded 9 bs ≡ bs
+pub padded-nine : (bs : List ℕ) → length bs ≡ 9 → zeroPadded 9 bs ≡ bs
 padded-nine bs h = let none : 9 - length bs ≡ 0 = omega arith in ap (λ (n : ℕ). bs ++ replicate n 0) none ∙ append-nil bs
 
 module _ (p chunk : List ℕ) where
-  pub image-kept : length (gathered p chunk) < 9 → imageOf (gatheredBy p chunk) ≡ streamBytes (gathered p chunk)
-  unfolding imageOf
+  pub image-kept : length (gathered p chunk) < 9 → streamAfter (gatheredBy p chunk) ≡ streamBytes (gathered p chunk)
+  unfolding streamAfter
   image-kept h =
       rw (lt-leb 9 (length (gathered p chunk)) h) (ap (λ (xs : List ℕ). length (gathered p chunk) ∷ xs) (padded-cut (gathered p chunk) (omega arith)))
 
-  pub image-clear : 9 ≤ length (gathered p chunk) → imageOf (gatheredBy p chunk) ≡ streamBytes []
-  unfolding imageOf
+  pub image-clear : 9 ≤ length (gathered p chunk) → streamAfter (gatheredBy p chunk) ≡ streamBytes []
+  unfolding streamAfter
   image-clear h = rw (le-leb 9 (length (gathered p chunk)) h)
 
 -- a slice of nine bytes that nine are copied to holds these
@@ -146,21 +147,21 @@ module _ (table chunk rs os stream d t room : List ℕ) (got : Gathered) (is-got
     count-is = ap (λ (g : Gathered). g .count) taken
 
     -- fewer than nine wait
-    pub waits : got .count < 9 → (image : List ℕ) → image ≡ imageOf got → (q : TuneReply) → q ≡ noCommand (Done 0)
+    pub waits : got .count < 9 → (image : List ℕ) → image ≡ streamAfter got → (q : TuneReply) → q ≡ noCommand (Done 0)
         → (r : FeedReply) → r ≡ fedOf q (got .used) 0 (got .count)
         → feeds r (sets stream 0 image) d t room ≡ feedOver table chunk rs os stream d t room
     unfolding feedOver
     waits few image e q eq r f =
         let less : length (gathered p chunk) < 9 = omega (arith, count-is) in
         let kept : sets stream 0 image ≡ streamBytes (gathered p chunk) =
-        stored stream image (gathered p chunk) nine (omega arith) (e ∙ ap imageOf taken ∙ image-kept p chunk less) in
+        stored stream image (gathered p chunk) nine (omega arith) (e ∙ ap streamAfter taken ∙ image-kept p chunk less) in
         let told : r ≡ fedOf (noCommand (Done 0)) (usedBy p chunk) 0 (length (gathered p chunk)) =
         f ∙ ap (λ (x : TuneReply). fedOf x (got .used) 0 (got .count)) eq ∙ ap (λ (g : Gathered). fedOf (noCommand (Done 0)) (g .used) 0 (g .count)) taken in
         ap₂ (λ (x : FeedReply) (s : List ℕ). feeds x s d t room) told kept
         ∙ rw (stream-by true h, ne-eqb (length (gathered p chunk)) 9 (λ z. omega arith))
 
     -- nine are a command, which runs
-    pub completes : 9 ≤ got .count → (image : List ℕ) → image ≡ imageOf got → (x : Command) → x ≡ commandOf (got .bytes)
+    pub completes : 9 ≤ got .count → (image : List ℕ) → image ≡ streamAfter got → (x : Command) → x ≡ commandOf (got .bytes)
         → (q : TuneReply) (left d′ t′ : List ℕ) → hops q left d′ t′ ≡ runOver x table rs os d t room
         → (r : FeedReply) → r ≡ fedOf q (got .used) 1 0
         → feeds r (sets stream 0 image) d′ t′ left ≡ feedOver table chunk rs os stream d t room
@@ -169,7 +170,7 @@ module _ (table chunk rs os stream d t room : List ℕ) (got : Gathered) (is-got
         let most : length (gathered p chunk) ≤ 9 = gathered-most p chunk (stream-short stream (stream-by true h) .0) in
         let all : length (gathered p chunk) ≡ 9 = omega (arith, count-is) in
         let clear : sets stream 0 image ≡ streamBytes [] =
-        stored stream image [] nine (omega arith) (e ∙ ap imageOf taken ∙ image-clear p chunk (omega arith)) in
+        stored stream image [] nine (omega arith) (e ∙ ap streamAfter taken ∙ image-clear p chunk (omega arith)) in
         let bytes : got .bytes ≡ gathered p chunk = ap (λ (g : Gathered). g .bytes) taken ∙ padded-nine (gathered p chunk) all in
         let ran : hops q left d′ t′ ≡ runOver (commandOf (gathered p chunk)) table rs os d t room =
         er ∙ ap (λ (y : Command). runOver y table rs os d t room) (ex ∙ ap commandOf bytes) in
@@ -180,7 +181,7 @@ module _ (table chunk rs os stream d t room : List ℕ) (got : Gathered) (is-got
 
 -- ---- what waits
 
-module _ (stream : List ℕ) (h : ℕ) (e : h ≡ heldIn stream) where
+module _ (stream : List ℕ) (h : ℕ) (e : h ≡ pendingCount stream) where
   pub none-pending : h ≡ 9 → Refused 1 ≡ pendingAnswer stream
   unfolding pendingAnswer
   none-pending n = rw (is-none stream h e n)

@@ -14,11 +14,11 @@ use Rattle.bands.specs.Tables.{planBy}
 use Rattle.chip.specs.declared.Answer.{Answer}
 use Rattle.chip.specs.declared.Answer.the-variants.{Done, Refused}
 use Rattle.chip.specs.declared.Chip.{Chip}
-use Rattle.chip.specs.declared.Seen.{Seen}
-use Rattle.chip.specs.Calls.{Called, callOf, called, lockedIn, performed, refusalWith, seenIn, triesIn}
+use Rattle.chip.specs.declared.LockTries.{LockTries}
+use Rattle.chip.specs.Calls.{Called, callOf, called, lockedIn, performed, refusalWith, lockTriesIn, triesIn}
 use Rattle.chip.specs.Courses.{Course, argumentOf, askedBy, entriesBy, leftBy}
 use Rattle.chip.specs.Courses.Course.{Still, Taken}
-use Rattle.chip.specs.Entries.{unseen}
+use Rattle.chip.specs.Entries.{noTries}
 use Rattle.chip.specs.Steps.{trace}
 use Rattle.chip.proofs.Laws.{and-left, and-right}
 use Rattle.driver.specs.declared.Driver.{Driver}
@@ -26,7 +26,7 @@ use Rattle.driver.specs.Calls.{Both, both, correctionCall, correctionResult, co
 use Rattle.driver.specs.Record.{soundDriver, withPpm, xtalBy, xtalOf}
 use Rattle.drivers.specs.Drivers.{Corrects, Rates, bothReady, correctOver, corrects, correctsMade, hops, hopsBy, overBoth, rateOver, rates, ratesMade, ratesRefused}
 use Rattle.r82xx.specs.declared.Tuner.{Tuner}
-use Rattle.r82xx.specs.Orders.{Order, bracket, courseOf, gainRow, seenOf}
+use Rattle.r82xx.specs.Orders.{Order, bracket, courseOf, gainRow, lockTriesOf}
 use Rattle.r82xx.specs.Orders as order
 use Rattle.r82xx.specs.Record.{sound, withCorrected}
 use Rattle.records.specs.Drivers.{driverBytes, driverFits, driverFrom, driverOf, driverWidths, isDriver, pickDriver}
@@ -34,16 +34,16 @@ use Rattle.records.specs.Tuners.{isTuner, pickTuner, tunerBytes, tunerFits, tun
 use Rattle.records.proofs.Driven.{driver-written}
 use Rattle.records.proofs.Exact.{written-read}
 use Rattle.records.proofs.Turns.{sets-whole}
-use Rattle.replies.specs.declared.Reply.{Reply}
-use Rattle.replies.specs.declared.TuneReply.{TuneReply}
-use Rattle.replies.specs.Replies.{callReply, tunedOf}
+use Rattle.reply.specs.declared.Reply.{Reply}
+use Rattle.reply.specs.declared.TuneReply.{TuneReply}
+use Rattle.reply.specs.Replies.{callReply, tunedOf}
 use Rattle.stream.specs.declared.Command.{Command}
 use Rattle.stream.specs.declared.Command.the-variants.{Correction, Frequency, Rate}
-use Rattle.tuners.specs.Over.{After, Tuned, after, handed, keptOf, nextOf, overTuner, overTuning, readyOf, refusal, seenOver, tunedTo, unlessRefused}
+use Rattle.tuners.specs.Over.{After, Tuned, after, handed, isWritten, nextOf, overTuner, overTuning, readyOf, refusal, lockTriesOver, tunedTo, unlessRefused}
 use Rattle.wire.specs.Bytes.{Bytes}
 use Rattle.wire.specs.Parts.{partsFrom}
 use Rattle.commands.specs.Over.{runOver}
-use Rattle.commands.specs.Rows.{beside, commandResult, commandRow, commandSeen, isUnknown, seenBy}
+use Rattle.commands.specs.Rows.{beside, commandResult, commandRow, commandLockTries, isUnknown, lockTriesBy}
 
 -- ---- a row with steps: its argument's refusal comes to the same whether the bytes' call or the row's own turns it away
 
@@ -65,15 +65,15 @@ tuner-taken (Taken argument n m rs whole ss keep) e os chip old room next k h = 
 
 -- refused by its argument, it makes no entry, and nothing is seen
 pub seen-taken : (c : Course Tuner) → isTaken c ≡ true → (os : List ℕ) (chip : Chip) (room : List ℕ) (k : ℕ) → 78 ≤ k
-    → unlessRefused (readyOf true (argumentOf c) k 78) (λ n. unseen) (seenIn (entriesBy (askedBy true c (length os) (length room)) os chip))
-    ≡ seenIn (entriesBy (askedBy true c (length os) (length room)) os chip)
+    → unlessRefused (readyOf true (argumentOf c) k 78) (λ n. noTries) (lockTriesIn (entriesBy (askedBy true c (length os) (length room)) os chip))
+    ≡ lockTriesIn (entriesBy (askedBy true c (length os) (length room)) os chip)
 unfolding unlessRefused readyOf triesIn lockedIn
 seen-taken (Still _ answer) e os chip room k h = absurd (false≢true e)
 seen-taken (Taken argument n m rs whole ss keep) e os chip room k h = go (eqb argument 0) refl
   where
     go : (b : Bool) → eqb argument 0 ≡ b
-        → unlessRefused (readyOf true argument k 78) (λ x. unseen) (seenIn (entriesBy (askedBy true (Taken argument n m rs whole ss keep) (length os) (length room)) os chip))
-        ≡ seenIn (entriesBy (askedBy true (Taken argument n m rs whole ss keep) (length os) (length room)) os chip)
+        → unlessRefused (readyOf true argument k 78) (λ x. noTries) (lockTriesIn (entriesBy (askedBy true (Taken argument n m rs whole ss keep) (length os) (length room)) os chip))
+        ≡ lockTriesIn (entriesBy (askedBy true (Taken argument n m rs whole ss keep) (length os) (length room)) os chip)
     go true z = rw (z, le-ltb k 78 h)
     go false z = rw (z, z)
 
@@ -145,7 +145,7 @@ driver-sound b bytes h = le-leb 1 (xtalOf (driverOf b .driver)) (driver-written 
 -- written again where it lies, the driver's record leaves its bytes as they were: a call of the tuner alone does not write it
 driver-same : (b : List ℕ) → Bytes b → driverOf b .ok ≡ true → (a : Answer) (count : ℕ) → b ≡ nextOf driverBytes a count (driverOf b .driver) b
 unfolding nextOf
-driver-same b bytes h a count = go (keptOf a count)
+driver-same b bytes h a count = go (isWritten a count)
   where
     go : (z : Bool) → b ≡ cond z (sets b 0 (driverBytes (driverOf b .driver))) b
     go true = sym (ap (sets b 0) (driver-written b bytes (driver-is b h) .1) ∙ sets-whole b b refl)
@@ -171,8 +171,8 @@ module _ (table rs os d t room : List ℕ) (driver-bytes : Bytes d) (good-tuner 
 
   -- a known command's row, on records in their ranges
   run-is : (x : Command) → isUnknown x ≡ false
-      → hopsBy (ratesMade (leftBy true (commandRow x table rs T D) os (T .chip) (both T D) room) d t) (seenBy x rs os T room) ≡ runOver x table rs os d t room
-  unfolding runOver commandResult commandSeen
+      → hopsBy (ratesMade (leftBy true (commandRow x table rs T D) os (T .chip) (both T D) room) d t) (lockTriesBy x rs os T room) ≡ runOver x table rs os d t room
+  unfolding runOver commandResult commandLockTries
   run-is x known = rw (known, whole, good)
 
   module _ (x : Command) (o : Order) (row : commandRow x table rs T D ≡ beside D (courseOf o T)) (known : isUnknown x ≡ false) (taken : isTaken (courseOf o T) ≡ true) where
@@ -184,7 +184,7 @@ module _ (table rs os d t room : List ℕ) (driver-bytes : Bytes d) (good-tuner 
     over-is =
         rw (tuner-ok, good-tuner) (tuner-taken (courseOf o T) taken os (T .chip) T room t (length t) (omega (arith, tuner-exact t tuner-ok)))
 
-    handed-run : (a : After) (s : Seen) → a ≡ overTuner (courseOf o) os t room t → s ≡ seenBy x rs os T room
+    handed-run : (a : After) (s : LockTries) → a ≡ overTuner (courseOf o) os t room t → s ≡ lockTriesBy x rs os T room
         → hops (tunedOf (a .answer) s) (a .room) d (a .next) ≡ runOver x table rs os d t room
     handed-run a s e f =
         ap (λ (b : After). hops (tunedOf (b .answer) s) (b .room) d (b .next)) (e ∙ over-is)
@@ -194,26 +194,26 @@ module _ (table rs os d t room : List ℕ) (driver-bytes : Bytes d) (good-tuner 
         ∙ run-is x known
 
     -- a call of the tuner that tells nothing of the lock
-    pub by-tuner : seenBy x rs os T room ≡ unseen → (y : Command) → y ≡ x → (given : List ℕ) → given ≡ t
-        → (q : Reply) (lent wrote : List ℕ) → after q lent wrote ≡ overTuner (courseOf o) os given room t → (r : TuneReply) → r ≡ tunedOf q unseen
+    pub by-tuner : lockTriesBy x rs os T room ≡ noTries → (y : Command) → y ≡ x → (given : List ℕ) → given ≡ t
+        → (q : Reply) (lent wrote : List ℕ) → after q lent wrote ≡ overTuner (courseOf o) os given room t → (r : TuneReply) → r ≡ tunedOf q noTries
         → hops r lent d wrote ≡ runOver y table rs os d t room
     by-tuner none y is given same q lent wrote e r f =
         ap (λ (z : TuneReply). hops z lent d wrote) f
-        ∙ handed-run (after q lent wrote) unseen (e ∙ ap (λ (b : List ℕ). overTuner (courseOf o) os b room t) same) (sym none)
+        ∙ handed-run (after q lent wrote) noTries (e ∙ ap (λ (b : List ℕ). overTuner (courseOf o) os b room t) same) (sym none)
         ∙ ap (λ (z : Command). runOver z table rs os d t room) (sym is)
 
   -- a tuning
   pub by-tuning : (hz : ℕ) (y : Command) → y ≡ Frequency hz → (given : List ℕ) → given ≡ t
       → (r : TuneReply) (lent wrote : List ℕ) → tunedTo r lent wrote ≡ overTuning (courseOf (order.Order.Tune hz rs)) os given room t
       → hops r lent d wrote ≡ runOver y table rs os d t room
-  unfolding overTuning seenOver seenOf
+  unfolding overTuning lockTriesOver lockTriesOf
   by-tuning hz y is given same r lent wrote e =
       let row : Tuner → Course Tuner = courseOf (order.Order.Tune hz rs) in
       ap (λ (z : Tuned). hops (z .answer) (z .room) d (z .next)) (e ∙ ap (λ (b : List ℕ). overTuning row os b room t) same)
-      ∙ handed-run (Frequency hz) (order.Order.Tune hz rs) refl refl refl (overTuner row os t room t) (seenOver row os t room t) refl (seen-is hz)
+      ∙ handed-run (Frequency hz) (order.Order.Tune hz rs) refl refl refl (overTuner row os t room t) (lockTriesOver row os t room t) refl (seen-is hz)
       ∙ ap (λ (z : Command). runOver z table rs os d t room) (sym is)
     where
-      seen-is : (hz : ℕ) → seenOver (courseOf (order.Order.Tune hz rs)) os t room t ≡ seenOf (order.Order.Tune hz rs) os T room
+      seen-is : (hz : ℕ) → lockTriesOver (courseOf (order.Order.Tune hz rs)) os t room t ≡ lockTriesOf (order.Order.Tune hz rs) os T room
       seen-is hz =
           rw (tuner-ok, good-tuner) (seen-taken (courseOf (order.Order.Tune hz rs) T) refl os (T .chip) room (length t) (omega (arith, tuner-exact t tuner-ok)))
 
@@ -228,23 +228,23 @@ module _ (table rs os d t room : List ℕ) (driver-bytes : Bytes d) (good-tuner 
       (both-taken (rateRow rate (planBy table (D .frequency)) T D) refl os (T .chip) (both T D) room d t (length d) (length t) (omega (arith, driver-exact d driver-ok)) (omega (arith, tuner-exact t tuner-ok)))
 
   pub by-rate : (rate : ℕ) (y : Command) → y ≡ Rate rate → (before given : List ℕ) → before ≡ d → given ≡ t
-      → (q : Reply) (lent wd wt : List ℕ) → rates q lent wd wt ≡ rateOver os rate table before given room d t → (r : TuneReply) → r ≡ tunedOf q unseen
+      → (q : Reply) (lent wd wt : List ℕ) → rates q lent wd wt ≡ rateOver os rate table before given room d t → (r : TuneReply) → r ≡ tunedOf q noTries
       → hops r lent wd wt ≡ runOver y table rs os d t room
   by-rate rate y is before given same-driver same-tuner q lent wd wt e r f =
       ap (λ (z : TuneReply). hops z lent wd wt) f
-      ∙ ap (λ (z : Rates). hopsBy z unseen) (e ∙ (λ i. rateOver os rate table (same-driver i) (same-tuner i) room d t) ∙ rate-is rate)
+      ∙ ap (λ (z : Rates). hopsBy z noTries) (e ∙ (λ i. rateOver os rate table (same-driver i) (same-tuner i) room d t) ∙ rate-is rate)
       ∙ run-is (Rate rate) refl
       ∙ ap (λ (z : Command). runOver z table rs os d t room) (sym is)
 
   -- nothing is lent to a correction, so the room stays
   pub by-correction : (ppm : ℤ) (y : Command) → y ≡ Correction ppm
-      → (q : Reply) (wt wd : List ℕ) → corrects q wt wd ≡ correctOver ppm t d → (r : TuneReply) → r ≡ tunedOf q unseen
+      → (q : Reply) (wt wd : List ℕ) → corrects q wt wd ≡ correctOver ppm t d → (r : TuneReply) → r ≡ tunedOf q noTries
       → hops r room wd wt ≡ runOver y table rs os d t room
   unfolding correctOver correctionResult leftBy
   by-correction ppm y is q wt wd e r f =
       ap (λ (z : TuneReply). hops z room wd wt) f
-      ∙ ap (λ (z : Corrects). hops (tunedOf (z .answer) unseen) room (z .driver) (z .tuner)) (e ∙ made)
-      ∙ ap (λ (c : Called Both). hopsBy (ratesMade c d t) unseen) (ap (λ (b : Bool). still b (correctionRow ppm T D)) good ∙ go (leb 1 (xtalBy (T .nominal) ppm) && leb 1 (xtalBy (D .nominal) ppm)))
+      ∙ ap (λ (z : Corrects). hops (tunedOf (z .answer) noTries) room (z .driver) (z .tuner)) (e ∙ made)
+      ∙ ap (λ (c : Called Both). hopsBy (ratesMade c d t) noTries) (ap (λ (b : Bool). still b (correctionRow ppm T D)) good ∙ go (leb 1 (xtalBy (T .nominal) ppm) && leb 1 (xtalBy (D .nominal) ppm)))
       ∙ run-is (Correction ppm) refl
       ∙ ap (λ (z : Command). runOver z table rs os d t room) (sym is)
     where

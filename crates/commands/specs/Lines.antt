@@ -7,7 +7,7 @@ use mathlib.Core.List.{List, [], _∷_, _++_}
 use lib.Dec.{eqb}
 use lib.ListN.{drop, length}
 use Rattle.drivers.specs.Drivers.{Hops}
-use Rattle.replies.specs.declared.TuneReply.{TuneReply}
+use Rattle.reply.specs.declared.TuneReply.{TuneReply}
 use Rattle.stream.specs.Commands.{commandOf}
 use Rattle.stream.specs.Feeding.{Fed, Ran}
 use Rattle.stream.specs.Pending.{streamBytes}
@@ -26,15 +26,15 @@ pub record Records : Type 0 where
   pub tuner : List ℕ
 
 -- what a command tells: its answer, and the room, in which its transcript stands
-pub record Told : Type 0 where
+pub record CommandResult : Type 0 where
   pub answer : TuneReply
   pub room : List ℕ
 
-abbrev pub ranBy : Hops → Ran Records Told
+abbrev pub ranBy : Hops → Ran Records CommandResult
 ranBy h = record { state = record { driver = h .driver; tuner = h .tuner }; told = record { answer = h .answer; room = h .room } }
 
 -- one command, by its number
-unfoldable pub execBy : List ℕ → (ℕ → Lends) → ℕ → List ℕ → Records → Ran Records Told
+unfoldable pub execBy : List ℕ → (ℕ → Lends) → ℕ → List ℕ → Records → Ran Records CommandResult
 execBy table lends n nine s =
     ranBy (runOver (commandOf nine) table (lends n .replies) (lends n .outcomes) (s .driver) (s .tuner) (lends n .room))
 
@@ -44,9 +44,9 @@ pub record Line : Type 0 where
   pub stream : List ℕ
   pub records : Records
   pub number : ℕ
-  pub told : List Told
+  pub told : List CommandResult
 
-abbrev pub lineOf : Fed Records Told → Line
+abbrev pub lineOf : Fed Records CommandResult → Line
 lineOf w = record { stream = streamBytes (w .pending); records = w .state; number = w .number; told = w .told }
 
 -- of a call's reply what the command told, where one was completed

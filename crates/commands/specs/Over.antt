@@ -7,29 +7,29 @@ use lib.Dec.{eqb}
 use lib.ListN.{length}
 use Rattle.chip.specs.declared.Answer.the-variants.{Done, Refused}
 use Rattle.chip.specs.declared.Answer.{Answer}
-use Rattle.chip.specs.Entries.{unseen}
+use Rattle.chip.specs.Entries.{noTries}
 use Rattle.drivers.specs.Drivers.{Hops, hops, hopsBy, ratesMade, ratesRefused}
 use Rattle.records.specs.Drivers.{driverOf}
 use Rattle.records.specs.Tuners.{tunerOf}
-use Rattle.replies.specs.declared.TuneReply.{TuneReply}
-use Rattle.replies.specs.Replies.{replyOf, tunedOf}
+use Rattle.reply.specs.declared.TuneReply.{TuneReply}
+use Rattle.reply.specs.Replies.{replyOf, tunedOf}
 use Rattle.stream.specs.declared.Command.{Command}
 use Rattle.stream.specs.Commands.{commandOf}
-use Rattle.stream.specs.Pending.{gathered, heldIn, isStream, pendingOf, streamBytes, usedBy}
+use Rattle.stream.specs.Pending.{gathered, isStream, pendingOf, streamBytes, usedBy}
 use Rattle.commands.specs.declared.FeedReply.{FeedReply}
-use Rattle.commands.specs.Rows.{commandResult, commandSeen, isUnknown}
+use Rattle.commands.specs.Rows.{commandResult, commandLockTries, isUnknown}
 
 -- refused before any step: both records' bytes and the room stay
 abbrev pub notRun : ℕ → List ℕ → List ℕ → List ℕ → Hops
-notRun number d t room = hopsBy (ratesRefused number room d t) unseen
+notRun number d t room = hopsBy (ratesRefused number room d t) noTries
 
--- "new 14 command ..; it stands first", then 1 where either record's bytes are none, then the call's own
+-- "new 14 command ..; it stands first", then 1 where either record's bytes are not valid, then the call's own
 unfoldable pub runOver : Command → List ℕ → List ℕ → List ℕ → List ℕ → List ℕ → List ℕ → Hops
 runOver c table rs os d t room =
     cond (isUnknown c) (notRun 14 d t room)
     (cond (driverOf d .ok && tunerOf t .ok)
     (hopsBy (ratesMade (commandResult c table rs os (tunerOf t .tuner) (driverOf d .driver) room) d t)
-    (commandSeen c rs os (tunerOf t .tuner) (driverOf d .driver) room))
+    (commandLockTries c rs os (tunerOf t .tuner) (driverOf d .driver) room))
     (notRun 1 d t room))
 
 -- ---- a call
@@ -52,7 +52,7 @@ fedOf r used completed pending =
 
 -- without a command there is nothing to tell but a refusal's number, 0 for none
 abbrev pub noCommand : Answer → TuneReply
-noCommand a = tunedOf (replyOf a 0) unseen
+noCommand a = tunedOf (replyOf a 0) noTries
 
 -- a command that ran: nothing waits
 abbrev pub completedBy : ℕ → Hops → Feeds
@@ -67,7 +67,7 @@ abbrev pub gottenOver : ℕ → List ℕ → List ℕ → List ℕ → List ℕ 
 gottenOver used bytes table rs os d t room =
     cond (eqb (length bytes) 9) (completedBy used (runOver (commandOf bytes) table rs os d t room)) (waitingBy used bytes d t room)
 
--- bytes that are none of a stream are refused 1, and nothing is used
+-- bytes that are not those of a stream are refused 1, and nothing is used
 unfoldable pub feedOver : List ℕ → List ℕ → List ℕ → List ℕ → List ℕ → List ℕ → List ℕ → List ℕ → Feeds
 feedOver table chunk rs os stream d t room =
     cond (isStream stream)

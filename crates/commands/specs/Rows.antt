@@ -6,16 +6,16 @@ use mathlib.Core.Bool.{Bool, true, false, _&&_, _||_, cond}
 use mathlib.Core.List.{List}
 use Rattle.bands.specs.Tables.{planBy}
 use Rattle.chip.specs.declared.Answer.the-variants.{Refused}
-use Rattle.chip.specs.declared.Seen.{Seen}
+use Rattle.chip.specs.declared.LockTries.{LockTries}
 use Rattle.chip.specs.Calls.{Called}
 use Rattle.chip.specs.Courses.{Course, leftBy}
 use Rattle.chip.specs.Courses.Course.{Still, Taken}
-use Rattle.chip.specs.Entries.{unseen}
+use Rattle.chip.specs.Entries.{noTries}
 use Rattle.driver.specs.declared.Driver.{Driver}
 use Rattle.driver.specs.Calls.{Both, both, correctionRow, rateRow}
 use Rattle.driver.specs.Record.{soundDriver}
 use Rattle.r82xx.specs.declared.Tuner.{Tuner}
-use Rattle.r82xx.specs.Orders.{courseOf, seenOf}
+use Rattle.r82xx.specs.Orders.{courseOf, lockTriesOf}
 use Rattle.r82xx.specs.Orders as order
 use Rattle.r82xx.specs.Record.{sound}
 use Rattle.stream.specs.declared.Command.{Command}
@@ -55,15 +55,15 @@ unfoldable pub commandResult : Command → List ℕ → List ℕ → List ℕ �
 commandResult c table rs os t d room = leftBy (judged c t d) (commandRow c table rs t d) os (t .chip) (both t d) room
 
 -- #101: what it tells of the lock; only a tuning tells something
-abbrev pub seenBy : Command → List ℕ → List ℕ → Tuner → List ℕ → Seen
-seenBy (Frequency hz) rs os t room = seenOf (order.Order.Tune hz rs) os t room
-seenBy (Rate rate) rs os t room = unseen
-seenBy (GainDb db) rs os t room = unseen
-seenBy (GainIndex k) rs os t room = unseen
-seenBy (Bandwidth hz) rs os t room = unseen
-seenBy (Correction ppm) rs os t room = unseen
-seenBy Reload rs os t room = unseen
-seenBy Unknown rs os t room = unseen
+abbrev pub lockTriesBy : Command → List ℕ → List ℕ → Tuner → List ℕ → LockTries
+lockTriesBy (Frequency hz) rs os t room = lockTriesOf (order.Order.Tune hz rs) os t room
+lockTriesBy (Rate rate) rs os t room = noTries
+lockTriesBy (GainDb db) rs os t room = noTries
+lockTriesBy (GainIndex k) rs os t room = noTries
+lockTriesBy (Bandwidth hz) rs os t room = noTries
+lockTriesBy (Correction ppm) rs os t room = noTries
+lockTriesBy Reload rs os t room = noTries
+lockTriesBy Unknown rs os t room = noTries
 
-unfoldable pub commandSeen : Command → List ℕ → List ℕ → Tuner → Driver → List ℕ → Seen
-commandSeen c rs os t d room = cond (judged c t d) (seenBy c rs os t room) unseen
+unfoldable pub commandLockTries : Command → List ℕ → List ℕ → Tuner → Driver → List ℕ → LockTries
+commandLockTries c rs os t d room = cond (judged c t d) (lockTriesBy c rs os t room) noTries

@@ -4,16 +4,16 @@ ghost use mathlib.Core.Path.{_≡_};
 ghost use mathlib.Core.Bool.{_&&_, true};
 ghost use lib.ListN.{length};
 ghost use Rattle.chip.specs.declared.Answer.the-variants.{Done, Refused};
-ghost use Rattle.chip.specs.Entries.{unseen};
+ghost use Rattle.chip.specs.Entries.{noTries};
 ghost use Rattle.drivers.specs.Drivers.{hops};
 ghost use Rattle.records.specs.Drivers.{driverOf};
 ghost use Rattle.records.specs.Tuners.{tunerOf};
-ghost use Rattle.replies.specs.Replies.{tunedOf};
+ghost use Rattle.reply.specs.Replies.{tunedOf};
 ghost use Rattle.commands.specs.Over.{feedOver, feeds, fedOf, noCommand, pendingAnswer, runOver};
 ghost use Rattle.commands.specs.Rows.{isUnknown};
 use chip::Answer;
-use replies::Reply;
-use replies::TuneReply;
+use reply::Reply;
+use reply::TuneReply;
 use stream::COMMAND;
 use stream::Command;
 
@@ -52,23 +52,23 @@ pub fn is_unknown(command: Command) -> bool
 fn refuse(number: u8) -> TuneReply
     ensures { λ r. ⌜ r ≡ noCommand (Refused number) ⌝ }
 {
-    let reply = tuners::refuse(number);
-    replies::tuned(reply, 0, false)
+    let plain = tuners::refuse(number);
+    reply::tuned(plain, 0, false)
 }
 
 // The reply where no command was completed.
 fn none() -> TuneReply
     ensures { λ r. ⌜ r ≡ noCommand (Done 0) ⌝ }
 {
-    let reply = replies::numbers(Answer::Done(0), 0);
-    replies::tuned(reply, 0, false)
+    let plain = reply::numbers(Answer::Done(0), 0);
+    reply::tuned(plain, 0, false)
 }
 
 // What a call that tells nothing of the lock hands back.
 fn still(told: Reply) -> TuneReply
-    ensures { λ r. ⌜ r ≡ tunedOf told unseen ⌝ }
+    ensures { λ r. ⌜ r ≡ tunedOf told noTries ⌝ }
 {
-    replies::tuned(told, 0, false)
+    reply::tuned(told, 0, false)
 }
 
 // A call reads the given record and writes the next one into a slice of its own: so the given bytes are copied where both lie in one place.
@@ -209,15 +209,15 @@ pub fn feed(
     }
     let bytes = got.bytes;
     let command = stream::command_of(&bytes);
-    let reply = run_over(command, driver, tuner, table, outcomes, replies, room);
-    fed(reply, got.used, 1, 0)
+    let plain = run_over(command, driver, tuner, table, outcomes, replies, room);
+    fed(plain, got.used, 1, 0)
 }
 
 // How many bytes wait for the rest of their command.
 pub fn pending(stream: &[u8]) -> Answer
     ensures { λ r. ⌜ r ≡ pendingAnswer (now (stream .entry)) ⌝ }
 {
-    let held = stream::held_in(stream);
+    let held = stream::pending_count(stream);
     if held == COMMAND {
         return Answer::Refused(chip::SETUP);
     }

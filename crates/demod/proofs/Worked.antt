@@ -12,7 +12,7 @@ use Rattle.device.specs.Accesses.{accessStep, demodWrite, demodWrite16}
 use Rattle.device.specs.Calls.{freeResult}
 use Rattle.device.proofs.Free.{argument-bad}
 use Rattle.fir.specs.Packing.{packOf}
-use Rattle.registers.specs.Rates.{holds, ifRatioOf, ifValueOf, rateNumber, sentOf, threeOf}
+use Rattle.registers.specs.Rates.{ratioHolds, ifRatioOf, ifValueOf, rateNumber, sentOf, threeOf}
 use Rattle.registers.proofs.Values.{negated-small}
 use Rattle.device.specs.declared.Access.{Access}
 use Rattle.demod.specs.Calls.{demodCourse}
@@ -20,7 +20,7 @@ use Rattle.demod.specs.Calls.Order.{RateXtal}
 use Rattle.demod.specs.Programs.{firSteps, ifRows, ifSteps, rateSteps, upward}
 
 -- the three of which the laws of crate `registers` speak, one in each: the highest has no bit above its sixth
-pub if-bytes : (hz xtal : ℕ) → map (λ (a : Access). a .3) (ifRows hz xtal) ≡ threeOf (ifValueOf hz xtal)
+pub if-bytes : (hz xtal : ℕ) → map (λ (a : Access). a .value) (ifRows hz xtal) ≡ threeOf (ifValueOf hz xtal)
 if-bytes hz xtal =
     ap (λ (top : ℕ). top ∷ ifValueOf hz xtal / 2 ^ 8 % 2 ^ 8 ∷ ifValueOf hz xtal % 2 ^ 8 ∷ [])
     (sym (shr-mod 6 16 (negated-small (ifRatioOf hz xtal))))
@@ -44,7 +44,7 @@ pub not-held : (rate xtal : ℕ) (os room : List ℕ) → rateNumber rate xtal �
 not-held rate xtal os room h = sym (argument-bad (rateNumber rate xtal) 4 0 [] os (rateSteps rate xtal) room 13 h (λ e. omega (arith, e)))
 
 pub rate-cut-refused : (os room : List ℕ) → freeResult (demodCourse (RateXtal 225_000 28_800_000)) os room ≡ called tt room 0 (Refused 13)
-unfolding holds rateNumber
+unfolding ratioHolds rateNumber
 rate-cut-refused os room = not-held 225_000 28_800_000 os room refl
 
 pub fir-worked : firSteps

@@ -1,14 +1,15 @@
 // The demodulator's calls, from src/demod.rs, over a script of outcomes and a room for the entries. Document 01, "Demodulator",
 // and "Refusal numbers" for 3 and 4; document 02, #103, for 13. They touch no record and read nothing; a call is a list of accesses, and the definitions of
-// specs/Programs.antt have the same lists. `X_steps` and `ddc` are what a larger call holds.
+// specs/Programs.antt have the same lists. `X_steps` and `ddc` are parts that a larger call is made of.
 ghost use mathlib.Core.List.{_++_};
 ghost use mathlib.Core.Path.{_≡_};
 ghost use Prim.Native.Nat.{_+_, _*_, _≤_, _<_};
 ghost use lib.ListN.{length, replicate, take};
 ghost use Rattle.chip.specs.declared.Chip.{Chip};
-ghost use Rattle.chip.specs.Steps.{due, run, inRoom, onLog, onRoom};
-ghost use Rattle.device.specs.Accesses.{ten};
-ghost use Rattle.device.specs.Calls.{back, freeResult};
+ghost use Rattle.chip.specs.InCode.{inRoom, onLog, onRoom};
+ghost use Rattle.chip.specs.Steps.{closingOwed, run};
+ghost use Rattle.device.specs.InCode.{ten, back};
+ghost use Rattle.device.specs.Calls.{freeResult};
 ghost use Rattle.demod.specs.Programs.{ddcByte, ddcSteps, firSteps, ifRows, ifSteps, initSteps, powerSteps, rateRows, rateSteps, resetSteps, upward};
 ghost use Rattle.demod.specs.Calls.{demodCourse};
 ghost use Rattle.demod.specs.Calls.Order.{Baseband, LowIf, ZeroIf, Reset, Direct, Start, Stop, IfXtal, RateXtal};
@@ -43,8 +44,18 @@ pub const DEFAULT_SAMPLE_RATE: u32 = 2_048_000;
 
 // `reset_demod`'s accesses.
 const RESET: [Access; 10] = [
-    Access(DEMOD, P1_PAGE, P1_SOFT_RESET, P1_SOFT_RESET_ON as u16),
-    Access(DEMOD, P1_PAGE, P1_SOFT_RESET, P1_SOFT_RESET_OFF as u16),
+    Access {
+        kind: DEMOD,
+        target: P1_PAGE,
+        address: P1_SOFT_RESET,
+        value: P1_SOFT_RESET_ON as u16,
+    },
+    Access {
+        kind: DEMOD,
+        target: P1_PAGE,
+        address: P1_SOFT_RESET,
+        value: P1_SOFT_RESET_OFF as u16,
+    },
     NONE,
     NONE,
     NONE,
@@ -57,8 +68,18 @@ const RESET: [Access; 10] = [
 
 // Low-IF mode, and the in-phase ADC input on.
 const LOW_IF: [Access; 10] = [
-    Access(DEMOD, P1_PAGE, 0xb1, 0x1a),
-    Access(DEMOD, P0_PAGE, 0x08, 0x4d),
+    Access {
+        kind: DEMOD,
+        target: P1_PAGE,
+        address: 0xb1,
+        value: 0x1a,
+    },
+    Access {
+        kind: DEMOD,
+        target: P0_PAGE,
+        address: 0x08,
+        value: 0x4d,
+    },
     NONE,
     NONE,
     NONE,
@@ -71,8 +92,18 @@ const LOW_IF: [Access; 10] = [
 
 // Zero-IF mode, and the in-phase ADC input off.
 const ZERO_IF: [Access; 10] = [
-    Access(DEMOD, P1_PAGE, 0xb1, 0x1b),
-    Access(DEMOD, P0_PAGE, 0x08, 0x4c),
+    Access {
+        kind: DEMOD,
+        target: P1_PAGE,
+        address: 0xb1,
+        value: 0x1b,
+    },
+    Access {
+        kind: DEMOD,
+        target: P0_PAGE,
+        address: 0x08,
+        value: 0x4c,
+    },
     NONE,
     NONE,
     NONE,
@@ -84,8 +115,18 @@ const ZERO_IF: [Access; 10] = [
 ];
 
 const START: [Access; 10] = [
-    Access(BLOCK16, block::USB, usb::EPA_CTL, 0x1002),
-    Access(BLOCK16, block::USB, usb::EPA_CTL, 0x0000),
+    Access {
+        kind: BLOCK16,
+        target: block::USB,
+        address: usb::EPA_CTL,
+        value: 0x1002,
+    },
+    Access {
+        kind: BLOCK16,
+        target: block::USB,
+        address: usb::EPA_CTL,
+        value: 0x0000,
+    },
     NONE,
     NONE,
     NONE,
@@ -97,13 +138,18 @@ const START: [Access; 10] = [
 ];
 
 const STOP: [Access; 10] = [
-    Access(BLOCK16, block::USB, usb::EPA_CTL, 0x1002),
-    Access(
-        BLOCK,
-        block::SYS,
-        sys::DEMOD_CTL,
-        sys::DEMOD_CTL_POWER_OFF as u16,
-    ),
+    Access {
+        kind: BLOCK16,
+        target: block::USB,
+        address: usb::EPA_CTL,
+        value: 0x1002,
+    },
+    Access {
+        kind: BLOCK,
+        target: block::SYS,
+        address: sys::DEMOD_CTL,
+        value: sys::DEMOD_CTL_POWER_OFF as u16,
+    },
     NONE,
     NONE,
     NONE,
@@ -116,41 +162,131 @@ const STOP: [Access; 10] = [
 
 // `init_baseband` up to the zeros of 0x16: USB, system, the wait of 100 ms, the reset, DDC off.
 const POWER: [Access; 10] = [
-    Access(BLOCK, block::USB, usb::SYSCTL, 0x09),
-    Access(BLOCK16, block::USB, usb::EPA_MAXPKT, 0x0002),
-    Access(BLOCK16, block::USB, usb::EPA_CTL, 0x1002),
-    Access(BLOCK, block::SYS, sys::DEMOD_CTL1, 0x22),
-    Access(
-        BLOCK,
-        block::SYS,
-        sys::DEMOD_CTL,
-        sys::DEMOD_CTL_POWER_ON as u16,
-    ),
-    Access(WAIT, 0, 100, 0),
-    Access(DEMOD, P1_PAGE, P1_SOFT_RESET, P1_SOFT_RESET_ON as u16),
-    Access(DEMOD, P1_PAGE, P1_SOFT_RESET, P1_SOFT_RESET_OFF as u16),
-    Access(DEMOD, P1_PAGE, P1_DDC_SYNC, 0x00),
-    Access(DEMOD16, P1_PAGE, 0x16, 0x0000),
+    Access {
+        kind: BLOCK,
+        target: block::USB,
+        address: usb::SYSCTL,
+        value: 0x09,
+    },
+    Access {
+        kind: BLOCK16,
+        target: block::USB,
+        address: usb::EPA_MAXPKT,
+        value: 0x0002,
+    },
+    Access {
+        kind: BLOCK16,
+        target: block::USB,
+        address: usb::EPA_CTL,
+        value: 0x1002,
+    },
+    Access {
+        kind: BLOCK,
+        target: block::SYS,
+        address: sys::DEMOD_CTL1,
+        value: 0x22,
+    },
+    Access {
+        kind: BLOCK,
+        target: block::SYS,
+        address: sys::DEMOD_CTL,
+        value: sys::DEMOD_CTL_POWER_ON as u16,
+    },
+    Access {
+        kind: WAIT,
+        target: 0,
+        address: 100,
+        value: 0,
+    },
+    Access {
+        kind: DEMOD,
+        target: P1_PAGE,
+        address: P1_SOFT_RESET,
+        value: P1_SOFT_RESET_ON as u16,
+    },
+    Access {
+        kind: DEMOD,
+        target: P1_PAGE,
+        address: P1_SOFT_RESET,
+        value: P1_SOFT_RESET_OFF as u16,
+    },
+    Access {
+        kind: DEMOD,
+        target: P1_PAGE,
+        address: P1_DDC_SYNC,
+        value: 0x00,
+    },
+    Access {
+        kind: DEMOD16,
+        target: P1_PAGE,
+        address: 0x16,
+        value: 0x0000,
+    },
 ];
 
-// `init_baseband` behind the FIR.
+// `init_baseband` after the FIR.
 const MODE: [Access; 10] = [
-    Access(DEMOD, P0_PAGE, 0x19, 0x05),
-    Access(DEMOD, P1_PAGE, 0x93, 0xf0),
-    Access(DEMOD, P1_PAGE, 0x94, 0x0f),
-    Access(DEMOD, P1_PAGE, 0x11, 0x00),
-    Access(DEMOD, P1_PAGE, 0x04, 0x00),
-    Access(DEMOD, P0_PAGE, 0x61, 0x60),
-    Access(DEMOD, P0_PAGE, 0x06, 0x80),
-    Access(DEMOD, P1_PAGE, 0xb1, 0x1b),
-    Access(DEMOD, P0_PAGE, 0x0d, 0x83),
+    Access {
+        kind: DEMOD,
+        target: P0_PAGE,
+        address: 0x19,
+        value: 0x05,
+    },
+    Access {
+        kind: DEMOD,
+        target: P1_PAGE,
+        address: 0x93,
+        value: 0xf0,
+    },
+    Access {
+        kind: DEMOD,
+        target: P1_PAGE,
+        address: 0x94,
+        value: 0x0f,
+    },
+    Access {
+        kind: DEMOD,
+        target: P1_PAGE,
+        address: 0x11,
+        value: 0x00,
+    },
+    Access {
+        kind: DEMOD,
+        target: P1_PAGE,
+        address: 0x04,
+        value: 0x00,
+    },
+    Access {
+        kind: DEMOD,
+        target: P0_PAGE,
+        address: 0x61,
+        value: 0x60,
+    },
+    Access {
+        kind: DEMOD,
+        target: P0_PAGE,
+        address: 0x06,
+        value: 0x80,
+    },
+    Access {
+        kind: DEMOD,
+        target: P1_PAGE,
+        address: 0xb1,
+        value: 0x1b,
+    },
+    Access {
+        kind: DEMOD,
+        target: P0_PAGE,
+        address: 0x0d,
+        value: 0x83,
+    },
     NONE,
 ];
 
 pub fn reset_steps(f: Flow, outcomes: &[u8], room: &mut [u8]) -> Flow
-    requires { ⌜ (f .log .count + 2 + due (f .log .held) ≤ length (now outcomes)) × (16 * (f .log .count + 2 + due (f .log .held)) ≤ length (now room)) ⌝ }
+    requires { ⌜ (f .log .count + 2 + closingOwed (f .log .opened) ≤ length (now outcomes)) × (16 * (f .log .count + 2 + closingOwed (f .log .opened)) ≤ length (now room)) ⌝ }
     ensures { λ r. ⌜ onRoom r (now (room .exit)) ≡ run inRoom (now (outcomes .entry)) resetSteps (onRoom f (now (room .entry))) ⌝ }
-    ensures bounds { λ r. ⌜ r .log .count + due (r .log .held) ≤ f .log .count + 2 + due (f .log .held) ⌝ }
+    ensures bounds { λ r. ⌜ r .log .count + closingOwed (r .log .opened) ≤ f .log .count + 2 + closingOwed (f .log .opened) ⌝ }
 {
     device::access_all(f, RESET, 2, outcomes, room)
 }
@@ -195,7 +331,12 @@ pub fn write_reg_direct(
     ensures { λ r. ⌜ back r (now (room .exit)) ≡ freeResult (demodCourse (Direct page register value)) (now (outcomes .entry)) (now (room .entry)) ⌝ }
 {
     let mut rows = [NONE; 10];
-    rows[0] = Access(DEMOD, page, register, value as u16);
+    rows[0] = Access {
+        kind: DEMOD,
+        target: page,
+        address: register,
+        value: value as u16,
+    };
     device::perform(rows, 1, 0, outcomes, 0, room)
 }
 
@@ -211,14 +352,19 @@ fn ddc_byte(inverted: bool) -> u8
 
 // The DDC byte, by whether the spectrum is inverted.
 pub fn ddc(f: Flow, inverted: bool, outcomes: &[u8], room: &mut [u8]) -> Flow
-    requires { ⌜ (f .log .count + 1 + due (f .log .held) ≤ length (now outcomes)) × (16 * (f .log .count + 1 + due (f .log .held)) ≤ length (now room)) ⌝ }
+    requires { ⌜ (f .log .count + 1 + closingOwed (f .log .opened) ≤ length (now outcomes)) × (16 * (f .log .count + 1 + closingOwed (f .log .opened)) ≤ length (now room)) ⌝ }
     ensures { λ r. ⌜ onRoom r (now (room .exit)) ≡ run inRoom (now (outcomes .entry)) (ddcSteps inverted) (onRoom f (now (room .entry))) ⌝ }
-    ensures bounds { λ r. ⌜ r .log .count + due (r .log .held) ≤ f .log .count + 1 + due (f .log .held) ⌝ }
+    ensures bounds { λ r. ⌜ r .log .count + closingOwed (r .log .opened) ≤ f .log .count + 1 + closingOwed (f .log .opened) ⌝ }
 {
     let byte = ddc_byte(inverted);
     device::one_access(
         f,
-        Access(DEMOD, P1_PAGE, P1_DDC_SYNC, byte as u16),
+        Access {
+            kind: DEMOD,
+            target: P1_PAGE,
+            address: P1_DDC_SYNC,
+            value: byte as u16,
+        },
         outcomes,
         room,
     )
@@ -231,16 +377,31 @@ fn if_rows(hz: u32, xtal: u32) -> [Access; 10]
 {
     let value = registers::if_value(hz, xtal);
     let mut rows = [NONE; 10];
-    rows[0] = Access(DEMOD, P1_PAGE, P1_IF_FREQ_H, (value >> 16) as u16);
-    rows[1] = Access(DEMOD, P1_PAGE, P1_IF_FREQ_M, ((value >> 8) % 256) as u16);
-    rows[2] = Access(DEMOD, P1_PAGE, P1_IF_FREQ_L, (value % 256) as u16);
+    rows[0] = Access {
+        kind: DEMOD,
+        target: P1_PAGE,
+        address: P1_IF_FREQ_H,
+        value: (value >> 16) as u16,
+    };
+    rows[1] = Access {
+        kind: DEMOD,
+        target: P1_PAGE,
+        address: P1_IF_FREQ_M,
+        value: ((value >> 8) % 256) as u16,
+    };
+    rows[2] = Access {
+        kind: DEMOD,
+        target: P1_PAGE,
+        address: P1_IF_FREQ_L,
+        value: (value % 256) as u16,
+    };
     rows
 }
 
 pub fn if_steps(f: Flow, hz: u32, xtal: u32, outcomes: &[u8], room: &mut [u8]) -> Flow
-    requires { ⌜ (0 < xtal) × (f .log .count + 3 + due (f .log .held) ≤ length (now outcomes)) × (16 * (f .log .count + 3 + due (f .log .held)) ≤ length (now room)) ⌝ }
+    requires { ⌜ (0 < xtal) × (f .log .count + 3 + closingOwed (f .log .opened) ≤ length (now outcomes)) × (16 * (f .log .count + 3 + closingOwed (f .log .opened)) ≤ length (now room)) ⌝ }
     ensures { λ r. ⌜ onRoom r (now (room .exit)) ≡ run inRoom (now (outcomes .entry)) (ifSteps hz xtal) (onRoom f (now (room .entry))) ⌝ }
-    ensures bounds { λ r. ⌜ r .log .count + due (r .log .held) ≤ f .log .count + 3 + due (f .log .held) ⌝ }
+    ensures bounds { λ r. ⌜ r .log .count + closingOwed (r .log .opened) ≤ f .log .count + 3 + closingOwed (f .log .opened) ⌝ }
 {
     let rows = if_rows(hz, xtal);
     device::access_all(f, rows, 3, outcomes, room)
@@ -264,17 +425,37 @@ fn rate_rows(rate: u32, xtal: u32) -> [Access; 10]
     let ratio = registers::ratio(rate, xtal);
     let sent = registers::sent(ratio);
     let mut rows = [NONE; 10];
-    rows[0] = Access(DEMOD16, P1_PAGE, 0x9f, (sent >> 16) as u16);
-    rows[1] = Access(DEMOD16, P1_PAGE, 0xa1, (sent % 65536) as u16);
-    rows[2] = Access(DEMOD, P1_PAGE, 0x3f, 0x00);
-    rows[3] = Access(DEMOD, P1_PAGE, 0x3e, 0x00);
+    rows[0] = Access {
+        kind: DEMOD16,
+        target: P1_PAGE,
+        address: 0x9f,
+        value: (sent >> 16) as u16,
+    };
+    rows[1] = Access {
+        kind: DEMOD16,
+        target: P1_PAGE,
+        address: 0xa1,
+        value: (sent % 65536) as u16,
+    };
+    rows[2] = Access {
+        kind: DEMOD,
+        target: P1_PAGE,
+        address: 0x3f,
+        value: 0x00,
+    };
+    rows[3] = Access {
+        kind: DEMOD,
+        target: P1_PAGE,
+        address: 0x3e,
+        value: 0x00,
+    };
     rows
 }
 
 pub fn rate_steps(f: Flow, rate: u32, xtal: u32, outcomes: &[u8], room: &mut [u8]) -> Flow
-    requires { ⌜ (0 < rate) × (f .log .count + 4 + due (f .log .held) ≤ length (now outcomes)) × (16 * (f .log .count + 4 + due (f .log .held)) ≤ length (now room)) ⌝ }
+    requires { ⌜ (0 < rate) × (f .log .count + 4 + closingOwed (f .log .opened) ≤ length (now outcomes)) × (16 * (f .log .count + 4 + closingOwed (f .log .opened)) ≤ length (now room)) ⌝ }
     ensures { λ r. ⌜ onRoom r (now (room .exit)) ≡ run inRoom (now (outcomes .entry)) (rateSteps rate xtal) (onRoom f (now (room .entry))) ⌝ }
-    ensures bounds { λ r. ⌜ r .log .count + due (r .log .held) ≤ f .log .count + 4 + due (f .log .held) ⌝ }
+    ensures bounds { λ r. ⌜ r .log .count + closingOwed (r .log .opened) ≤ f .log .count + 4 + closingOwed (f .log .opened) ⌝ }
 {
     let rows = rate_rows(rate, xtal);
     device::access_all(f, rows, 4, outcomes, room)
@@ -300,17 +481,27 @@ fn log_upward(
     outcomes: &[u8],
     room: &mut [u8],
 ) -> Log
-    requires { ⌜ (n ≤ 20) × (register ≤ 255) × (l .count + n + due (l .held) ≤ length (now outcomes)) × (16 * (l .count + n + due (l .held)) ≤ length (now room)) ⌝ }
+    requires { ⌜ (n ≤ 20) × (register ≤ 255) × (l .count + n + closingOwed (l .opened) ≤ length (now outcomes)) × (16 * (l .count + n + closingOwed (l .opened)) ≤ length (now room)) ⌝ }
     ensures { λ r. ⌜ ((chip : Chip) → onLog chip r (now (room .exit))
         ≡ run inRoom (now (outcomes .entry)) (upward register (take n bytes)) (onLog chip l (now (room .entry)))) ⌝ }
-    ensures bounds { λ r. ⌜ r .count + due (r .held) ≤ l .count + n + due (l .held) ⌝ }
+    ensures bounds { λ r. ⌜ r .count + closingOwed (r .opened) ≤ l .count + n + closingOwed (l .opened) ⌝ }
 {
     let mut l = l;
     let mut i = 0;
     while i < n {
         let at = register + i as u16;
         let byte = bytes[i];
-        l = device::log_access(l, Access(DEMOD, P1_PAGE, at, byte as u16), outcomes, room);
+        l = device::log_access(
+            l,
+            Access {
+                kind: DEMOD,
+                target: P1_PAGE,
+                address: at,
+                value: byte as u16,
+            },
+            outcomes,
+            room,
+        );
         i += 1;
     }
     l
@@ -324,22 +515,22 @@ fn write_upward(
     outcomes: &[u8],
     room: &mut [u8],
 ) -> Flow
-    requires { ⌜ (n ≤ 20) × (register ≤ 255) × (f .log .count + n + due (f .log .held) ≤ length (now outcomes)) × (16 * (f .log .count + n + due (f .log .held)) ≤ length (now room)) ⌝ }
+    requires { ⌜ (n ≤ 20) × (register ≤ 255) × (f .log .count + n + closingOwed (f .log .opened) ≤ length (now outcomes)) × (16 * (f .log .count + n + closingOwed (f .log .opened)) ≤ length (now room)) ⌝ }
     ensures { λ r. ⌜ onRoom r (now (room .exit)) ≡ run inRoom (now (outcomes .entry)) (upward register (take n bytes)) (onRoom f (now (room .entry))) ⌝ }
-    ensures bounds { λ r. ⌜ r .log .count + due (r .log .held) ≤ f .log .count + n + due (f .log .held) ⌝ }
+    ensures bounds { λ r. ⌜ r .log .count + closingOwed (r .log .opened) ≤ f .log .count + n + closingOwed (f .log .opened) ⌝ }
 {
-    let chip = f.chip;
+    let chip_state = f.chip;
     let log = log_upward(f.log, register, bytes, n, outcomes, room);
     Flow {
-        chip: chip,
+        chip: chip_state,
         log: log,
     }
 }
 
 fn power_steps(f: Flow, outcomes: &[u8], room: &mut [u8]) -> Flow
-    requires { ⌜ (f .log .count + 16 + due (f .log .held) ≤ length (now outcomes)) × (16 * (f .log .count + 16 + due (f .log .held)) ≤ length (now room)) ⌝ }
+    requires { ⌜ (f .log .count + 16 + closingOwed (f .log .opened) ≤ length (now outcomes)) × (16 * (f .log .count + 16 + closingOwed (f .log .opened)) ≤ length (now room)) ⌝ }
     ensures { λ r. ⌜ onRoom r (now (room .exit)) ≡ run inRoom (now (outcomes .entry)) (powerSteps ++ upward 0x16 (replicate 6 0)) (onRoom f (now (room .entry))) ⌝ }
-    ensures bounds { λ r. ⌜ r .log .count + due (r .log .held) ≤ f .log .count + 16 + due (f .log .held) ⌝ }
+    ensures bounds { λ r. ⌜ r .log .count + closingOwed (r .log .opened) ≤ f .log .count + 16 + closingOwed (f .log .opened) ⌝ }
 {
     let zeros = [0u8; 20];
     let on = device::access_all(f, POWER, 10, outcomes, room);
@@ -347,18 +538,18 @@ fn power_steps(f: Flow, outcomes: &[u8], room: &mut [u8]) -> Flow
 }
 
 fn set_fir(f: Flow, outcomes: &[u8], room: &mut [u8]) -> Flow
-    requires { ⌜ (f .log .count + 20 + due (f .log .held) ≤ length (now outcomes)) × (16 * (f .log .count + 20 + due (f .log .held)) ≤ length (now room)) ⌝ }
+    requires { ⌜ (f .log .count + 20 + closingOwed (f .log .opened) ≤ length (now outcomes)) × (16 * (f .log .count + 20 + closingOwed (f .log .opened)) ≤ length (now room)) ⌝ }
     ensures { λ r. ⌜ onRoom r (now (room .exit)) ≡ run inRoom (now (outcomes .entry)) firSteps (onRoom f (now (room .entry))) ⌝ }
-    ensures bounds { λ r. ⌜ r .log .count + due (r .log .held) ≤ f .log .count + 20 + due (f .log .held) ⌝ }
+    ensures bounds { λ r. ⌜ r .log .count + closingOwed (r .log .opened) ≤ f .log .count + 20 + closingOwed (f .log .opened) ⌝ }
 {
     let bytes = fir::default_bytes();
     write_upward(f, 0x1c, bytes, 20, outcomes, room)
 }
 
 fn init_steps(f: Flow, outcomes: &[u8], room: &mut [u8]) -> Flow
-    requires { ⌜ (f .log .count + 45 + due (f .log .held) ≤ length (now outcomes)) × (16 * (f .log .count + 45 + due (f .log .held)) ≤ length (now room)) ⌝ }
+    requires { ⌜ (f .log .count + 45 + closingOwed (f .log .opened) ≤ length (now outcomes)) × (16 * (f .log .count + 45 + closingOwed (f .log .opened)) ≤ length (now room)) ⌝ }
     ensures { λ r. ⌜ onRoom r (now (room .exit)) ≡ run inRoom (now (outcomes .entry)) initSteps (onRoom f (now (room .entry))) ⌝ }
-    ensures bounds { λ r. ⌜ r .log .count + due (r .log .held) ≤ f .log .count + 45 + due (f .log .held) ⌝ }
+    ensures bounds { λ r. ⌜ r .log .count + closingOwed (r .log .opened) ≤ f .log .count + 45 + closingOwed (f .log .opened) ⌝ }
 {
     let on = power_steps(f, outcomes, room);
     let filtered = set_fir(on, outcomes, room);
@@ -368,7 +559,7 @@ fn init_steps(f: Flow, outcomes: &[u8], room: &mut [u8]) -> Flow
 pub fn init_baseband(outcomes: &[u8], room: &mut [u8]) -> Handed
     ensures { λ r. ⌜ back r (now (room .exit)) ≡ freeResult (demodCourse Baseband) (now (outcomes .entry)) (now (room .entry)) ⌝ }
 {
-    let number = chip::lent(45, 0, room.len(), outcomes.len(), 0);
+    let number = chip::too_short(45, 0, room.len(), outcomes.len(), 0);
     if number != 0 {
         return device::refused(number);
     }

@@ -11,11 +11,12 @@ use lib.ListN.{length}
 use Rattle.chip.specs.declared.Answer.{Answer}
 use Rattle.chip.specs.declared.Answer.the-variants.{Done, Refused}
 use Rattle.chip.specs.declared.Flow.{Flow}
-use Rattle.chip.specs.declared.Went.the-variants.{Going}
-use Rattle.chip.specs.Calls.{Called, answerOf, callOf, called, lentOf, refusalWith, sealed}
+use Rattle.chip.specs.declared.Progress.the-variants.{Going}
+use Rattle.chip.specs.Calls.{Called, answerOf, callOf, called, tooShort, refusalWith}
 use Rattle.chip.specs.Courses.{leftBy}
-use Rattle.chip.specs.Entries.{unseen}
-use Rattle.chip.specs.Steps.{Step, eight, every, inRoom, line, logged, onRoom, run}
+use Rattle.chip.specs.Entries.{noTries}
+use Rattle.chip.specs.InCode.{sealed, inRoom, logged, onRoom}
+use Rattle.chip.specs.Steps.{Step, eight, every, line, run}
 use Rattle.chip.proofs.Taken.{handed}
 use Rattle.device.specs.declared.Access.{Access}
 use Rattle.device.specs.Accesses.{accessEntry, accessStep, isTwo}
@@ -24,9 +25,9 @@ use Rattle.device.specs.Calls.{free, freeCall, freeResult, noChip}
 -- an access has its eight data bytes
 pub access-eight : (a : Access) → eight (accessStep a) ≡ true
 unfolding accessStep
-access-eight a = go (isTwo (a .0)) refl
+access-eight a = go (isTwo (a .kind)) refl
   where
-    go : (b : Bool) → isTwo (a .0) ≡ b → eight (accessStep a) ≡ true
+    go : (b : Bool) → isTwo (a .kind) ≡ b → eight (accessStep a) ≡ true
     go true e = rw e
     go false e = rw e
 
@@ -44,8 +45,8 @@ refuses number os ss room given e h = rw (← e, ne-eqb given 0 h)
 -- performed: where the code stands after its program, and the trailer
 pub performs : (number : ℕ) (os : List ℕ) (ss : List Step) (room : List ℕ) (f : Flow) (mid after : List ℕ) (answer : Answer)
     → number ≡ 0 → every eight ss ≡ true
-    → onRoom f mid ≡ run inRoom os ss (line noChip (logged room unseen) 0 Going false)
-    → answer ≡ answerOf (Done 0) (f .log .went) → after ≡ sealed mid (f .log .count)
+    → onRoom f mid ≡ run inRoom os ss (line noChip (logged room noTries) 0 Going false)
+    → answer ≡ answerOf (Done 0) (f .log .progress) → after ≡ sealed mid (f .log .count)
     → called tt after (f .log .count) answer ≡ freeCall number os ss room
 unfolding callOf
 performs number os ss room f mid after answer z h e q p =
@@ -56,19 +57,19 @@ pick-zero : (b : Bool) (n m : ℕ) → 0 < n → cond b n m ≡ 0 → (b ≡ fal
 pick-zero true n m h e = absurd (omega arith)
 pick-zero false n m h e = (refl, e)
 
-lent-room : (n m room outcomes replies : ℕ) → lentOf n m room outcomes replies ≡ 0 → 16 * n + 8 ≤ room
-unfolding lentOf
+lent-room : (n m room outcomes replies : ℕ) → tooShort n m room outcomes replies ≡ 0 → 16 * n + 8 ≤ room
+unfolding tooShort
 lent-room n m room outcomes replies h =
     ltb-false room (16 * n + 8) (pick-zero (ltb room (16 * n + 8)) 8 (cond (ltb outcomes n) 9 (cond (ltb replies m) 10 0)) (omega arith) h .0)
 
-lent-outcomes : (n m room outcomes replies : ℕ) → lentOf n m room outcomes replies ≡ 0 → n ≤ outcomes
-unfolding lentOf
+lent-outcomes : (n m room outcomes replies : ℕ) → tooShort n m room outcomes replies ≡ 0 → n ≤ outcomes
+unfolding tooShort
 lent-outcomes n m room outcomes replies h =
     let rest : _≡_ {A = ℕ} (cond (ltb outcomes n) 9 (cond (ltb replies m) 10 0)) 0 =
     pick-zero (ltb room (16 * n + 8)) 8 (cond (ltb outcomes n) 9 (cond (ltb replies m) 10 0)) (omega arith) h .1 in
     ltb-false outcomes n (pick-zero (ltb outcomes n) 9 (cond (ltb replies m) 10 0) (omega arith) rest .0)
 
-pub suffices : (n m room outcomes replies given : ℕ) → given ≡ lentOf n m room outcomes replies → given ≡ 0 → (n ≤ outcomes) × (16 * n + 8 ≤ room)
+pub suffices : (n m room outcomes replies given : ℕ) → given ≡ tooShort n m room outcomes replies → given ≡ 0 → (n ≤ outcomes) × (16 * n + 8 ≤ room)
 suffices n m room outcomes replies given e z =
     (lent-outcomes n m room outcomes replies (sym e ∙ z), lent-room n m room outcomes replies (sym e ∙ z))
 
@@ -81,7 +82,7 @@ argument-bad argument n m rs os ss room number h z =
     refuses (refusalWith true argument n m (length room) (length os) (length rs)) os ss room number (rw (h, ne-eqb number 0 z)) z
 
 pub argument-good : (argument n m : ℕ) (rs os : List ℕ) (xs ys : List Step) (room : List ℕ) (v : Called (Unit {0})) → argument ≡ 0 → xs ≡ ys
-    → v ≡ freeCall (lentOf n m (length room) (length os) (length rs)) os xs room → v ≡ freeResult (free argument n m rs ys) os room
+    → v ≡ freeCall (tooShort n m (length room) (length os) (length rs)) os xs room → v ≡ freeResult (free argument n m rs ys) os room
 unfolding freeResult leftBy
 argument-good argument n m rs os xs ys room v h same e =
-    e ∙ ap (λ (ss : List Step). freeCall (lentOf n m (length room) (length os) (length rs)) os ss room) same ∙ rw h
+    e ∙ ap (λ (ss : List Step). freeCall (tooShort n m (length room) (length os) (length rs)) os ss room) same ∙ rw h

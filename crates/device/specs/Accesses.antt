@@ -6,8 +6,8 @@ use mathlib.Core.List.{List, [], _∷_}
 use lib.Dec.{eqb}
 use Rattle.transcript.specs.declared.Entry.{Entry}
 use Rattle.transcript.specs.Entries.{entryFits}
-use Rattle.chip.specs.Entries.{settled}
-use Rattle.chip.specs.Steps.{Step, padded}
+use Rattle.chip.specs.Entries.{withOutcome}
+use Rattle.chip.specs.Steps.{Step}
 use Rattle.chip.specs.Steps.Step.{Open, Close, Send, Mask, Plain}
 use Rattle.device.specs.declared.Access.{Access}
 
@@ -39,29 +39,22 @@ blockWrite16 block register value =
 
 -- an access by its kind, target, register and value
 abbrev pub access : ℕ → ℕ → ℕ → ℕ → Access
-access kind target register value = record { 0 = kind; 1 = target; 2 = register; 3 = value }
-
--- what fills an array behind the accesses that are meant: of no kind
-abbrev pub noAccess : Access
-noAccess = access 0 0 0 0
-
-abbrev pub ten : List Access → List Access
-ten rows = padded 10 noAccess rows
+access kind target register value = record { kind = kind; target = target; address = register; value = value }
 
 -- the kinds of 16 bits
 abbrev pub isTwo : ℕ → Bool
 isTwo kind = eqb kind 5 || eqb kind 7
 
--- an access by its row of the table; of "8 block read | block | 1 | register; byte, zero if failed" a failed one's byte is `settled`'s matter
+-- an access by its row of the table; of "8 block read | block | 1 | register; byte, zero if failed" a failed one's byte is `withOutcome`'s matter
 abbrev pub accessEntry : Access → Entry
 accessEntry a =
     record {
-      kind = a .0;
+      kind = a .kind;
       outcome = 0;
-      target = a .1;
-      n = cond (isTwo (a .0)) 2 (cond (eqb (a .0) 9) 0 1);
-      address = a .2;
-      bytes = cond (isTwo (a .0)) (two (a .3)) (one (a .3));
+      target = a .target;
+      n = cond (isTwo (a .kind)) 2 (cond (eqb (a .kind) 9) 0 1);
+      address = a .address;
+      bytes = cond (isTwo (a .kind)) (two (a .value)) (one (a .value));
     }
 
 unfoldable pub accessStep : Access → Step
@@ -73,4 +66,4 @@ fitting Open = false
 fitting Close = false
 fitting (Send n bytes) = false
 fitting (Mask register value mask) = false
-fitting (Plain e) = entryFits (settled e true)
+fitting (Plain e) = entryFits (withOutcome e true)

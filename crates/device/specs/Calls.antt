@@ -7,11 +7,10 @@ use mathlib.Core.List.{List}
 use lib.ListN.{replicate}
 use Rattle.chip.specs.declared.Answer.the-variants.{Done}
 use Rattle.chip.specs.declared.Chip.{Chip}
-use Rattle.chip.specs.Calls.{Called, callOf, called}
+use Rattle.chip.specs.Calls.{Called, callOf}
 use Rattle.chip.specs.Courses.{Course, leftBy}
 use Rattle.chip.specs.Courses.Course.{Taken}
 use Rattle.chip.specs.Steps.{Step}
-use Rattle.device.specs.declared.Handed.{Handed}
 
 abbrev pub noChip : Chip
 noChip = record { address = 0; shadow = replicate 27 0; doubtful = replicate 27 false }
@@ -27,7 +26,3 @@ free argument n m rs ss = Taken argument n m rs (Done 0) ss (λ t. tt)
 -- what a row leaves
 unfoldable pub freeResult : Course (Unit {0}) → List ℕ → List ℕ → Called (Unit {0})
 freeResult row os room = leftBy true row os noChip tt room
-
--- what the code hands back, with the room
-abbrev pub back : Handed → List ℕ → Called (Unit {0})
-back r room = called tt room (r .count) (r .answer)

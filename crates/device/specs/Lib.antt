@@ -1,3 +1,4 @@
 pub mod Accesses
 pub mod Calls
 pub mod Gpio
+pub mod InCode

@@ -1,16 +1,18 @@
 // The interface's register accesses and the GPIO calls of src/device.rs, over a script of outcomes and replies and a room for the
 // entries. Document 01, "Transcript and script" (kinds 4 to 9), "Refusal numbers" ("`set_gpio_*` touch no record").
-// What touches no record is run by chip's interpreter over a chip of zeros, of which nothing is handed back.
+// Calls that touch no record are run by crate chip's steps over a chip of zeros, of which nothing is handed back.
 ghost use mathlib.Core.List.{List, map};
 ghost use mathlib.Core.Path.{_≡_};
 ghost use Prim.Native.Nat.{ℕ, _+_, _*_, _^_, _≤_, _<_};
 ghost use lib.ListN.{length, getD, take};
 ghost use Rattle.chip.specs.declared.Chip.{Chip};
-ghost use Rattle.chip.specs.Steps.{due, step, run, inRoom, onLog, onRoom};
-ghost use Rattle.chip.specs.Calls.{called, lentOf};
+ghost use Rattle.chip.specs.InCode.{inRoom, onLog, onRoom};
+ghost use Rattle.chip.specs.Steps.{closingOwed, step, run};
+ghost use Rattle.chip.specs.Calls.{called, tooShort};
 ghost use Rattle.chip.specs.declared.Answer.the-variants.{Refused};
-ghost use Rattle.device.specs.Accesses.{accessEntry, accessStep, ten};
-ghost use Rattle.device.specs.Calls.{back, freeCall, freeResult};
+ghost use Rattle.device.specs.Accesses.{accessEntry, accessStep};
+ghost use Rattle.device.specs.InCode.{ten, back};
+ghost use Rattle.device.specs.Calls.{freeCall, freeResult};
 ghost use Rattle.device.specs.Gpio.{bitRows, bitSteps, changedOf, gpioCourse, outputRows, outputSteps, withBit, withoutBit};
 ghost use Rattle.device.specs.Gpio.Order.{Output, Bit};
 use chip::Answer;
@@ -27,12 +29,22 @@ use transcript::Entry;
 use transcript::READ;
 use transcript::WAIT;
 
-// One access of the interface: its kind, target (page or block), register, and value. A write of 8 or 16 bits, a read with the
-// reply as its value, or a wait of `register` milliseconds.
-pub struct Access(pub u8, pub u8, pub u16, pub u16);
+// One access of the interface: its kind, target (page or block), address (the register) and value. A write of 8 or 16 bits, a read with the
+// reply as its value, or a wait of `address` milliseconds.
+pub struct Access {
+    pub kind: u8,
+    pub target: u8,
+    pub address: u16,
+    pub value: u16,
+}
 
-// What fills an array behind the accesses of a call: of no kind, and never taken.
-pub const NONE: Access = Access(0, 0, 0, 0);
+// What fills an array after the accesses of a call: of no kind, and never made.
+pub const NONE: Access = Access {
+    kind: 0,
+    target: 0,
+    address: 0,
+    value: 0,
+};
 
 // The chip of calls that touch no record.
 pub const NO_CHIP: Chip = Chip {
@@ -51,16 +63,16 @@ pub struct Handed {
 fn entry(a: Access) -> Entry
     ensures { λ r. ⌜ r ≡ accessEntry a ⌝ }
 {
-    let kind = a.0;
-    let high = (a.3 / 256) as u8;
-    let low = (a.3 % 256) as u8;
+    let kind = a.kind;
+    let high = (a.value / 256) as u8;
+    let low = (a.value % 256) as u8;
     if (kind == DEMOD16) | (kind == BLOCK16) {
         return Entry {
             kind: kind,
             outcome: 0,
-            target: a.1,
+            target: a.target,
             n: 2,
-            address: a.2,
+            address: a.address,
             bytes: [high, low, 0, 0, 0, 0, 0, 0],
         };
     }
@@ -68,9 +80,9 @@ fn entry(a: Access) -> Entry
     Entry {
         kind: kind,
         outcome: 0,
-        target: a.1,
+        target: a.target,
         n: n,
-        address: a.2,
+        address: a.address,
         bytes: [low, 0, 0, 0, 0, 0, 0, 0],
     }
 }
@@ -79,7 +91,7 @@ pub fn log_access(l: Log, a: Access, outcomes: &[u8], room: &mut [u8]) -> Log
     requires { ⌜ (l .count < length (now outcomes)) × (16 * l .count + 16 ≤ length (now room)) ⌝ }
     ensures { λ r. ⌜ ((chip : Chip) → onLog chip r (now (room .exit))
         ≡ step inRoom (now (outcomes .entry)) (accessStep a) (onLog chip l (now (room .entry)))) ⌝ }
-    ensures bounds { λ r. ⌜ r .count + due (r .held) ≤ l .count + 1 + due (l .held) ⌝ }
+    ensures bounds { λ r. ⌜ r .count + closingOwed (r .opened) ≤ l .count + 1 + closingOwed (l .opened) ⌝ }
 {
     let e = entry(a);
     chip::log_plain(l, e, outcomes, room)
@@ -88,22 +100,22 @@ pub fn log_access(l: Log, a: Access, outcomes: &[u8], room: &mut [u8]) -> Log
 pub fn one_access(f: Flow, a: Access, outcomes: &[u8], room: &mut [u8]) -> Flow
     requires { ⌜ (f .log .count < length (now outcomes)) × (16 * f .log .count + 16 ≤ length (now room)) ⌝ }
     ensures { λ r. ⌜ onRoom r (now (room .exit)) ≡ step inRoom (now (outcomes .entry)) (accessStep a) (onRoom f (now (room .entry))) ⌝ }
-    ensures bounds { λ r. ⌜ r .log .count + due (r .log .held) ≤ f .log .count + 1 + due (f .log .held) ⌝ }
+    ensures bounds { λ r. ⌜ r .log .count + closingOwed (r .log .opened) ≤ f .log .count + 1 + closingOwed (f .log .opened) ⌝ }
 {
-    let chip = f.chip;
+    let chip_state = f.chip;
     let log = log_access(f.log, a, outcomes, room);
     Flow {
-        chip: chip,
+        chip: chip_state,
         log: log,
     }
 }
 
-// The first n of a list of accesses; those behind a failed one are not taken.
+// The first n of a list of accesses; those after a failed one are not made.
 fn log_all(l: Log, rows: [Access; 10], n: usize, outcomes: &[u8], room: &mut [u8]) -> Log
-    requires { ⌜ (n ≤ 10) × (l .count + n + due (l .held) ≤ length (now outcomes)) × (16 * (l .count + n + due (l .held)) ≤ length (now room)) ⌝ }
+    requires { ⌜ (n ≤ 10) × (l .count + n + closingOwed (l .opened) ≤ length (now outcomes)) × (16 * (l .count + n + closingOwed (l .opened)) ≤ length (now room)) ⌝ }
     ensures { λ r. ⌜ ((chip : Chip) → onLog chip r (now (room .exit))
         ≡ run inRoom (now (outcomes .entry)) (map accessStep (take n rows)) (onLog chip l (now (room .entry)))) ⌝ }
-    ensures bounds { λ r. ⌜ r .count + due (r .held) ≤ l .count + n + due (l .held) ⌝ }
+    ensures bounds { λ r. ⌜ r .count + closingOwed (r .opened) ≤ l .count + n + closingOwed (l .opened) ⌝ }
 {
     let mut l = l;
     let mut i = 0;
@@ -115,15 +127,15 @@ fn log_all(l: Log, rows: [Access; 10], n: usize, outcomes: &[u8], room: &mut [u8
 }
 
 pub fn access_all(f: Flow, rows: [Access; 10], n: usize, outcomes: &[u8], room: &mut [u8]) -> Flow
-    requires { ⌜ (n ≤ 10) × (f .log .count + n + due (f .log .held) ≤ length (now outcomes)) × (16 * (f .log .count + n + due (f .log .held)) ≤ length (now room)) ⌝ }
+    requires { ⌜ (n ≤ 10) × (f .log .count + n + closingOwed (f .log .opened) ≤ length (now outcomes)) × (16 * (f .log .count + n + closingOwed (f .log .opened)) ≤ length (now room)) ⌝ }
     ensures { λ r. ⌜ onRoom r (now (room .exit))
         ≡ run inRoom (now (outcomes .entry)) (map accessStep (take n rows)) (onRoom f (now (room .entry))) ⌝ }
-    ensures bounds { λ r. ⌜ r .log .count + due (r .log .held) ≤ f .log .count + n + due (f .log .held) ⌝ }
+    ensures bounds { λ r. ⌜ r .log .count + closingOwed (r .log .opened) ≤ f .log .count + n + closingOwed (f .log .opened) ⌝ }
 {
-    let chip = f.chip;
+    let chip_state = f.chip;
     let log = log_all(f.log, rows, n, outcomes, room);
     Flow {
-        chip: chip,
+        chip: chip_state,
         log: log,
     }
 }
@@ -149,9 +161,9 @@ pub fn perform(
 ) -> Handed
     requires { ⌜ n ≤ 10 ⌝ }
     ensures { λ r. ⌜ back r (now (room .exit))
-        ≡ freeCall (lentOf n m (length (now (room .entry))) (length (now (outcomes .entry))) replies) (now (outcomes .entry)) (map accessStep (take n rows)) (now (room .entry)) ⌝ }
+        ≡ freeCall (tooShort n m (length (now (room .entry))) (length (now (outcomes .entry))) replies) (now (outcomes .entry)) (map accessStep (take n rows)) (now (room .entry)) ⌝ }
 {
-    let number = chip::lent(n, m, room.len(), outcomes.len(), replies);
+    let number = chip::too_short(n, m, room.len(), outcomes.len(), replies);
     if number != 0 {
         return refused(number);
     }
@@ -209,10 +221,30 @@ fn output_rows(gpio: u8, a: u8, b: u8) -> [Access; 10]
     let out = with_bit(a, gpio);
     let driven = without_bit(b, gpio);
     let mut rows = [NONE; 10];
-    rows[0] = Access(READ, block::SYS, sys::GPOE, a as u16);
-    rows[1] = Access(BLOCK, block::SYS, sys::GPOE, out as u16);
-    rows[2] = Access(READ, block::SYS, sys::GPD, b as u16);
-    rows[3] = Access(BLOCK, block::SYS, sys::GPD, driven as u16);
+    rows[0] = Access {
+        kind: READ,
+        target: block::SYS,
+        address: sys::GPOE,
+        value: a as u16,
+    };
+    rows[1] = Access {
+        kind: BLOCK,
+        target: block::SYS,
+        address: sys::GPOE,
+        value: out as u16,
+    };
+    rows[2] = Access {
+        kind: READ,
+        target: block::SYS,
+        address: sys::GPD,
+        value: b as u16,
+    };
+    rows[3] = Access {
+        kind: BLOCK,
+        target: block::SYS,
+        address: sys::GPD,
+        value: driven as u16,
+    };
     rows
 }
 
@@ -234,25 +266,35 @@ fn bit_rows(gpio: u8, value: u8, a: u8) -> [Access; 10]
 {
     let new = changed(gpio, value, a);
     let mut rows = [NONE; 10];
-    rows[0] = Access(READ, block::SYS, sys::GPO, a as u16);
-    rows[1] = Access(BLOCK, block::SYS, sys::GPO, new as u16);
+    rows[0] = Access {
+        kind: READ,
+        target: block::SYS,
+        address: sys::GPO,
+        value: a as u16,
+    };
+    rows[1] = Access {
+        kind: BLOCK,
+        target: block::SYS,
+        address: sys::GPO,
+        value: new as u16,
+    };
     rows
 }
 
-// What a larger call holds of the two: a failed read cuts it, so the write behind one never uses its zeros.
+// The steps of the two for a larger call. A failed read ends it, so the write after it never uses the zeros of a failed read.
 pub fn gpio_output(f: Flow, gpio: u8, a: u8, b: u8, outcomes: &[u8], room: &mut [u8]) -> Flow
-    requires { ⌜ (gpio < 8) × (f .log .count + 4 + due (f .log .held) ≤ length (now outcomes)) × (16 * (f .log .count + 4 + due (f .log .held)) ≤ length (now room)) ⌝ }
+    requires { ⌜ (gpio < 8) × (f .log .count + 4 + closingOwed (f .log .opened) ≤ length (now outcomes)) × (16 * (f .log .count + 4 + closingOwed (f .log .opened)) ≤ length (now room)) ⌝ }
     ensures { λ r. ⌜ onRoom r (now (room .exit)) ≡ run inRoom (now (outcomes .entry)) (outputSteps gpio a b) (onRoom f (now (room .entry))) ⌝ }
-    ensures bounds { λ r. ⌜ r .log .count + due (r .log .held) ≤ f .log .count + 4 + due (f .log .held) ⌝ }
+    ensures bounds { λ r. ⌜ r .log .count + closingOwed (r .log .opened) ≤ f .log .count + 4 + closingOwed (f .log .opened) ⌝ }
 {
     let rows = output_rows(gpio, a, b);
     access_all(f, rows, 4, outcomes, room)
 }
 
 pub fn gpio_bit(f: Flow, gpio: u8, value: u8, a: u8, outcomes: &[u8], room: &mut [u8]) -> Flow
-    requires { ⌜ (gpio < 8) × (f .log .count + 2 + due (f .log .held) ≤ length (now outcomes)) × (16 * (f .log .count + 2 + due (f .log .held)) ≤ length (now room)) ⌝ }
+    requires { ⌜ (gpio < 8) × (f .log .count + 2 + closingOwed (f .log .opened) ≤ length (now outcomes)) × (16 * (f .log .count + 2 + closingOwed (f .log .opened)) ≤ length (now room)) ⌝ }
     ensures { λ r. ⌜ onRoom r (now (room .exit)) ≡ run inRoom (now (outcomes .entry)) (bitSteps gpio value a) (onRoom f (now (room .entry))) ⌝ }
-    ensures bounds { λ r. ⌜ r .log .count + due (r .log .held) ≤ f .log .count + 2 + due (f .log .held) ⌝ }
+    ensures bounds { λ r. ⌜ r .log .count + closingOwed (r .log .opened) ≤ f .log .count + 2 + closingOwed (f .log .opened) ⌝ }
 {
     let rows = bit_rows(gpio, value, a);
     access_all(f, rows, 2, outcomes, room)

@@ -20,7 +20,8 @@ use Rattle.r82xx.specs.declared.Tuner.{Tuner}
 use Rattle.r82xx.specs.Record.{sound, soundBy, withCorrected}
 use Rattle.driver.specs.declared.Driver.{Driver}
 use Rattle.driver.specs.Record.{soundDriver, withPpm, xtalBy, xtalOf}
-use Rattle.driver.specs.Calls.{Both, both, correctionAnswer, correctionCall, correctionRefusal, correctionResult, keptPpm, keptReference}
+use Rattle.driver.specs.InCode.{correctionAnswer, correctionRefusal, keptPpm, keptReference}
+use Rattle.driver.specs.Calls.{Both, both, correctionCall, correctionResult}
 use Rattle.driver.proofs.Xtals.{xtal-is}
 
 module _ (nominal corrected other : ℕ) (had ppm : ℤ) where

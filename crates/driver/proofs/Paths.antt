@@ -5,7 +5,7 @@ use mathlib.Core.List.{List}
 use Rattle.transcript.specs.declared.Entry.{Entry}
 use Rattle.board.specs.declared.Path.{Path}
 use Rattle.chip.specs.declared.Update.{Update}
-use Rattle.chip.specs.Steps.{Line, behind, run, updates}
+use Rattle.chip.specs.Steps.{Line, whileOpen, run, updates}
 use Rattle.pll.specs.declared.Kind.{Kind}
 use Rattle.pll.specs.declared.Kind.the-variants.{R820T, R828D}
 use Rattle.writes.specs.Lists.{pathUpdates}
@@ -15,5 +15,5 @@ pub still : {L : Type 0} (put : L → ℕ → Entry → L) (os : List ℕ) (kind
 unfolding run
 still put os kind path w e = rw e
 
-pub own-path : (kind : Kind) (path : Path) (us : List Update) → kind ≡ R828D → us ≡ pathUpdates path → behind (updates us) ≡ tunerPath kind path
-own-path kind path us e u = ap (λ (l : List Update). behind (updates l)) u ∙ sym (ap (λ (k : Kind). tunerPath k path) e)
+pub own-path : (kind : Kind) (path : Path) (us : List Update) → kind ≡ R828D → us ≡ pathUpdates path → whileOpen (updates us) ≡ tunerPath kind path
+own-path kind path us e u = ap (λ (l : List Update). whileOpen (updates l)) u ∙ sym (ap (λ (k : Kind). tunerPath k path) e)

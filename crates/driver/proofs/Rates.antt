@@ -13,11 +13,12 @@ use Rattle.bands.specs.declared.Planned.{Planned}
 use Rattle.chip.specs.declared.Answer.{Answer}
 use Rattle.chip.specs.declared.Answer.the-variants.{Done, Refused}
 use Rattle.chip.specs.declared.Flow.{Flow}
-use Rattle.chip.specs.declared.Went.the-variants.{Going}
-use Rattle.chip.specs.Calls.{Called, answerOf, callOf, called, refusalWith, sealed}
+use Rattle.chip.specs.declared.Progress.the-variants.{Going}
+use Rattle.chip.specs.Calls.{Called, answerOf, callOf, called, refusalWith}
 use Rattle.chip.specs.Courses.{leftBy}
-use Rattle.chip.specs.Entries.{unseen}
-use Rattle.chip.specs.Steps.{Line, Logged, Trace, behind, eight, every, inRoom, line, logged, onRoom, run, updates}
+use Rattle.chip.specs.Entries.{noTries}
+use Rattle.chip.specs.InCode.{sealed, Logged, inRoom, logged, onRoom}
+use Rattle.chip.specs.Steps.{Line, Trace, whileOpen, eight, every, line, run, updates}
 use Rattle.demod.specs.Programs.{ddcSteps, ifRows, ifSteps, rateRows, rateSteps, resetSteps}
 use Rattle.device.specs.Gpio.{bitRows, bitSteps, outputRows, outputSteps}
 use Rattle.device.proofs.Free.{accesses-eight}
@@ -32,7 +33,7 @@ use Rattle.r82xx.proofs.Tuned.{either-one}
 use Rattle.r82xx.proofs.Whole.{bracket-eight, perform-by, refuse-by}
 use Rattle.driver.specs.declared.Driver.{Driver}
 use Rattle.driver.specs.Record.{soundDriver, xtalOf}
-use Rattle.driver.specs.Programs.{anewSteps, boardPathSteps, filterSteps, ifFor, levelFor, sampleRateSteps, tunerPath}
+use Rattle.driver.specs.Programs.{demodSetup, boardPathSteps, filterSteps, ifFor, levelFor, sampleRateSteps, tunerPath}
 use Rattle.driver.specs.Calls.{boardRow, both, rateArgument, rateResult, ratedBy, retuned}
 
 -- every entry has its eight data bytes
@@ -66,17 +67,17 @@ none-eight = refl
 
 filter-eight : (hz rate : ℕ) → every eight (filterSteps hz rate) ≡ true
 filter-eight hz rate =
-    every-app eight (behind (updates (ifUpdates hz))) (behind (updates (bandwidthUpdates rate))) (bracket-eight (ifUpdates hz)) (bracket-eight (bandwidthUpdates rate))
+    every-app eight (whileOpen (updates (ifUpdates hz))) (whileOpen (updates (bandwidthUpdates rate))) (bracket-eight (ifUpdates hz)) (bracket-eight (bandwidthUpdates rate))
 
-anew-eight : (hz rate xtal : ℕ) → every eight (anewSteps hz rate xtal) ≡ true
-anew-eight hz rate xtal =
+demod-setup-eight : (hz rate xtal : ℕ) → every eight (demodSetup hz rate xtal) ≡ true
+demod-setup-eight hz rate xtal =
     every-app eight resetSteps (rateSteps rate xtal ++ ifSteps hz xtal) reset-eight
     (every-app eight (rateSteps rate xtal) (ifSteps hz xtal) (rate-eight rate xtal) (if-eight hz xtal))
 
 pub sample-rate-eight : (hz rate xtal : ℕ) (inverted : Bool) → every eight (sampleRateSteps hz rate xtal inverted) ≡ true
 sample-rate-eight hz rate xtal inverted =
-    every-app eight (filterSteps hz rate) (anewSteps hz rate xtal ++ ddcSteps inverted) (filter-eight hz rate)
-    (every-app eight (anewSteps hz rate xtal) (ddcSteps inverted) (anew-eight hz rate xtal) (ddc-eight inverted))
+    every-app eight (filterSteps hz rate) (demodSetup hz rate xtal ++ ddcSteps inverted) (filter-eight hz rate)
+    (every-app eight (demodSetup hz rate xtal) (ddcSteps inverted) (demod-setup-eight hz rate xtal) (ddc-eight inverted))
 
 tuner-path-eight : (kind : Kind) (path : Path) → every eight (tunerPath kind path) ≡ true
 tuner-path-eight R820T path = none-eight
@@ -99,24 +100,24 @@ module _ (os room : List ℕ) (rate : ℕ) (t : Tuner) (d : Driver) (p : Planned
   rate-refused h =
       refuse-by (refusalWith (sound t && soundDriver d) (rateArgument rate p d) 17 0 (length room) (length os) 0) given (Done 0) os
       (sampleRateSteps (ifFor (t .ifreq) rate) rate (xtalOf d) (p .plan .inverted)) (t .chip)
-      (λ (tr : Trace). both (retuned t (ifFor (t .ifreq) rate) (tr .chip)) (ratedBy d rate (xtalOf d) (tr .went))) (both t d) room number h
+      (λ (tr : Trace). both (retuned t (ifFor (t .ifreq) rate) (tr .chip)) (ratedBy d rate (xtalOf d) (tr .progress))) (both t d) room number h
 
   pub rate-performed : (hz : ℕ) (f : Flow) (mid after : List ℕ) (answer : Answer) (next : Tuner) (later : Driver)
       → given ≡ 0 → hz ≡ ifFor (t .ifreq) rate
-      → onRoom f mid ≡ run inRoom os (sampleRateSteps hz rate xtal (p .plan .inverted)) (line (t .chip) (logged room unseen) 0 Going false)
-      → after ≡ sealed mid (f .log .count) → answer ≡ answerOf (Done 0) (f .log .went)
-      → next ≡ retuned t hz (f .chip) → later ≡ ratedBy d rate xtal (f .log .went)
+      → onRoom f mid ≡ run inRoom os (sampleRateSteps hz rate xtal (p .plan .inverted)) (line (t .chip) (logged room noTries) 0 Going false)
+      → after ≡ sealed mid (f .log .count) → answer ≡ answerOf (Done 0) (f .log .progress)
+      → next ≡ retuned t hz (f .chip) → later ≡ ratedBy d rate xtal (f .log .progress)
       → called (both next later) after (f .log .count) answer ≡ rateResult rate p os t d room
   unfolding rateResult leftBy
   rate-performed hz f mid after answer next later z by-if k q a n l =
       perform-by (refusalWith (sound t && soundDriver d) (rateArgument rate p d) 17 0 (length room) (length os) 0) given (Done 0) os
       (sampleRateSteps (ifFor (t .ifreq) rate) rate (xtalOf d) (p .plan .inverted)) (t .chip)
-      (λ (tr : Trace). both (retuned t (ifFor (t .ifreq) rate) (tr .chip)) (ratedBy d rate (xtalOf d) (tr .went)))
-      (λ (w : Line Logged). both (retuned t (ifFor (t .ifreq) rate) (w .chip)) (ratedBy d rate (xtalOf d) (w .went)))
+      (λ (tr : Trace). both (retuned t (ifFor (t .ifreq) rate) (tr .chip)) (ratedBy d rate (xtalOf d) (tr .progress)))
+      (λ (w : Line Logged). both (retuned t (ifFor (t .ifreq) rate) (w .chip)) (ratedBy d rate (xtalOf d) (w .progress)))
       (both t d) (both next later) room f mid after answer number z
       (sample-rate-eight (ifFor (t .ifreq) rate) rate (xtalOf d) (p .plan .inverted))
-      (k ∙ (λ i. run inRoom os (sampleRateSteps (by-if i) rate (by-driver i) (p .plan .inverted)) (line (t .chip) (logged room unseen) 0 Going false)))
-      q a (λ i. both ((n ∙ ap (λ (x : ℕ). retuned t x (f .chip)) by-if) i) ((l ∙ ap (λ (x : ℕ). ratedBy d rate x (f .log .went)) by-driver) i)) refl
+      (k ∙ (λ i. run inRoom os (sampleRateSteps (by-if i) rate (by-driver i) (p .plan .inverted)) (line (t .chip) (logged room noTries) 0 Going false)))
+      q a (λ i. both ((n ∙ ap (λ (x : ℕ). retuned t x (f .chip)) by-if) i) ((l ∙ ap (λ (x : ℕ). ratedBy d rate x (f .log .progress)) by-driver) i)) refl
 
 -- Document 02, #103: a rate that the resampler doesn't hold is refused 13 "with record and buffers unchanged", whatever is lent to it
 pub not-held : (rate : ℕ) (p : Planned) (os : List ℕ) (t : Tuner) (d : Driver) (room : List ℕ) → (sound t && soundDriver d) ≡ true → rateArgument rate p d ≡ 13
@@ -156,8 +157,8 @@ module _ (p : PathRead) (path : Path) (os rs room : List ℕ) (t : Tuner) (s : B
       (λ (tr : Trace). withChip t (tr .chip)) t room path-number h)
 
   pub path-performed : (kind : Kind) (f : Flow) (mid after : List ℕ) (answer : Answer) → given ≡ 0 → kind ≡ t .kind
-      → onRoom f mid ≡ run inRoom os (boardPathSteps kind path rs) (line (t .chip) (logged room unseen) 0 Going false)
-      → after ≡ sealed mid (f .log .count) → answer ≡ answerOf (Done 0) (f .log .went)
+      → onRoom f mid ≡ run inRoom os (boardPathSteps kind path rs) (line (t .chip) (logged room noTries) 0 Going false)
+      → after ≡ sealed mid (f .log .count) → answer ≡ answerOf (Done 0) (f .log .progress)
       → called (withChip t (f .chip)) after (f .log .count) answer ≡ boardLeft p os rs t room
   unfolding leftBy
   path-performed kind f mid after answer z by-kind k q a =
@@ -165,4 +166,4 @@ module _ (p : PathRead) (path : Path) (os rs room : List ℕ) (t : Tuner) (s : B
       (perform-by (refusalWith (sound t) 0 10 3 (length room) (length os) (length rs)) given (Done 0) os (boardPathSteps (t .kind) path rs) (t .chip)
       (λ (tr : Trace). withChip t (tr .chip)) (λ (w : Line Logged). withChip t (w .chip)) t (withChip t (f .chip)) room f mid after answer path-number z
       (board-path-eight (t .kind) path rs)
-      (k ∙ ap (λ (x : Kind). run inRoom os (boardPathSteps x path rs) (line (t .chip) (logged room unseen) 0 Going false)) by-kind) q a refl refl)
+      (k ∙ ap (λ (x : Kind). run inRoom os (boardPathSteps x path rs) (line (t .chip) (logged room noTries) 0 Going false)) by-kind) q a refl refl)

@@ -12,8 +12,8 @@ use Rattle.bands.specs.declared.Planned.{Planned}
 use Rattle.chip.specs.declared.Answer.{Answer}
 use Rattle.chip.specs.declared.Answer.the-variants.{Done, Refused, Stopped}
 use Rattle.chip.specs.declared.Chip.{Chip}
-use Rattle.chip.specs.declared.Went.{Went}
-use Rattle.chip.specs.declared.Went.the-variants.{Going, Refused11}
+use Rattle.chip.specs.declared.Progress.{Progress}
+use Rattle.chip.specs.declared.Progress.the-variants.{Going, Refused11}
 use Rattle.chip.specs.Calls.{Called, answerOf, callOf, called, performed, refusalWith}
 use Rattle.chip.specs.Courses.{leftBy}
 use Rattle.chip.specs.Steps.{Step, Trace, trace}
@@ -29,11 +29,11 @@ use Rattle.driver.specs.Programs.{ifFor, sampleRateSteps}
 use Rattle.driver.specs.Calls.{Both, both, rateArgument, rateRefusal, rateResult, ratedBy, retuned}
 
 -- by how the steps went
-rated : (d : Driver) (rate xtal : ℕ) (went : Went) → answerOf (Done 0) went ≡ Done 0 → ratedBy d rate xtal went ≡ withRate d rate (trueOf rate xtal)
+rated : (d : Driver) (rate xtal : ℕ) (progress : Progress) → answerOf (Done 0) progress ≡ Done 0 → ratedBy d rate xtal progress ≡ withRate d rate (trueOf rate xtal)
 rated d rate xtal Going e = refl
 rated d rate xtal (Refused11 k) e = let never : _≡_ {A = ℕ} 0 1 = cc in absurd (omega arith)
 
-unrated : (d : Driver) (rate xtal : ℕ) (went : Went) → (answerOf (Done 0) went ≡ Done 0 → ⊥) → ratedBy d rate xtal went ≡ d
+unrated : (d : Driver) (rate xtal : ℕ) (progress : Progress) → (answerOf (Done 0) progress ≡ Done 0 → ⊥) → ratedBy d rate xtal progress ≡ d
 unrated d rate xtal Going h = absurd (h refl)
 unrated d rate xtal (Refused11 k) h = refl
 
@@ -52,7 +52,7 @@ module _ (rate : ℕ) (p : Planned) (os : List ℕ) (t : Tuner) (d : Driver) (ro
   unfolding rateResult leftBy callOf
   refused-so e = rw e (refl, refl)
 
-  performed-so : eqb number 0 ≡ true → (result .answer ≡ answerOf (Done 0) (ran .went)) × (result .next .driver ≡ ratedBy d rate (xtalOf d) (ran .went))
+  performed-so : eqb number 0 ≡ true → (result .answer ≡ answerOf (Done 0) (ran .progress)) × (result .next .driver ≡ ratedBy d rate (xtalOf d) (ran .progress))
   unfolding rateResult leftBy callOf
   performed-so e = rw e (refl, refl)
 
@@ -63,7 +63,7 @@ module _ (rate : ℕ) (p : Planned) (os : List ℕ) (t : Tuner) (d : Driver) (ro
       go : (b : Bool) → eqb number 0 ≡ b → (result .next .driver ≡ withRate d rate (trueOf rate (xtalOf d))) × (rateRefusal rate d ≡ 0)
       go true e =
           let z = taken-by (sound t && soundDriver d) (rateArgument rate p d) 17 0 (length room) (length os) 0 (eqb-true number 0 e) in
-          (performed-so e .1 ∙ rated d rate (xtalOf d) (ran .went) (sym (performed-so e .0) ∙ done), under (p .refusal) (rateRefusal rate d) (z .taken))
+          (performed-so e .1 ∙ rated d rate (xtalOf d) (ran .progress) (sym (performed-so e .0) ∙ done), under (p .refusal) (rateRefusal rate d) (z .taken))
       go false e = let other : Refused number ≡ Done 0 = sym (refused-so e .0) ∙ done in let never : _≡_ {A = ℕ} 0 1 = cc in absurd (omega arith)
 
   -- "The true rate must be shown to be at least the rate asked wherever #103 accepts"
@@ -79,5 +79,5 @@ module _ (rate : ℕ) (p : Planned) (os : List ℕ) (t : Tuner) (d : Driver) (ro
   kept undone = go (eqb number 0) refl
     where
       go : (b : Bool) → eqb number 0 ≡ b → result .next .driver ≡ d
-      go true e = performed-so e .1 ∙ unrated d rate (xtalOf d) (ran .went) (λ h. undone (performed-so e .0 ∙ h))
+      go true e = performed-so e .1 ∙ unrated d rate (xtalOf d) (ran .progress) (λ h. undone (performed-so e .0 ∙ h))
       go false e = refused-so e .1

@@ -11,19 +11,19 @@ use Rattle.reference.specs.declared.Corrected.{Corrected}
 use Rattle.reference.specs.declared.Corrected.the-variants as corrected-variants
 use Rattle.reference.specs.Correct.{acceptOf, correctedOf}
 use Rattle.reference.proofs.Corrections.{downward, in-range, shareOf, upward}
-use Rattle.driver.specs.Record.{valueOf, xtalBy}
+use Rattle.driver.specs.Record.{xtalValue, xtalBy}
 
 -- worked out apart
 pub xtal-none : (n : ℕ) (ppm : ℤ) (x : Corrected) → x ≡ correctedOf n ppm → x ≡ corrected-variants.Refused → 0 ≡ xtalBy n ppm
 unfolding xtalBy
-xtal-none n ppm x e k = sym (ap valueOf k) ∙ ap valueOf e
+xtal-none n ppm x e k = sym (ap xtalValue k) ∙ ap xtalValue e
 
 pub xtal-some : (n : ℕ) (ppm : ℤ) (x : Corrected) (v : ℕ) → x ≡ correctedOf n ppm → x ≡ corrected-variants.Is v → v ≡ xtalBy n ppm
 unfolding xtalBy
-xtal-some n ppm x v e k = sym (ap valueOf k) ∙ ap valueOf e
+xtal-some n ppm x v e k = sym (ap xtalValue k) ∙ ap xtalValue e
 
 -- not 0: it is the corrected reference
-is-by : (x : Corrected) → leb 1 (valueOf x) ≡ true → x ≡ corrected-variants.Is (valueOf x)
+is-by : (x : Corrected) → leb 1 (xtalValue x) ≡ true → x ≡ corrected-variants.Is (xtalValue x)
 is-by (corrected-variants.Is v) h = refl
 is-by corrected-variants.Refused h = cc
 
@@ -32,7 +32,7 @@ unfolding xtalBy
 xtal-is n ppm h = is-by (correctedOf n ppm) h
 
 -- 0: there is none
-out-by : (x : Corrected) → ((v : ℕ) → x ≡ corrected-variants.Is v → 0 < v) → leb 1 (valueOf x) ≡ false → x ≡ corrected-variants.Refused
+out-by : (x : Corrected) → ((v : ℕ) → x ≡ corrected-variants.Is v → 0 < v) → leb 1 (xtalValue x) ≡ false → x ≡ corrected-variants.Refused
 out-by (corrected-variants.Is v) r h = let some : 0 < v = r v refl in let none : v < 1 = leb-false 1 v h in absurd (omega arith)
 out-by corrected-variants.Refused r h = refl
 

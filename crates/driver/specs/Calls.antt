@@ -13,14 +13,14 @@ use Rattle.bands.specs.declared.Planned.{Planned}
 use Rattle.chip.specs.declared.Answer.{Answer}
 use Rattle.chip.specs.declared.Answer.the-variants.{Done, Refused}
 use Rattle.chip.specs.declared.Chip.{Chip}
-use Rattle.chip.specs.declared.Went.{Went}
+use Rattle.chip.specs.declared.Progress.{Progress}
 use Rattle.chip.specs.Calls.{Called, called}
 use Rattle.chip.specs.Courses.{Course, leftBy}
 use Rattle.chip.specs.Courses.Course.{Still, Taken}
 use Rattle.chip.specs.Steps.{goes}
 use Rattle.registers.specs.Rates.{rateNumber, trueOf}
 use Rattle.r82xx.specs.declared.Tuner.{Tuner}
-use Rattle.r82xx.specs.Record.{sound, soundBy, withChip, withCorrected, withIf}
+use Rattle.r82xx.specs.Record.{sound, withChip, withCorrected, withIf}
 use Rattle.driver.specs.declared.Driver.{Driver}
 use Rattle.driver.specs.Record.{soundDriver, withPpm, withRate, xtalBy, xtalOf}
 use Rattle.driver.specs.Programs.{boardPathSteps, ifFor, sampleRateSteps}
@@ -53,33 +53,17 @@ correctionResult ppm os t d room = leftBy (sound t && soundDriver d) (correction
 abbrev pub correctionCall : ℤ → Tuner → Driver → Called Both
 correctionCall ppm t d = correctionResult ppm [] t d []
 
--- on numbers, the tuner's nominal and corrected reference, the driver's nominal and ppm, and the ppm asked: what refuses it, 0 for nothing, what is stored
--- where the records lie, and what is answered
-unfoldable pub correctionRefusal : ℕ → ℕ → ℕ → ℤ → ℤ → ℕ
-correctionRefusal nominal corrected other had ppm =
-    cond (soundBy nominal corrected && leb 1 (xtalBy other had)) (cond (leb 1 (xtalBy nominal ppm) && leb 1 (xtalBy other ppm)) 0 4) 1
-
-unfoldable pub keptReference : ℕ → ℕ → ℕ → ℤ → ℤ → ℕ
-keptReference nominal corrected other had ppm = cond (eqb (correctionRefusal nominal corrected other had ppm) 0) (xtalBy nominal ppm) corrected
-
-unfoldable pub keptPpm : ℕ → ℕ → ℕ → ℤ → ℤ → ℤ
-keptPpm nominal corrected other had ppm = cond (eqb (correctionRefusal nominal corrected other had ppm) 0) ppm had
-
-unfoldable pub correctionAnswer : ℕ → ℕ → ℕ → ℤ → ℤ → Answer
-correctionAnswer nominal corrected other had ppm =
-    cond (eqb (correctionRefusal nominal corrected other had ppm) 0) (Done 0) (Refused (correctionRefusal nominal corrected other had ppm))
-
 -- Document 02, #103: "Both the demod call and `set_sample_rate` refuse", here with the corrected reference
 abbrev pub rateRefusal : ℕ → Driver → ℕ
 rateRefusal rate d = rateNumber rate (xtalOf d)
 
--- the tuner's record behind it: "IF changes before its writes are tried"
+-- the tuner's record after it: "IF changes before its writes are tried"
 abbrev pub retuned : Tuner → ℕ → Chip → Tuner
 retuned t hz chip = withChip (withIf t hz) chip
 
 -- the driver's: "the rate is recorded only when all steps are done", and with it the true one
-abbrev pub ratedBy : Driver → ℕ → ℕ → Went → Driver
-ratedBy d rate xtal went = cond (goes went) (withRate d rate (trueOf rate xtal)) d
+abbrev pub ratedBy : Driver → ℕ → ℕ → Progress → Driver
+ratedBy d rate xtal progress = cond (goes progress) (withRate d rate (trueOf rate xtal)) d
 
 -- #113: "`set_sample_rate` plans by a table too (19 after 1); no plan, not inverted"
 abbrev pub rateArgument : ℕ → Planned → Driver → ℕ
@@ -90,7 +74,7 @@ abbrev pub rateRow : ℕ → Planned → Tuner → Driver → Course Both
 rateRow rate p t d =
     Taken (rateArgument rate p d) 17 0 [] (Done 0)
     (sampleRateSteps (ifFor (t .ifreq) rate) rate (xtalOf d) (p .plan .inverted))
-    (λ tr. both (retuned t (ifFor (t .ifreq) rate) (tr .chip)) (ratedBy d rate (xtalOf d) (tr .went)))
+    (λ tr. both (retuned t (ifFor (t .ifreq) rate) (tr .chip)) (ratedBy d rate (xtalOf d) (tr .progress)))
 
 -- "board path 10, 3", on R820T too; a number that names no path is a setup: 1
 abbrev pub boardRow : PathRead → List ℕ → Tuner → Course Tuner

@@ -1,3 +1,4 @@
 pub mod Record
 pub mod Programs
 pub mod Calls
+pub mod InCode

@@ -8,7 +8,7 @@ use lib.Dec.{eqb, leb}
 use lib.ListN.{getD}
 use Rattle.board.specs.declared.Path.{Path}
 use Rattle.board.specs.declared.Path.the-variants.{Hf, Vhf, Uhf}
-use Rattle.chip.specs.Steps.{Step, behind, updates}
+use Rattle.chip.specs.Steps.{Step, whileOpen, updates}
 use Rattle.demod.specs.Programs.{ddcSteps, ifSteps, rateSteps, resetSteps}
 use Rattle.device.specs.Gpio.{bitSteps, outputSteps}
 use Rattle.pll.specs.declared.Kind.{Kind}
@@ -21,15 +21,15 @@ ifFor now rate = cond (eqb now 0) 0 (cond (leb 2_500_000 rate) 3_570_000 (cond (
 
 -- the tuner's IF and bandwidth, a bracket each
 abbrev pub filterSteps : ℕ → ℕ → List Step
-filterSteps hz rate = behind (updates (ifUpdates hz)) ++ behind (updates (bandwidthUpdates rate))
+filterSteps hz rate = whileOpen (updates (ifUpdates hz)) ++ whileOpen (updates (bandwidthUpdates rate))
 
--- the demodulator anew: reset, rate, IF
-abbrev pub anewSteps : ℕ → ℕ → ℕ → List Step
-anewSteps hz rate xtal = resetSteps ++ (rateSteps rate xtal ++ ifSteps hz xtal)
+-- the demodulator is set up again: reset, rate, IF
+abbrev pub demodSetup : ℕ → ℕ → ℕ → List Step
+demodSetup hz rate xtal = resetSteps ++ (rateSteps rate xtal ++ ifSteps hz xtal)
 
--- `set_sample_rate` behind its refusals: 7, 9 and the DDC byte, which the reset has cleared
+-- `set_sample_rate` after its refusals: 7, 9 and the DDC byte, which the reset has cleared
 abbrev pub sampleRateSteps : ℕ → ℕ → ℕ → Bool → List Step
-sampleRateSteps hz rate xtal inverted = filterSteps hz rate ++ (anewSteps hz rate xtal ++ ddcSteps inverted)
+sampleRateSteps hz rate xtal inverted = filterSteps hz rate ++ (demodSetup hz rate xtal ++ ddcSteps inverted)
 
 -- the level of GPIO 5: low for HF, high for the others
 abbrev pub levelFor : Path → ℕ
@@ -37,10 +37,10 @@ levelFor Hf = 0
 levelFor Vhf = 1
 levelFor Uhf = 1
 
--- the tuner's own path, which R820T hasn't
+-- the tuner's own path, which an R820T does not have
 abbrev pub tunerPath : Kind → Path → List Step
 tunerPath R820T path = []
-tunerPath R828D path = behind (updates (pathUpdates path))
+tunerPath R828D path = whileOpen (updates (pathUpdates path))
 
 -- `apply_input_path`: GPIO 5's direction and bit, then the tuner's path
 abbrev pub boardPathSteps : Kind → Path → List ℕ → List Step

@@ -19,12 +19,12 @@ use Rattle.driver.specs.declared.Driver.{Driver}
 use Rattle.driver.specs.declared.Made.{Made}
 
 -- "The tuner and the driver each keep their own": the driver's corrected reference is no field, but worked out; 0 where it is out of its range
-abbrev pub valueOf : Corrected → ℕ
-valueOf (corrected-variants.Is v) = v
-valueOf corrected-variants.Refused = 0
+abbrev pub xtalValue : Corrected → ℕ
+xtalValue (corrected-variants.Is v) = v
+xtalValue corrected-variants.Refused = 0
 
 unfoldable pub xtalBy : ℕ → ℤ → ℕ
-xtalBy nominal ppm = valueOf (correctedOf nominal ppm)
+xtalBy nominal ppm = xtalValue (correctedOf nominal ppm)
 
 abbrev pub xtalOf : Driver → ℕ
 xtalOf d = xtalBy (d .nominal) (d .ppm)

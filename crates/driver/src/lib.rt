@@ -10,11 +10,13 @@ ghost use Prim.Native.Nat.{_+_, _*_, _≤_, _<_};
 ghost use lib.ListN.{length};
 ghost use Rattle.board.specs.Numbers.{boardOf};
 ghost use Rattle.chip.specs.Calls.{called};
-ghost use Rattle.chip.specs.Steps.{due, inRoom, onRoom, run};
+ghost use Rattle.chip.specs.InCode.{inRoom, onRoom};
+ghost use Rattle.chip.specs.Steps.{closingOwed, run};
 ghost use Rattle.registers.specs.Rates.{rateNumber};
 ghost use Rattle.driver.specs.Record.{driverOf, nothingMade, xtalBy, xtalOf};
-ghost use Rattle.driver.specs.Programs.{anewSteps, boardPathSteps, filterSteps, ifFor, levelFor, sampleRateSteps, tunerPath};
-ghost use Rattle.driver.specs.Calls.{both, boardResult, correctionAnswer, correctionCall, correctionRefusal, keptPpm, keptReference, rateArgument, rateResult, ratedBy, retuned, xtalAnswer};
+ghost use Rattle.driver.specs.Programs.{demodSetup, boardPathSteps, filterSteps, ifFor, levelFor, sampleRateSteps, tunerPath};
+ghost use Rattle.driver.specs.InCode.{correctionAnswer, correctionRefusal, keptPpm, keptReference};
+ghost use Rattle.driver.specs.Calls.{both, boardResult, correctionCall, rateArgument, rateResult, ratedBy, retuned, xtalAnswer};
 use bands::Planned;
 use board::Board;
 use board::BoardRead;
@@ -23,7 +25,7 @@ use board::PathRead;
 use chip::Answer;
 use chip::Chip;
 use chip::Flow;
-use chip::Went;
+use chip::Progress;
 use pll::Kind;
 use r82xx::Tuner;
 use reference::Corrected;
@@ -45,7 +47,7 @@ pub struct Made {
 }
 
 // What a correction hands back: both next records and its answer. It makes no entries.
-pub struct Told {
+pub struct CorrectionResult {
     pub tuner: Tuner,
     pub driver: Driver,
     pub answer: Answer,
@@ -128,14 +130,14 @@ fn level(path: Path) -> u8
 fn filter_steps(f: Flow, hz: u32, rate: u32, outcomes: &[u8], room: &mut [u8]) -> Flow
     requires { ⌜ (f .log .count + 7 ≤ length (now outcomes)) × (16 * (f .log .count + 7) ≤ length (now room)) ⌝ }
     ensures { λ r. ⌜ onRoom r (now (room .exit)) ≡ run inRoom (now (outcomes .entry)) (filterSteps hz rate) (onRoom f (now (room .entry))) ⌝ }
-    ensures bounds { λ r. ⌜ r .log .count + due (r .log .held) ≤ f .log .count + 7 ⌝ }
+    ensures bounds { λ r. ⌜ r .log .count + closingOwed (r .log .opened) ≤ f .log .count + 7 ⌝ }
 {
-    let chip = f.chip;
-    let mut shadow = chip.shadow;
-    let mut doubtful = chip.doubtful;
+    let chip_state = f.chip;
+    let mut shadow = chip_state.shadow;
+    let mut doubtful = chip_state.doubtful;
     let set = writes::set_if_bandwidth(
         f.log,
-        chip.address,
+        chip_state.address,
         hz as u64,
         &mut shadow,
         &mut doubtful,
@@ -144,7 +146,7 @@ fn filter_steps(f: Flow, hz: u32, rate: u32, outcomes: &[u8], room: &mut [u8]) -
     );
     let log = writes::set_bandwidth(
         set,
-        chip.address,
+        chip_state.address,
         rate,
         &mut shadow,
         &mut doubtful,
@@ -152,7 +154,7 @@ fn filter_steps(f: Flow, hz: u32, rate: u32, outcomes: &[u8], room: &mut [u8]) -
         room,
     );
     let next = Chip {
-        address: chip.address,
+        address: chip_state.address,
         shadow: shadow,
         doubtful: doubtful,
     };
@@ -162,18 +164,18 @@ fn filter_steps(f: Flow, hz: u32, rate: u32, outcomes: &[u8], room: &mut [u8]) -
     }
 }
 
-// The demodulator anew: reset, rate, IF.
-fn anew_steps(f: Flow, hz: u32, rate: u32, xtal: u32, outcomes: &[u8], room: &mut [u8]) -> Flow
-    requires { ⌜ (0 < rate) × (0 < xtal) × (f .log .count + 9 + due (f .log .held) ≤ length (now outcomes)) × (16 * (f .log .count + 9 + due (f .log .held)) ≤ length (now room)) ⌝ }
-    ensures { λ r. ⌜ onRoom r (now (room .exit)) ≡ run inRoom (now (outcomes .entry)) (anewSteps hz rate xtal) (onRoom f (now (room .entry))) ⌝ }
-    ensures bounds { λ r. ⌜ r .log .count + due (r .log .held) ≤ f .log .count + 9 + due (f .log .held) ⌝ }
+// The demodulator is set up again: reset, rate, IF.
+fn demod_setup(f: Flow, hz: u32, rate: u32, xtal: u32, outcomes: &[u8], room: &mut [u8]) -> Flow
+    requires { ⌜ (0 < rate) × (0 < xtal) × (f .log .count + 9 + closingOwed (f .log .opened) ≤ length (now outcomes)) × (16 * (f .log .count + 9 + closingOwed (f .log .opened)) ≤ length (now room)) ⌝ }
+    ensures { λ r. ⌜ onRoom r (now (room .exit)) ≡ run inRoom (now (outcomes .entry)) (demodSetup hz rate xtal) (onRoom f (now (room .entry))) ⌝ }
+    ensures bounds { λ r. ⌜ r .log .count + closingOwed (r .log .opened) ≤ f .log .count + 9 + closingOwed (f .log .opened) ⌝ }
 {
     let reset = demod::reset_steps(f, outcomes, room);
     let rated = demod::rate_steps(reset, rate, xtal, outcomes, room);
     demod::if_steps(rated, hz, xtal, outcomes, room)
 }
 
-// `set_sample_rate` behind its refusals, with the IF worked out and the spectrum inverted or not.
+// `set_sample_rate` after its refusals, with the IF worked out and the spectrum inverted or not.
 fn sample_rate_steps(
     f: Flow,
     hz: u32,
@@ -185,18 +187,18 @@ fn sample_rate_steps(
 ) -> Flow
     requires { ⌜ (0 < rate) × (0 < xtal) × (f .log .count + 17 ≤ length (now outcomes)) × (16 * (f .log .count + 17) ≤ length (now room)) ⌝ }
     ensures { λ r. ⌜ onRoom r (now (room .exit)) ≡ run inRoom (now (outcomes .entry)) (sampleRateSteps hz rate xtal inverted) (onRoom f (now (room .entry))) ⌝ }
-    ensures bounds { λ r. ⌜ r .log .count + due (r .log .held) ≤ f .log .count + 17 ⌝ }
+    ensures bounds { λ r. ⌜ r .log .count + closingOwed (r .log .opened) ≤ f .log .count + 17 ⌝ }
 {
     let tuned = filter_steps(f, hz, rate, outcomes, room);
-    let anew = anew_steps(tuned, hz, rate, xtal, outcomes, room);
+    let anew = demod_setup(tuned, hz, rate, xtal, outcomes, room);
     demod::ddc(anew, inverted, outcomes, room)
 }
 
-// The tuner's own path, which R820T hasn't.
+// The tuner's own path, which an R820T does not have.
 fn tuner_path(f: Flow, kind: Kind, path: Path, outcomes: &[u8], room: &mut [u8]) -> Flow
-    requires { ⌜ (f .log .count + 4 + due (f .log .held) ≤ length (now outcomes)) × (16 * (f .log .count + 4 + due (f .log .held)) ≤ length (now room)) ⌝ }
+    requires { ⌜ (f .log .count + 4 + closingOwed (f .log .opened) ≤ length (now outcomes)) × (16 * (f .log .count + 4 + closingOwed (f .log .opened)) ≤ length (now room)) ⌝ }
     ensures { λ r. ⌜ onRoom r (now (room .exit)) ≡ run inRoom (now (outcomes .entry)) (tunerPath kind path) (onRoom f (now (room .entry))) ⌝ }
-    ensures bounds { λ r. ⌜ r .log .count + due (r .log .held) ≤ f .log .count + 4 + due (f .log .held) ⌝ }
+    ensures bounds { λ r. ⌜ r .log .count + closingOwed (r .log .opened) ≤ f .log .count + 4 + closingOwed (f .log .opened) ⌝ }
 {
     match kind {
         Kind::R820T => f,
@@ -204,7 +206,7 @@ fn tuner_path(f: Flow, kind: Kind, path: Path, outcomes: &[u8], room: &mut [u8])
     }
 }
 
-// `apply_input_path` behind its refusals, over its own part of the replies.
+// `apply_input_path` after its refusals, over its own part of the replies.
 pub fn path_steps(
     f: Flow,
     kind: Kind,
@@ -213,9 +215,9 @@ pub fn path_steps(
     replies: &[u8],
     room: &mut [u8],
 ) -> Flow
-    requires { ⌜ (3 ≤ length (now replies)) × (f .log .count + 10 + due (f .log .held) ≤ length (now outcomes)) × (16 * (f .log .count + 10 + due (f .log .held)) ≤ length (now room)) ⌝ }
+    requires { ⌜ (3 ≤ length (now replies)) × (f .log .count + 10 + closingOwed (f .log .opened) ≤ length (now outcomes)) × (16 * (f .log .count + 10 + closingOwed (f .log .opened)) ≤ length (now room)) ⌝ }
     ensures { λ r. ⌜ onRoom r (now (room .exit)) ≡ run inRoom (now (outcomes .entry)) (boardPathSteps kind path (now (replies .entry))) (onRoom f (now (room .entry))) ⌝ }
-    ensures bounds { λ r. ⌜ r .log .count + due (r .log .held) ≤ f .log .count + 10 + due (f .log .held) ⌝ }
+    ensures bounds { λ r. ⌜ r .log .count + closingOwed (r .log .opened) ≤ f .log .count + 10 + closingOwed (f .log .opened) ⌝ }
 {
     let driven = device::gpio_output(f, INPUT_PIN, replies[0], replies[1], outcomes, room);
     let switched = device::gpio_bit(driven, INPUT_PIN, level(path), replies[2], outcomes, room);
@@ -232,7 +234,7 @@ fn rate_argument(table: u8, rate: u8) -> u8
     rate
 }
 
-// The tuner's record behind a rate: the IF has changed whether or not its writes were done.
+// The tuner's record after a rate: the IF has changed whether or not its writes were done.
 fn retune(tuner: Tuner, hz: u32, chip: Chip) -> Tuner
     ensures { λ r. ⌜ r ≡ retuned tuner hz chip ⌝ }
 {
@@ -242,12 +244,12 @@ fn retune(tuner: Tuner, hz: u32, chip: Chip) -> Tuner
     next
 }
 
-// The driver's record behind a rate: the rate asked and the true one.
-fn with_rate(d: Driver, rate: u32, xtal: u32, went: Went) -> Driver
+// The driver's record after a rate: the rate asked and the true one.
+fn with_rate(d: Driver, rate: u32, xtal: u32, progress: Progress) -> Driver
     requires { ⌜ rateNumber rate xtal ≡ 0 ⌝ }
-    ensures { λ r. ⌜ r ≡ ratedBy d rate xtal went ⌝ }
+    ensures { λ r. ⌜ r ≡ ratedBy d rate xtal progress ⌝ }
 {
-    let Went::Going = went else {
+    let Progress::Going = progress else {
         return d;
     };
     let mut next = d;
@@ -272,7 +274,7 @@ fn correction_refusal(nominal: u32, corrected: u32, other: u32, had: i32, ppm: i
     0
 }
 
-// The tuner's corrected reference behind it: the old one where it is refused.
+// The tuner's corrected reference after it: the old one where it is refused.
 fn kept_reference(nominal: u32, corrected: u32, other: u32, had: i32, ppm: i32) -> u32
     ensures { λ r. ⌜ r ≡ keptReference nominal corrected other had ppm ⌝ }
 {
@@ -282,7 +284,7 @@ fn kept_reference(nominal: u32, corrected: u32, other: u32, had: i32, ppm: i32) 
     xtal_by(nominal, ppm)
 }
 
-// The driver's ppm behind it, likewise.
+// The driver's ppm after it, likewise.
 fn kept_ppm(nominal: u32, corrected: u32, other: u32, had: i32, ppm: i32) -> i32
     ensures { λ r. ⌜ r ≡ keptPpm nominal corrected other had ppm ⌝ }
 {
@@ -302,7 +304,7 @@ fn correction_answer(nominal: u32, corrected: u32, other: u32, had: i32, ppm: i3
     Answer::Done(0)
 }
 
-// Both records are changed where they lie, or neither. It calls covered functions on numbers and stores a field of each record, with no branch: a refusal
+// Both records are changed in place, or neither. It calls covered functions on numbers and stores a field of each record, with no branch: a refusal
 // stores what was there.
 pub fn set_ppm(t: &mut Tuner, d: &mut Driver, ppm: i32) -> Answer
     ensures { λ r. ⌜ called (both (now (t .exit)) (now (d .exit))) [] 0 r ≡ correctionCall ppm (now (t .entry)) (now (d .entry)) ⌝ }
@@ -316,14 +318,14 @@ pub fn set_ppm(t: &mut Tuner, d: &mut Driver, ppm: i32) -> Answer
     correction_answer(nominal, corrected, other, had, ppm)
 }
 
-// `set_ppm` for callers that hold the records by value: they are lent from here, and whoever calls this needs no walk by hand.
-pub fn corrected(t: Tuner, d: Driver, ppm: i32) -> Told
+// `set_ppm` for callers that hold the records by value: it lends its own copies, so that the proof of a caller has no reference to follow.
+pub fn corrected(t: Tuner, d: Driver, ppm: i32) -> CorrectionResult
     ensures { λ r. ⌜ called (both (r .tuner) (r .driver)) [] 0 (r .answer) ≡ correctionCall ppm t d ⌝ }
 {
     let mut tuner = t;
     let mut driver = d;
     let answer = set_ppm(&mut tuner, &mut driver, ppm);
-    Told {
+    CorrectionResult {
         tuner: tuner,
         driver: driver,
         answer: answer,
@@ -380,7 +382,7 @@ impl Driver {
         rate_argument(planned.refusal, number)
     }
 
-    // `set_sample_rate` behind its table: whoever has looked at the plan before, to refuse it, works it out once.
+    // `set_sample_rate` with the table's plan worked out already: a caller that needed the plan before, to refuse the call, works it out once.
     pub fn rate_planned(
         self,
         tuner: Tuner,
@@ -407,19 +409,19 @@ impl Driver {
         }
         let plan = planned.plan;
         let hz = if_for(tuner.ifreq, rate);
-        let chip = tuner.chip;
+        let chip_state = tuner.chip;
         let start = Flow {
-            chip: chip,
+            chip: chip_state,
             log: chip::START,
         };
         let f = sample_rate_steps(start, hz, rate, xtal, plan.inverted, outcomes, room);
         let answered = chip::finish(f, Answer::Done(0), room);
         let log = f.log;
-        let went = log.went;
+        let progress = log.progress;
         let left = f.chip;
         Rated {
             tuner: retune(tuner, hz, left),
-            driver: with_rate(self, rate, xtal, went),
+            driver: with_rate(self, rate, xtal, progress),
             answer: answered,
             count: f.log.count,
         }
@@ -448,7 +450,7 @@ pub fn apply_input_path(
     outcomes: &[u8],
     replies: &[u8],
     room: &mut [u8],
-) -> r82xx::Told
+) -> r82xx::TunerResult
     ensures { λ r. ⌜ called (r .tuner) (now (room .exit)) (r .count) (r .answer)
         ≡ boardResult path (now (replies .entry)) (now (outcomes .entry)) tuner (now (room .entry)) ⌝ }
 {
@@ -461,9 +463,9 @@ pub fn apply_input_path(
         return r82xx::refused(tuner, number);
     }
     let kind = tuner.kind;
-    let chip = tuner.chip;
+    let chip_state = tuner.chip;
     let start = Flow {
-        chip: chip,
+        chip: chip_state,
         log: chip::START,
     };
     let f = path_steps(start, kind, by, outcomes, replies, room);
@@ -471,7 +473,7 @@ pub fn apply_input_path(
     let left = f.chip;
     let mut next = tuner;
     next.chip = left;
-    r82xx::Told {
+    r82xx::TunerResult {
         tuner: next,
         answer: answered,
         count: f.log.count,

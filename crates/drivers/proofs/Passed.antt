@@ -11,9 +11,9 @@ use lib.IntN.{ℤ}
 use lib.ListN.{length}
 use Rattle.chip.specs.declared.Answer.{Answer}
 use Rattle.chip.specs.declared.Answer.the-variants.{Refused}
-use Rattle.chip.specs.declared.Seen.{Seen}
+use Rattle.chip.specs.declared.LockTries.{LockTries}
 use Rattle.chip.specs.Calls.{Called, called}
-use Rattle.chip.specs.Entries.{unseen}
+use Rattle.chip.specs.Entries.{noTries}
 use Rattle.chip.proofs.Laws.{and-left, and-right}
 use Rattle.wire.specs.Parts.{partsFrom}
 use Rattle.driver.specs.declared.Driver.{Driver}
@@ -28,12 +28,12 @@ use Rattle.records.specs.declared.DriverRead.{DriverRead}
 use Rattle.records.specs.declared.TunerRead.{TunerRead}
 use Rattle.records.specs.Drivers.{driverBytes, driverFits, driverFrom, driverOf, driverWidths, isDriver, pickDriver}
 use Rattle.records.specs.Tuners.{isTuner, pickTuner, tunerBytes, tunerFits, tunerFrom, tunerOf, tunerWidths}
-use Rattle.replies.specs.declared.Reply.{Reply}
-use Rattle.replies.specs.declared.TuneReply.{TuneReply}
-use Rattle.replies.specs.Replies.{replyOf, tunedOf}
+use Rattle.reply.specs.declared.Reply.{Reply}
+use Rattle.reply.specs.declared.TuneReply.{TuneReply}
+use Rattle.reply.specs.Replies.{replyOf, tunedOf}
 use Rattle.tuners.specs.Over.{nextOf}
 use Rattle.tuners.proofs.Passed.{not-refused, refused}
-use Rattle.drivers.specs.Drivers.{Hops, Rates, bothReady, correctOver, corrects, correctsMade, hops, hopsBy, overBoth, rates, ratesMade, ratesRefused, seenBoth}
+use Rattle.drivers.specs.Drivers.{Hops, Rates, bothReady, correctOver, corrects, correctsMade, hops, hopsBy, overBoth, rates, ratesMade, ratesRefused, lockTriesBoth}
 
 -- the five ways of `ready`
 module _ (ok : Bool) (argument driver tuner : ℕ) where
@@ -107,18 +107,18 @@ module _ (argument : Tuner → Driver → ℕ) (result : Tuner → Driver → Ca
         ∙ not-refused number (λ n. ratesRefused n room driver tuner) made (sym number-is ∙ z)
 
     -- what is told of the lock
-    module _ (seen : Tuner → Driver → Seen) where
-      pub untold : (n ≡ 0 → ⊥) → unseen ≡ seenBoth argument seen d t driver tuner
-      unfolding seenBoth
-      untold h = refused number (λ n. unseen) (seen (tunerOf t .tuner) (driverOf d .driver)) n number-is h
+    module _ (seen : Tuner → Driver → LockTries) where
+      pub untold : (n ≡ 0 → ⊥) → noTries ≡ lockTriesBoth argument seen d t driver tuner
+      unfolding lockTriesBoth
+      untold h = refused number (λ n. noTries) (seen (tunerOf t .tuner) (driverOf d .driver)) n number-is h
 
-      pub told : n ≡ 0 → (s : Seen) → s ≡ seen (tr .tuner) (dr .driver) → s ≡ seenBoth argument seen d t driver tuner
-      unfolding seenBoth
+      pub told : n ≡ 0 → (s : LockTries) → s ≡ seen (tr .tuner) (dr .driver) → s ≡ lockTriesBoth argument seen d t driver tuner
+      unfolding lockTriesBoth
       told z s e =
-          e ∙ (λ i. seen (is-tuner i .tuner) (is-driver i .driver)) ∙ not-refused number (λ n. unseen) (seen (tunerOf t .tuner) (driverOf d .driver)) (sym number-is ∙ z)
+          e ∙ (λ i. seen (is-tuner i .tuner) (is-driver i .driver)) ∙ not-refused number (λ n. noTries) (seen (tunerOf t .tuner) (driverOf d .driver)) (sym number-is ∙ z)
 
 -- a hop's reply is a rate's with what is told of the lock
-pub hop-told : (r : TuneReply) (q : Reply) (s : Seen) (room driver tuner : List ℕ) (o : Rates) (all : Seen) → r ≡ tunedOf q s → rates q room driver tuner ≡ o → s ≡ all
+pub hop-told : (r : TuneReply) (q : Reply) (s : LockTries) (room driver tuner : List ℕ) (o : Rates) (all : LockTries) → r ≡ tunedOf q s → rates q room driver tuner ≡ o → s ≡ all
     → hops r room driver tuner ≡ hopsBy o all
 hop-told r q s room driver tuner o all e f g = ap (λ (x : TuneReply). hops x room driver tuner) e ∙ (λ i. hopsBy (f i) (g i))
 

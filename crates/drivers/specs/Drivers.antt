@@ -11,19 +11,19 @@ use Rattle.chip.specs.declared.Answer.{Answer}
 use Rattle.chip.specs.declared.Answer.the-variants.{Refused}
 use Rattle.chip.specs.Calls.{Called}
 use Rattle.bands.specs.Tables.{planBy}
-use Rattle.boards.specs.Hops.{hopRefusal, hopResult, hopSeen}
-use Rattle.chip.specs.declared.Seen.{Seen}
+use Rattle.boards.specs.Hops.{hopRefusal, hopResult, hopLockTries}
+use Rattle.chip.specs.declared.LockTries.{LockTries}
 use Rattle.chip.specs.Courses.{argumentOf}
-use Rattle.chip.specs.Entries.{unseen}
+use Rattle.chip.specs.Entries.{noTries}
 use Rattle.r82xx.specs.declared.Tuner.{Tuner}
-use Rattle.replies.specs.declared.TuneReply.{TuneReply}
+use Rattle.reply.specs.declared.TuneReply.{TuneReply}
 use Rattle.driver.specs.declared.Driver.{Driver}
 use Rattle.driver.specs.Calls.{Both, correctionCall, rateResult, rateRow, xtalAnswer}
 use Rattle.driver.specs.Record.{driverOf as madeDriver, xtalOf}
 use Rattle.records.specs.Drivers.{driverBytes, driverOf}
 use Rattle.records.specs.Tuners.{tunerBytes, tunerOf}
-use Rattle.replies.specs.declared.Reply.{Reply}
-use Rattle.replies.specs.Replies.{callReply, replyOf, tunedOf}
+use Rattle.reply.specs.declared.Reply.{Reply}
+use Rattle.reply.specs.Replies.{callReply, replyOf, tunedOf}
 use Rattle.tuners.specs.Over.{nextOf, unlessRefused}
 use Rattle.tuners.specs.Still.{ofRecord}
 
@@ -80,14 +80,14 @@ pub record Hops : Type 0 where
 abbrev pub hops : TuneReply → List ℕ → List ℕ → List ℕ → Hops
 hops answer room driver tuner = record { answer = answer; room = room; driver = driver; tuner = tuner }
 
-abbrev pub hopsBy : Rates → Seen → Hops
+abbrev pub hopsBy : Rates → LockTries → Hops
 hopsBy r s = hops (tunedOf (r .answer) s) (r .room) (r .driver) (r .tuner)
 
 -- what it tells of the lock: nothing where it is refused before any step
-unfoldable pub seenBoth : (Tuner → Driver → ℕ) → (Tuner → Driver → Seen) → List ℕ → List ℕ → List ℕ → List ℕ → Seen
-seenBoth argument seen d t driver tuner =
+unfoldable pub lockTriesBoth : (Tuner → Driver → ℕ) → (Tuner → Driver → LockTries) → List ℕ → List ℕ → List ℕ → List ℕ → LockTries
+lockTriesBoth argument seen d t driver tuner =
     unlessRefused (bothReady (driverOf d .ok && tunerOf t .ok) (argument (tunerOf t .tuner) (driverOf d .driver)) (length driver) (length tuner))
-    (λ n. unseen)
+    (λ n. noTries)
     (seen (tunerOf t .tuner) (driverOf d .driver))
 
 abbrev pub hopArgument : List ℕ → ℕ → Tuner → Driver → ℕ
@@ -96,7 +96,7 @@ hopArgument table hz u v = hopRefusal (planBy table hz) (u .ifreq)
 abbrev pub hopOver : List ℕ → ℕ → List ℕ → List ℕ → List ℕ → List ℕ → List ℕ → List ℕ → List ℕ → Hops
 hopOver table hz rs os d t room driver tuner =
     hopsBy (overBoth (hopArgument table hz) (λ u v. hopResult (planBy table hz) hz rs os u v room) d t room driver tuner)
-    (seenBoth (hopArgument table hz) (λ u v. hopSeen (planBy table hz) hz rs os u v room) d t driver tuner)
+    (lockTriesBoth (hopArgument table hz) (λ u v. hopLockTries (planBy table hz) hz rs os u v room) d t driver tuner)
 
 -- what a correction leaves: its answer, and both records' bytes where they lie
 pub record Corrects : Type 0 where
@@ -111,7 +111,7 @@ abbrev pub correctsMade : Called Both → List ℕ → List ℕ → Corrects
 correctsMade c tuner driver =
     corrects (callReply c) (nextOf tunerBytes (c .answer) (c .count) (c .next .tuner) tuner) (nextOf driverBytes (c .answer) (c .count) (c .next .driver) driver)
 
--- #109, on the records that the bytes are, 1 where either's are none; refused, it leaves the bytes of both as they were
+-- #109, on the records that the bytes are, 1 where either's are not valid; refused, it leaves the bytes of both as they were
 unfoldable pub correctOver : ℤ → List ℕ → List ℕ → Corrects
 correctOver ppm tuner driver =
     cond (tunerOf tuner .ok && driverOf driver .ok)

@@ -8,8 +8,8 @@ ghost use Rattle.board.specs.Numbers.{pathOf};
 ghost use Rattle.driver.specs.Calls.{boardRow};
 ghost use Rattle.records.specs.Drivers.{driverBytes};
 ghost use Rattle.records.specs.Tuners.{tunerBytes};
-ghost use Rattle.chip.specs.Entries.{saw};
-ghost use Rattle.replies.specs.Replies.{replyOf, tunedOf};
+ghost use Rattle.chip.specs.Entries.{lockTries};
+ghost use Rattle.reply.specs.Replies.{replyOf, tunedOf};
 ghost use Rattle.tuners.specs.Over.{after, nextOf, overTuner};
 ghost use Rattle.drivers.specs.Drivers.{bothReady, correctOver, corrects, freshInto, hopOver, hops, rateOver, rates, xtalOver};
 use boards::Hopped;
@@ -18,8 +18,8 @@ use driver::Driver;
 use driver::Rated;
 use records::DRIVER;
 use records::TUNER;
-use replies::Reply;
-use replies::TuneReply;
+use reply::Reply;
+use reply::TuneReply;
 
 fn lend(answer: Answer, driver: Driver, out: &mut [u8]) -> Answer
     ensures { λ r. ⌜ given r (now (out .exit)) ≡ answeredTo answer (driverBytes driver) (now (out .entry)) ⌝ }
@@ -77,7 +77,7 @@ fn store(answer: Answer, count: usize, driver: Driver, next: &mut [u8])
     requires { ⌜ 29 ≤ length (now next) ⌝ }
     ensures { λ _. ⌜ now (next .exit) ≡ nextOf driverBytes answer count driver (now (next .entry)) ⌝ }
 {
-    if tuners::kept(answer, count) {
+    if tuners::is_written(answer, count) {
         let image = records::driver_image(driver);
         wire::copy(next, 0, &image);
     }
@@ -92,7 +92,7 @@ fn hand(rated: Rated, driver: &mut [u8], tuner: &mut [u8]) -> Reply
     let answer = rated.answer;
     store(answer, rated.count, rated.driver, driver);
     tuners::store(answer, rated.count, rated.tuner, tuner);
-    replies::numbers(answer, rated.count)
+    reply::numbers(answer, rated.count)
 }
 
 // Both records are changed where they lie, or neither: they are read and judged before either is stored.
@@ -109,7 +109,7 @@ pub fn set_ppm(tuner: &mut [u8], driver: &mut [u8], ppm: i32) -> Reply
     let answer = told.answer;
     tuners::store(answer, 0, told.tuner, tuner);
     store(answer, 0, told.driver, driver);
-    replies::numbers(answer, 0)
+    reply::numbers(answer, 0)
 }
 
 pub fn set_sample_rate(
@@ -141,15 +141,15 @@ pub fn set_sample_rate(
 // What a hop hands back, as a rate does, with what it tells of the lock.
 fn hand_hop(hopped: Hopped, driver: &mut [u8], tuner: &mut [u8]) -> TuneReply
     requires { ⌜ (29 ≤ length (now driver)) × (78 ≤ length (now tuner)) ⌝ }
-    ensures { λ r. ⌜ (r ≡ tunedOf (replyOf (hopped .answer) (hopped .count)) (saw (hopped .tries) (hopped .locked)))
+    ensures { λ r. ⌜ (r ≡ tunedOf (replyOf (hopped .answer) (hopped .count)) (lockTries (hopped .tries) (hopped .locked)))
         × (now (driver .exit) ≡ nextOf driverBytes (hopped .answer) (hopped .count) (hopped .driver) (now (driver .entry)))
         × (now (tuner .exit) ≡ nextOf tunerBytes (hopped .answer) (hopped .count) (hopped .tuner) (now (tuner .entry))) ⌝ }
 {
     let answer = hopped.answer;
     store(answer, hopped.count, hopped.driver, driver);
     tuners::store(answer, hopped.count, hopped.tuner, tuner);
-    let reply = replies::numbers(answer, hopped.count);
-    replies::tuned(reply, hopped.tries, hopped.locked)
+    let plain = reply::numbers(answer, hopped.count);
+    reply::tuned(plain, hopped.tries, hopped.locked)
 }
 
 pub fn tune_board(
@@ -173,7 +173,7 @@ pub fn tune_board(
     let refused = boards::hop_refusal(planned, given.ifreq);
     let number = ready(d.ok & t.ok, refused, left.len(), next.len());
     if number != 0 {
-        return replies::tuned(tuners::refuse(number), 0, false);
+        return reply::tuned(tuners::refuse(number), 0, false);
     }
     let hopped = boards::tune_planned(d.driver, given, planned, hz, outcomes, replies, room);
     hand_hop(hopped, left, next)

@@ -18,8 +18,8 @@ use Rattle.transcript.specs.Sections.{AllFit, isSection, sectionBytes}
 use Rattle.transcript.specs.Table.{isRead}
 use Rattle.transcript.proofs.Exact.{written-then-read}
 use Rattle.transcript.proofs.Reading.{both, found}
-use Rattle.packets.specs.Packets.{became, expands, indexOf, isDemod, packets, packetsOf, setup, sync, valueOf}
-use Rattle.packets.specs.Heard.{entryIn, stands, syncIn}
+use Rattle.packets.specs.Packets.{became, expands, wIndexOf, isDemod, packets, packetsOf, setup, sync, wValueOf}
+use Rattle.packets.specs.Heard.{entryIn, packetsStand, syncIn}
 use Rattle.packets.proofs.Units.{bare-core, core, no-stray, unit-read, unit-stands}
 use Rattle.packets.proofs.Begins.{Transfer, became-transfer, entry-expands, entry-fits, kind-within, most-bytes, own-packets, size-within, unit-begins}
 use Rattle.packets.proofs.Written.{stays}
@@ -38,7 +38,7 @@ ended-same true o = refl
 ended-same false o = refl
 
 core-packets : (e : Entry) → packets (core e) ≡ packets e
-unfolding packets setup valueOf indexOf
+unfolding packets setup wValueOf wIndexOf
 core-packets e =
     ap₂ (λ (x y : List ℕ). setup e ++ (x ++ y)) (data-same (isRead (e .kind)) (e .n) (e .bytes)) (ended-same (isDemod (e .kind)) (e .outcome))
 
@@ -81,7 +81,7 @@ unfolding allHeard heardEntries
 more t f es h free r =
     let rest = expanded es in
     let all = packets t ++ rest in
-    let there : stands all ≡ true = unit-stands t (h .fit) (h .low) (h .high) (h .fine) rest in
+    let there : packetsStand all ≡ true = unit-stands t (h .fit) (h .low) (h .high) (h .fine) rest in
     let one : entryIn all ≡ core t = unit-read t (h .fit) (h .low) (h .high) (h .fine) rest free in
     let size : length (packets (entryIn all)) ≡ length (packets t) = ap (λ (e : Entry). length (packets e)) one ∙ ap length (core-packets t) in
     let some : eqb (length all) 0 ≡ false = ne-eqb (length all) 0 (λ z. omega (arith, size-within all there .0, size-within all there .1, z)) in
@@ -157,7 +157,7 @@ empty [] h = record { bytes = refl; fit = tt; fine = refl; same = refl; few = om
 empty (x ∷ xs) h = absurd (omega arith)
 
 -- an entry that is read is its own transfer
-one-more : (b : List ℕ) (es : List Entry) → Bytes b → stands b ≡ true → Sound (drop (length (packets (entryIn b))) b) es → Sound b (entryIn b ∷ es)
+one-more : (b : List ℕ) (es : List Entry) → Bytes b → packetsStand b ≡ true → Sound (drop (length (packets (entryIn b))) b) es → Sound b (entryIn b ∷ es)
 unfolding expanded allExpand transfers
 one-more b es bytes there s =
     let k = kind-within b there in
@@ -179,12 +179,12 @@ sound-all zero b bytes h = empty b (eqb-true (length b) 0 h)
 sound-all (suc f) b bytes h =
     by (eqb (length b) 0) refl h (λ q. sound-all f (drop (length (packets (entryIn b))) b) (bytes-drop (length (packets (entryIn b))) b bytes) q)
   where
-    by : (t : Bool) → eqb (length b) 0 ≡ t → cond t true (stands b && allHeard f (drop (length (packets (entryIn b))) b)) ≡ true
+    by : (t : Bool) → eqb (length b) 0 ≡ t → cond t true (packetsStand b && allHeard f (drop (length (packets (entryIn b))) b)) ≡ true
         → (allHeard f (drop (length (packets (entryIn b))) b) ≡ true → Sound (drop (length (packets (entryIn b))) b) (heardEntries f (drop (length (packets (entryIn b))) b)))
         → Sound b (cond t [] (entryIn b ∷ heardEntries f (drop (length (packets (entryIn b))) b)))
     by true e q rest = empty b (eqb-true (length b) 0 e)
     by false e q rest =
-        let p = both (stands b) (allHeard f (drop (length (packets (entryIn b))) b)) q in
+        let p = both (packetsStand b) (allHeard f (drop (length (packets (entryIn b))) b)) q in
         one-more b (heardEntries f (drop (length (packets (entryIn b))) b)) bytes (p .0) (rest (p .1))
 
 -- a section's entries that expand to some bytes, and are read from them

@@ -18,7 +18,7 @@ use Rattle.transcript.proofs.Laid.{length-entryBytes, length-sectionBytes, sect
 use Rattle.transcript.proofs.Reading.{both}
 use Rattle.packets.specs.declared.Heard.{Heard}
 use Rattle.packets.specs.Packets.{packets, sentBy}
-use Rattle.packets.specs.Heard.{entryIn, heardIn, named, nothing, stands, word}
+use Rattle.packets.specs.Heard.{entryIn, heardIn, named, nothing, packetsStand, word}
 use Rattle.packets.proofs.Begins.{size-within}
 use Rattle.expansion.specs.declared.Found.the-variants.{Is, Refused}
 use Rattle.expansion.specs.Expansion.{allHeard, countOf, heardEntries}
@@ -32,7 +32,7 @@ some-by : (t : Bool) (h a : Heard) → h ≡ cond t a nothing → (h .size ≡ 0
 some-by true h a e z = (refl, e)
 some-by false h a e z = absurd (z (ap (λ (u : Heard). u .size) e))
 
-none-by : (l : List ℕ) (t : Bool) → stands l ≡ t → cond t (length (packets (entryIn l))) 0 ≡ 0 → t ≡ false
+none-by : (l : List ℕ) (t : Bool) → packetsStand l ≡ t → cond t (length (packets (entryIn l))) 0 ≡ 0 → t ≡ false
 none-by l true s e = absurd (omega (arith, size-within l s .0, e))
 none-by l false s e = refl
 
@@ -44,15 +44,15 @@ abbrev one : List ℕ → Heard
 one l = record { entry = bare (entryIn l); size = length (packets (entryIn l)) }
 
 module _ (l : List ℕ) (h : Heard) (is : h ≡ heardIn l) where
-  pub unheard : h .size ≡ 0 → stands l ≡ false
+  pub unheard : h .size ≡ 0 → packetsStand l ≡ false
   unfolding heardIn
-  unheard z = none-by l (stands l) refl (sym (sizes (stands l) (one l)) ∙ sym (ap (λ (u : Heard). u .size) is) ∙ z)
+  unheard z = none-by l (packetsStand l) refl (sym (sizes (packetsStand l) (one l)) ∙ sym (ap (λ (u : Heard). u .size) is) ∙ z)
 
-  pub heard : (h .size ≡ 0 → ⊥) → (stands l ≡ true) × (h ≡ one l)
+  pub heard : (h .size ≡ 0 → ⊥) → (packetsStand l ≡ true) × (h ≡ one l)
   unfolding heardIn
-  heard z = some-by (stands l) h (one l) is z
+  heard z = some-by (packetsStand l) h (one l) is z
 
-  pub heard-so : stands l ≡ true → h ≡ one l
+  pub heard-so : packetsStand l ≡ true → h ≡ one l
   unfolding heardIn
   heard-so s = is ∙ ap (λ (t : Bool). cond t (one l) nothing) s
 
@@ -108,17 +108,17 @@ module _ (b : List ℕ) (at i : ℕ) where
     more : 4096 - i ≡ suc f
     more = omega arith
 
-    pub stray : stands l ≡ false → allHeard (4096 - i) l ≡ false
+    pub stray : packetsStand l ≡ false → allHeard (4096 - i) l ≡ false
     unfolding allHeard
     stray s = rw (more, long here, s)
 
-    pub stands-there : allHeard (4096 - i) l ≡ true → stands l ≡ true
+    pub stands-there : allHeard (4096 - i) l ≡ true → packetsStand l ≡ true
     unfolding allHeard
     stands-there t =
-        let q : stands l && allHeard f (drop (length (packets (entryIn l))) l) ≡ true = rw (more, long here) at t in
-        both (stands l) (allHeard f (drop (length (packets (entryIn l))) l)) q .0
+        let q : packetsStand l && allHeard f (drop (length (packets (entryIn l))) l) ≡ true = rw (more, long here) at t in
+        both (packetsStand l) (allHeard f (drop (length (packets (entryIn l))) l)) q .0
 
-    module _ (s : stands l ≡ true) (k : ℕ) (size : k ≡ length (packets (entryIn l))) where
+    module _ (s : packetsStand l ≡ true) (k : ℕ) (size : k ≡ length (packets (entryIn l))) where
       rest : drop (length (packets (entryIn l))) l ≡ drop (at + k) b
       rest = drop-drop (length (packets (entryIn l))) at b ∙ ap (λ (j : ℕ). drop (at + j) b) (sym size)
 

@@ -9,7 +9,7 @@ use Rattle.transcript.specs.declared.Entry.{Entry}
 use Rattle.transcript.specs.Entries.{bare}
 use Rattle.transcript.specs.Sections.{isSection, sectionBytes, sectionEntries}
 use Rattle.packets.specs.Packets.{became, expands, packets, packetsOf}
-use Rattle.packets.specs.Heard.{entryIn, stands}
+use Rattle.packets.specs.Heard.{entryIn, packetsStand}
 use Rattle.lending.specs.Lent.{Given, lentTo}
 use Rattle.expansion.specs.declared.Found.{Found}
 use Rattle.expansion.specs.declared.Found.the-variants.{Is, Refused}
@@ -35,7 +35,7 @@ expandInto s out =
 -- bytes that are packets of at most f entries, one entry's after the other's
 unfoldable pub allHeard : ℕ → List ℕ → Bool
 allHeard zero b = eqb (length b) 0
-allHeard (suc f) b = cond (eqb (length b) 0) true (stands b && allHeard f (drop (length (packets (entryIn b))) b))
+allHeard (suc f) b = cond (eqb (length b) 0) true (packetsStand b && allHeard f (drop (length (packets (entryIn b))) b))
 
 -- those entries
 unfoldable pub heardEntries : ℕ → List ℕ → List Entry

@@ -17,20 +17,20 @@ use Rattle.transcript.proofs.Exact.{fit-eights}
 use Rattle.chip.specs.declared.Answer.{Answer}
 use Rattle.chip.specs.declared.Answer.the-variants.{Done, Refused, Stopped}
 use Rattle.chip.specs.declared.Chip.{Chip}
-use Rattle.chip.specs.declared.Went.{Went}
-use Rattle.chip.specs.declared.Went.the-variants.{Going, Refused11}
-use Rattle.chip.specs.Calls.{Called, answerOf, callEntries, callOf, called, lentOf, performed}
+use Rattle.chip.specs.declared.Progress.{Progress}
+use Rattle.chip.specs.declared.Progress.the-variants.{Going, Refused11}
+use Rattle.chip.specs.Calls.{Called, answerOf, callEntries, callOf, called, tooShort, performed}
 use Rattle.chip.specs.Steps.{Step, Trace, every, trace}
 use Rattle.history.specs.Programs.{fine}
-use Rattle.history.specs.Histories.{Cut, History, stops, wentIn}
+use Rattle.history.specs.Histories.{Cut, History, stops, progressIn}
 use Rattle.history.specs.Histories.History.{called as more}
 use Rattle.history.proofs.Cuts.{cut-trace}
-use Rattle.history.proofs.Told.{told-trace}
+use Rattle.history.proofs.Progressed.{told-trace}
 use Rattle.history.proofs.Fitted.{fit-trace, most-trace, read-trace}
 
 -- the room of a call that is not refused for what was lent suffices for its most entries
-pub lent-room : (n m room outcomes replies : ℕ) → lentOf n m room outcomes replies ≡ 0 → 16 * n + 8 ≤ room
-unfolding lentOf
+pub lent-room : (n m room outcomes replies : ℕ) → tooShort n m room outcomes replies ≡ 0 → 16 * n + 8 ≤ room
+unfolding tooShort
 lent-room n m room outcomes replies h = go (ltb room (16 * n + 8)) refl
   where
     go : (b : Bool) → ltb room (16 * n + 8) ≡ b → 16 * n + 8 ≤ room
@@ -74,7 +74,7 @@ module _ {R : Type 0} (number : ℕ) (whole : Answer) (os : List ℕ) (ss : List
           ∙ take-at (sectionBytes es) (drop (0 + length (sectionBytes es)) room) (16 * length es + 8) long
 
   -- an answer that names a failing entry comes of the trace
-  call-failed : (i : ℕ) → stops whole ≡ false → call .answer ≡ Stopped i → (eqb number 0 ≡ true) × (trace os ss c .went ≡ Refused11 i)
+  call-failed : (i : ℕ) → stops whole ≡ false → call .answer ≡ Stopped i → (eqb number 0 ≡ true) × (trace os ss c .progress ≡ Refused11 i)
   call-failed i s h = go (eqb number 0) refl
     where
       index : Answer → ℕ
@@ -82,13 +82,13 @@ module _ {R : Type 0} (number : ℕ) (whole : Answer) (os : List ℕ) (ss : List
       index (Refused k) = 0
       index (Stopped k) = k
 
-      by-went : (w : Went) → trace os ss c .went ≡ w → answerOf whole w ≡ Stopped i → trace os ss c .went ≡ Refused11 i
-      by-went Going e q = absurd (false≢true (sym s ∙ ap stops q))
-      by-went (Refused11 k) e q = e ∙ ap Refused11 (ap index q)
+      by-progress : (w : Progress) → trace os ss c .progress ≡ w → answerOf whole w ≡ Stopped i → trace os ss c .progress ≡ Refused11 i
+      by-progress Going e q = absurd (false≢true (sym s ∙ ap stops q))
+      by-progress (Refused11 k) e q = e ∙ ap Refused11 (ap index q)
 
-      go : (b : Bool) → eqb number 0 ≡ b → (eqb number 0 ≡ true) × (trace os ss c .went ≡ Refused11 i)
+      go : (b : Bool) → eqb number 0 ≡ b → (eqb number 0 ≡ true) × (trace os ss c .progress ≡ Refused11 i)
       go false e = absurd (false≢true (ap stops (sym (ap (λ (d : Called R). d .answer) (call-refused e)) ∙ h)))
-      go true e = (e, by-went (trace os ss c .went) refl (sym (ap (λ (d : Called R). d .answer) (call-performed e)) ∙ h))
+      go true e = (e, by-progress (trace os ss c .progress) refl (sym (ap (λ (d : Called R). d .answer) (call-performed e)) ∙ h))
 
   -- (c) for a call, "with the failing index the answer gives": its entries against those of the same call with outcome i done
   pub call-cut : (i : ℕ) → stops whole ≡ false → every fine ss ≡ true → call .answer ≡ Stopped i
@@ -105,7 +105,7 @@ module _ {R : Type 0} (number : ℕ) (whole : Answer) (os : List ℕ) (ss : List
       go true e = ap (λ (d : Called R). d .count) (call-performed e) ∙ rw e
       go false e = ap (λ (d : Called R). d .count) (call-refused e) ∙ rw e
 
-  pub call-index : (i : ℕ) → stops whole ≡ false → every fine ss ≡ true → call .answer ≡ Stopped i → wentIn (callEntries number os ss c) ≡ Refused11 i
+  pub call-index : (i : ℕ) → stops whole ≡ false → every fine ss ≡ true → call .answer ≡ Stopped i → progressIn (callEntries number os ss c) ≡ Refused11 i
   call-index i s f h =
       let p = call-failed i s h in
       rw (p .0) (sym (told-trace os ss c f) ∙ p .1)

@@ -13,10 +13,10 @@ use Rattle.transcript.specs.declared.Entry.{Entry}
 use Rattle.transcript.specs.Table.{isRead}
 use Rattle.attempts.specs.Attempts.{done}
 use Rattle.chip.specs.declared.Chip.{Chip}
-use Rattle.chip.specs.declared.Went.{Went}
-use Rattle.chip.specs.declared.Went.the-variants.{Going, Refused11}
+use Rattle.chip.specs.declared.Progress.{Progress}
+use Rattle.chip.specs.declared.Progress.the-variants.{Going, Refused11}
 use Rattle.transcript.specs.Entries.{bare, zeros8}
-use Rattle.chip.specs.Steps.{Step, Trace, acts, emit, every, goes, inList, inner, line, okFor, run, step, taken, toldOf, trace, wentFor}
+use Rattle.chip.specs.Steps.{Step, Trace, acts, emit, every, goes, inList, inner, line, okFor, run, step, taken, progressOf, trace, progressFor}
 use Rattle.chip.specs.Steps.Step.{Open, Close, Send, Mask, Plain}
 use Rattle.chip.proofs.Laws.{active, and-left, and-right, idle}
 use Rattle.history.specs.Programs.{fine}
@@ -51,7 +51,7 @@ ok-done os k (Send n bytes) h = rw h
 ok-done os k (Mask r v m) h = rw h
 ok-done os k (Plain e) h = rw h
 
-indexIn : Went → ℕ
+indexIn : Progress → ℕ
 indexIn Going = 0
 indexIn (Refused11 k) = k
 
@@ -59,7 +59,7 @@ failed-index : (i k : ℕ) → Refused11 i ≡ Refused11 k → i ≡ k
 unfolding indexIn
 failed-index i k h = ap indexIn h
 
-not-going : (t : Trace) (i : ℕ) → t .went ≡ Going → t .went ≡ Refused11 i → ⊥
+not-going : (t : Trace) (i : ℕ) → t .progress ≡ Going → t .progress ≡ Refused11 i → ⊥
 not-going t i g f = true≢false (ap goes (sym g ∙ f))
 
 -- ---- one step, done and failed
@@ -94,12 +94,12 @@ no-opening os (Send m bytes) t u f n r h = absurd (false≢true h)
 no-opening os (Mask g v m) t u f n r h = absurd (false≢true h)
 no-opening os (Plain e) t u f n r h = absurd (false≢true (sym (aside-of e f .kind) ∙ h))
 
-pub inner-went : (s : Step) (ok : Bool) (k : ℕ) (went : Went) → inner s ≡ true → wentFor s ok k went ≡ toldOf ok k
-inner-went Open ok k went n = refl
-inner-went Close ok k went n = absurd (false≢true n)
-inner-went (Send m bytes) ok k went n = refl
-inner-went (Mask g v m) ok k went n = refl
-inner-went (Plain e) ok k went n = refl
+pub inner-progress : (s : Step) (ok : Bool) (k : ℕ) (progress : Progress) → inner s ≡ true → progressFor s ok k progress ≡ progressOf ok k
+inner-progress Open ok k progress n = refl
+inner-progress Close ok k progress n = absurd (false≢true n)
+inner-progress (Send m bytes) ok k progress n = refl
+inner-progress (Mask g v m) ok k progress n = refl
+inner-progress (Plain e) ok k progress n = refl
 
 -- ---- a program, step by step
 
@@ -115,45 +115,45 @@ module _ (os : List ℕ) (i : ℕ) where
   Ahead ss t = (t .count ≤ i) × Cut i (run inList os ss t .log) (run inList uncut ss t .log)
 
   abbrev From : List Step → Type 0
-  From ss = (t : Trace) → t .went ≡ Going → t .count ≡ length (t .log) → run inList os ss t .went ≡ Refused11 i → Ahead ss t
+  From ss = (t : Trace) → t .progress ≡ Going → t .count ≡ length (t .log) → run inList os ss t .progress ≡ Refused11 i → Ahead ss t
 
   -- a step that is not taken
-  skipped : (s : Step) (ss : List Step) (t : Trace) → acts s (t .went) (t .held) ≡ false → From ss
-      → t .went ≡ Going → t .count ≡ length (t .log) → run inList os ss (step inList os s t) .went ≡ Refused11 i
+  skipped : (s : Step) (ss : List Step) (t : Trace) → acts s (t .progress) (t .opened) ≡ false → From ss
+      → t .progress ≡ Going → t .count ≡ length (t .log) → run inList os ss (step inList os s t) .progress ≡ Refused11 i
       → (t .count ≤ i) × Cut i (run inList os ss (step inList os s t) .log) (run inList uncut ss (step inList uncut s t) .log)
   skipped s ss t a rest g k f =
       let here : t ≡ step inList os s t = idle inList os s t a in
       let there : t ≡ step inList uncut s t = idle inList uncut s t a in
-      let r : Ahead ss t = rest t g k (ap (λ (u : Trace). run inList os ss u .went) here ∙ f) in
+      let r : Ahead ss t = rest t g k (ap (λ (u : Trace). run inList os ss u .progress) here ∙ f) in
       (r .0, cut-moved i _ _ _ _ (ap (λ (u : Trace). run inList os ss u .log) here) (ap (λ (u : Trace). run inList uncut ss u .log) there) (r .1))
 
   -- one that is taken and goes on
-  passed : (s : Step) (ss : List Step) (t : Trace) → acts s (t .went) (t .held) ≡ true
-      → wentFor s (okFor os (t .count) s) (t .count) (t .went) ≡ Going → From ss
-      → t .count ≡ length (t .log) → run inList os ss (step inList os s t) .went ≡ Refused11 i
+  passed : (s : Step) (ss : List Step) (t : Trace) → acts s (t .progress) (t .opened) ≡ true
+      → progressFor s (okFor os (t .count) s) (t .count) (t .progress) ≡ Going → From ss
+      → t .count ≡ length (t .log) → run inList os ss (step inList os s t) .progress ≡ Refused11 i
       → (t .count ≤ i) × Cut i (run inList os ss (step inList os s t) .log) (run inList uncut ss (step inList uncut s t) .log)
   passed s ss t a g rest k f =
       let ok : Bool = okFor os (t .count) s in
       let u : Trace = taken inList os ok s t in
       let here : u ≡ step inList os s t = active inList os s t a in
       let more : u .count ≡ length (u .log) = counted-taken os s t ok k in
-      let r : Ahead ss u = rest u g more (ap (λ (v : Trace). run inList os ss v .went) here ∙ f) in
+      let r : Ahead ss u = rest u g more (ap (λ (v : Trace). run inList os ss v .progress) here ∙ f) in
       let late : t .count < i = omega (arith, r .0) in
       let same : ok ≡ okFor uncut (t .count) s = ok-same os uncut (t .count) s (sym (getD-set-other os i (t .count) 0 0 (λ e. omega arith))) in
       let there : u ≡ step inList uncut s t = ap (λ (b : Bool). taken inList uncut b s t) same ∙ active inList uncut s t a in
       (omega arith, cut-moved i _ _ _ _ (ap (λ (v : Trace). run inList os ss v .log) here) (ap (λ (v : Trace). run inList uncut ss v .log) there) (r .1))
 
   -- the failing step
-  stopped : (s : Step) (ss : List Step) (t : Trace) → fine s ≡ true → inner s ≡ true → acts s (t .went) (t .held) ≡ true
+  stopped : (s : Step) (ss : List Step) (t : Trace) → fine s ≡ true → inner s ≡ true → acts s (t .progress) (t .opened) ≡ true
       → okFor os (t .count) s ≡ false
-      → t .count ≡ length (t .log) → run inList os ss (step inList os s t) .went ≡ Refused11 i
+      → t .count ≡ length (t .log) → run inList os ss (step inList os s t) .progress ≡ Refused11 i
       → (t .count ≤ i) × Cut i (run inList os ss (step inList os s t) .log) (run inList uncut ss (step inList uncut s t) .log)
   stopped s ss t f n a o k w =
       let u : Trace = taken inList os false s t in
       let here : u ≡ step inList os s t = ap (λ (b : Bool). taken inList os b s t) (sym o) ∙ active inList os s t a in
-      let fell : u .went ≡ Refused11 (t .count) = inner-went s false (t .count) (t .went) n in
+      let fell : u .progress ≡ Refused11 (t .count) = inner-progress s false (t .count) (t .progress) n in
       let r : Rest os u (run inList os ss u) = stopped-run os ss u (ap goes fell) in
-      let index : i ≡ t .count = failed-index i (t .count) (sym w ∙ sym (ap (λ (v : Trace). run inList os ss v .went) here) ∙ r .went ∙ fell) in
+      let index : i ≡ t .count = failed-index i (t .count) (sym w ∙ sym (ap (λ (v : Trace). run inList os ss v .progress) here) ∙ r .progress ∙ fell) in
       let met : okFor uncut (t .count) s ≡ true = ok-done uncut (t .count) s (ap (λ (j : ℕ). getD uncut j 0) (sym index) ∙ set-done os i) in
       let v : Trace = taken inList uncut true s t in
       let there : v ≡ step inList uncut s t = ap (λ (b : Bool). taken inList uncut b s t) (sym met) ∙ active inList uncut s t a in
@@ -176,31 +176,31 @@ module _ (os : List ℕ) (i : ℕ) where
         },
       )
 
-  inner-acts : (s : Step) (went : Went) (held : Bool) → inner s ≡ true → went ≡ Going → acts s went held ≡ true
-  inner-acts Open went held n g = ap goes g
-  inner-acts Close went held n g = absurd (false≢true n)
-  inner-acts (Send m bytes) went held n g = ap goes g
-  inner-acts (Mask r v m) went held n g = ap goes g
-  inner-acts (Plain e) went held n g = ap goes g
+  inner-acts : (s : Step) (progress : Progress) (opened : Bool) → inner s ≡ true → progress ≡ Going → acts s progress opened ≡ true
+  inner-acts Open progress opened n g = ap goes g
+  inner-acts Close progress opened n g = absurd (false≢true n)
+  inner-acts (Send m bytes) progress opened n g = ap goes g
+  inner-acts (Mask r v m) progress opened n g = ap goes g
+  inner-acts (Plain e) progress opened n g = ap goes g
 
   any-inner : (s : Step) (ss : List Step) (t : Trace) → fine s ≡ true → inner s ≡ true → From ss
-      → t .went ≡ Going → t .count ≡ length (t .log) → run inList os ss (step inList os s t) .went ≡ Refused11 i
+      → t .progress ≡ Going → t .count ≡ length (t .log) → run inList os ss (step inList os s t) .progress ≡ Refused11 i
       → (t .count ≤ i) × Cut i (run inList os ss (step inList os s t) .log) (run inList uncut ss (step inList uncut s t) .log)
   any-inner s ss t f n rest g k w = go (okFor os (t .count) s) refl
     where
       go : (b : Bool) → okFor os (t .count) s ≡ b
           → (t .count ≤ i) × Cut i (run inList os ss (step inList os s t) .log) (run inList uncut ss (step inList uncut s t) .log)
       go true o =
-          passed s ss t (inner-acts s (t .went) (t .held) n g)
-          (inner-went s (okFor os (t .count) s) (t .count) (t .went) n ∙ ap (λ (b : Bool). toldOf b (t .count)) o) rest k w
-      go false o = stopped s ss t f n (inner-acts s (t .went) (t .held) n g) o k w
+          passed s ss t (inner-acts s (t .progress) (t .opened) n g)
+          (inner-progress s (okFor os (t .count) s) (t .count) (t .progress) n ∙ ap (λ (b : Bool). progressOf b (t .count)) o) rest k w
+      go false o = stopped s ss t f n (inner-acts s (t .progress) (t .opened) n g) o k w
 
   any-close : (ss : List Step) (t : Trace) → From ss
-      → t .went ≡ Going → t .count ≡ length (t .log) → run inList os ss (step inList os Close t) .went ≡ Refused11 i
+      → t .progress ≡ Going → t .count ≡ length (t .log) → run inList os ss (step inList os Close t) .progress ≡ Refused11 i
       → (t .count ≤ i) × Cut i (run inList os ss (step inList os Close t) .log) (run inList uncut ss (step inList uncut Close t) .log)
-  any-close ss t rest g k w = go (t .held) refl
+  any-close ss t rest g k w = go (t .opened) refl
     where
-      go : (b : Bool) → t .held ≡ b
+      go : (b : Bool) → t .opened ≡ b
           → (t .count ≤ i) × Cut i (run inList os ss (step inList os Close t) .log) (run inList uncut ss (step inList uncut Close t) .log)
       go true h = passed Close ss t h g rest k w
       go false h = skipped Close ss t h rest g k w
@@ -218,7 +218,7 @@ module _ (os : List ℕ) (i : ℕ) where
       any-inner (Plain e) ss t (and-left (fine (Plain e)) (every fine ss) f) refl (cut-run ss (and-right (fine (Plain e)) (every fine ss) f)) g k w
 
 -- the cut trace against the uncut one
-pub cut-trace : (os : List ℕ) (ss : List Step) (c : Chip) (i : ℕ) → every fine ss ≡ true → trace os ss c .went ≡ Refused11 i
+pub cut-trace : (os : List ℕ) (ss : List Step) (c : Chip) (i : ℕ) → every fine ss ≡ true → trace os ss c .progress ≡ Refused11 i
     → Cut i (trace os ss c .log) (trace (set os i 0) ss c .log)
 unfolding trace
 cut-trace os ss c i f w = cut-run os i ss f (line c [] 0 Going false) refl refl w .1

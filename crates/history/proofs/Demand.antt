@@ -20,18 +20,18 @@ use Rattle.attempts.proofs.Doubt.{InVain, doubt-any, doubt-exactly, sure-byte}
 use Rattle.attempts.proofs.Named.{known, last-append, last-known, other-kind}
 use Rattle.attempts.proofs.Played.{last-done, last-never, some-played}
 use Rattle.chip.specs.declared.Chip.{Chip}
-use Rattle.chip.specs.declared.Went.the-variants.{Going, Refused11}
+use Rattle.chip.specs.declared.Progress.the-variants.{Going, Refused11}
 use Rattle.chip.specs.Chips.{maskOf, maskedByte}
 use Rattle.chip.specs.Steps.{Step, Trace, emit, every, inList, line, okFor, trace}
 use Rattle.chip.proofs.Laws.{run-address}
 use Rattle.chip.specs.Steps.Step.{Open, Close, Send, Mask, Plain}
 use Rattle.history.specs.Programs.{beside, fine, reloadSteps}
-use Rattle.history.specs.Histories.{Cut, Fresh, History, Restored, Tracks, wentIn}
+use Rattle.history.specs.Histories.{Cut, Fresh, History, Restored, Tracks, progressIn}
 use Rattle.history.specs.Histories.History.{made, called, aside}
 use Rattle.history.proofs.Runs.{run-keeps}
 use Rattle.history.proofs.Tracked.{plain-none, tracks-quiet, tracks-trace}
 use Rattle.history.proofs.Cuts.{cut-trace}
-use Rattle.history.proofs.Told.{told-trace}
+use Rattle.history.proofs.Progressed.{told-trace}
 use Rattle.history.proofs.Fitted.{counted-trace, fit-append, fit-beside, fit-trace, most-trace, read-trace}
 use Rattle.history.proofs.Fine.{fine-reload}
 use Rattle.history.proofs.Reload.{reload-last}
@@ -126,7 +126,7 @@ history-fits init c es (aside old xs h k os ss b) = fit-append xs (trace os ss k
 
 -- "A cut call made the steps of the uncut one up to the failing step, then at most the repeater's closing." "the uncut call is the one with the
 -- failing step done and all other outcomes and replies equal": the same program, with outcome i done
-pub cut-call : (os : List ℕ) (ss : List Step) (c : Chip) (i : ℕ) → every fine ss ≡ true → trace os ss c .went ≡ Refused11 i
+pub cut-call : (os : List ℕ) (ss : List Step) (c : Chip) (i : ℕ) → every fine ss ≡ true → trace os ss c .progress ≡ Refused11 i
     → Cut i (trace os ss c .log) (trace (set os i 0) ss c .log)
 cut-call os ss c i f w = cut-trace os ss c i f w
 
@@ -140,7 +140,7 @@ module _ (init : List ℕ) (c : Chip) (es : List Entry) (history : History init 
   pub reload-called : History init (t .chip) (es ++ t .log)
   reload-called = called c es history os (reloadSteps (c .shadow)) (fine-reload (c .shadow))
 
-  module _ (done : t .went ≡ Going) (before after : Regs) (played : Played (c .address) (es ++ t .log) before after) (i : ℕ) (h : i < 27) where
+  module _ (done : t .progress ≡ Going) (before after : Regs) (played : Played (c .address) (es ++ t .log) before after) (i : ℕ) (h : i < 27) where
     last : lastIn (c .address) (es ++ t .log) (5 + i) ≡ Tried (getD (c .shadow) i 0) true
     last =
         last-append (c .address) Never es (t .log) (5 + i)
@@ -185,7 +185,7 @@ module _ (os : List ℕ) (ss : List Step) (c : Chip) where
   count-most = most-trace os ss c
 
   -- "11 also gives the failing entry's index": the first that failed and is no closing
-  pub index-told : every fine ss ≡ true → trace os ss c .went ≡ wentIn (trace os ss c .log)
+  pub index-told : every fine ss ≡ true → trace os ss c .progress ≡ progressIn (trace os ss c .log)
   index-told f = told-trace os ss c f
 
   -- each entry fits the table, so that the section is read back to exactly these entries

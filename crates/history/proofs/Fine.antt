@@ -15,8 +15,8 @@ use Rattle.transcript.specs.Entries.{entryFits, zeros, zeros8}
 use Rattle.chip.specs.declared.Chunk.{Chunk}
 use Rattle.chip.specs.declared.Update.{Update}
 use Rattle.chip.specs.Chips.{pair}
-use Rattle.chip.specs.Entries.{pointer, readEntry, settled, wait}
-use Rattle.chip.specs.Steps.{Step, allIn, behind, chunkBytes, chunkStep, chunkTable, every, inRange, tunerWrite, updateStep, updates, within}
+use Rattle.chip.specs.Entries.{pointer, readEntry, withOutcome, wait}
+use Rattle.chip.specs.Steps.{Step, allIn, whileOpen, chunkBytes, chunkStep, chunkTable, every, inRange, tunerWrite, updateStep, updates, within}
 use Rattle.chip.specs.Steps.Step.{Close, Plain}
 use Rattle.chip.proofs.Laws.{and-left, and-right}
 use Rattle.chip.proofs.Lists.{low, high}
@@ -53,7 +53,7 @@ every-drop p (suc n) (a ∷ rest) e = every-drop p n rest (and-right (p a) (ever
 
 -- ---- programs
 
-pub fine-behind : (ss : List Step) → every fine ss ≡ true → every fine (behind ss) ≡ true
+pub fine-behind : (ss : List Step) → every fine ss ≡ true → every fine (whileOpen ss) ≡ true
 unfolding every
 fine-behind ss h = every-append fine ss (Close ∷ []) h refl
 
@@ -66,7 +66,7 @@ fine-updates us h = every-map inRange fine updateStep fine-update us h
 -- ---- plain entries
 
 -- an entry of another kind than the repeater's and the I2C write's needs to fit the table, and no more
-pub fine-plain : (e : Entry) → eqb (e .kind) 1 ≡ false → eqb (e .kind) 2 ≡ false → entryFits (settled e true) ≡ true → fine (Plain e) ≡ true
+pub fine-plain : (e : Entry) → eqb (e .kind) 1 ≡ false → eqb (e .kind) 2 ≡ false → entryFits (withOutcome e true) ≡ true → fine (Plain e) ≡ true
 unfolding finePlain
 fine-plain e one two h = rw (one, two, h)
 

@@ -16,9 +16,9 @@ use Rattle.transcript.specs.Sections.{AllFit, Parted, sectionBytes}
 use Rattle.transcript.proofs.Reading.{both}
 use Rattle.transcript.proofs.Exact.{written-then-read}
 use Rattle.chip.specs.declared.Chip.{Chip}
-use Rattle.chip.specs.declared.Went.the-variants.{Going}
+use Rattle.chip.specs.declared.Progress.the-variants.{Going}
 use Rattle.chip.specs.Chips.{maskedByte, pair}
-use Rattle.chip.specs.Entries.{flagOf, repeater, settled, written}
+use Rattle.chip.specs.Entries.{flagOf, repeater, withOutcome, written}
 use Rattle.chip.specs.Steps.{Step, Trace, acts, emit, every, inList, line, okFor, taken, trace}
 use Rattle.chip.specs.Steps.Step.{Open, Close, Send, Mask, Plain}
 use Rattle.history.specs.Programs.{beside, fine, finePlain}
@@ -107,14 +107,14 @@ fails-as k t n a bs false r w h =
     rw (row-failed k t n a (getD bs 0 0) (getD bs 0 0) w (first-fits k t n a (getD bs 0 0) (q .0)) (q .0), q .1, r, z)
 
 -- an entry that fits when its step is done fits when it failed, a wait aside
-failed-fits : (e : Entry) → entryFits (settled e true) ≡ true → eqb (e .kind) 9 ≡ false → entryFits (settled e false) ≡ true
+failed-fits : (e : Entry) → entryFits (withOutcome e true) ≡ true → eqb (e .kind) 9 ≡ false → entryFits (withOutcome e false) ≡ true
 failed-fits e h w = fails-as (e .kind) (e .target) (e .n) (e .address) (e .bytes) (isRead (e .kind)) refl w h
 
-settled-fits : (e : Entry) (ok : Bool) → finePlain e ≡ true → (eqb (e .kind) 9 ≡ true → ok ≡ true) → entryFits (settled e ok) ≡ true
+settled-fits : (e : Entry) (ok : Bool) → finePlain e ≡ true → (eqb (e .kind) 9 ≡ true → ok ≡ true) → entryFits (withOutcome e ok) ≡ true
 settled-fits e true f w = aside-of e f .fits
 settled-fits e false f w = go (eqb (e .kind) 9) refl
   where
-    go : (b : Bool) → eqb (e .kind) 9 ≡ b → entryFits (settled e false) ≡ true
+    go : (b : Bool) → eqb (e .kind) 9 ≡ b → entryFits (withOutcome e false) ≡ true
     go true k = absurd (false≢true (w k))
     go false k = failed-fits e (aside-of e f .fits) k
 
@@ -151,7 +151,7 @@ record Fitting (t : Trace) : Type 0 where
   chip : t .chip .address ≤ 255
   fit : AllFit (t .log)
 
-fitting-step : (os : List ℕ) (s : Step) (t : Trace) → fine s ≡ true → acts s (t .went) (t .held) ≡ true → Fitting t → Fitting (taken inList os (okFor os (t .count) s) s t)
+fitting-step : (os : List ℕ) (s : Step) (t : Trace) → fine s ≡ true → acts s (t .progress) (t .opened) ≡ true → Fitting t → Fitting (taken inList os (okFor os (t .count) s) s t)
 fitting-step os s t f a h =
     record {
       chip = omega (arith, h .chip, after-address s (t .chip) (okFor os (t .count) s));

@@ -1,7 +1,7 @@
 pub mod Runs
 pub mod Tracked
 pub mod Cuts
-pub mod Told
+pub mod Progressed
 pub mod Fitted
 pub mod Fine
 pub mod Reload

@@ -15,13 +15,13 @@ use Rattle.attempts.specs.Attempts.Last.{Never, Tried}
 use Rattle.attempts.proofs.Named.{named, other-kind, below-first, past-last, last-snoc, last-same}
 use Rattle.chip.specs.declared.Chip.{Chip}
 use Rattle.chip.specs.declared.Chunk.{Chunk}
-use Rattle.chip.specs.declared.Went.{Went}
-use Rattle.chip.specs.declared.Went.the-variants.{Going, Refused11}
+use Rattle.chip.specs.declared.Progress.{Progress}
+use Rattle.chip.specs.declared.Progress.the-variants.{Going, Refused11}
 use Rattle.chip.specs.Chips.{attemptedBy}
 use Rattle.chip.specs.Entries.{written}
-use Rattle.chip.specs.Steps.{Step, Trace, acts, behind, chunkBytes, chunkStep, chunkTable, emit, every, goes, inList, line, okFor, run, step, taken, toldOf, trace, tunerWrite, within}
+use Rattle.chip.specs.Steps.{Step, Trace, acts, whileOpen, chunkBytes, chunkStep, chunkTable, emit, every, goes, inList, line, okFor, run, step, taken, progressOf, trace, tunerWrite, within}
 use Rattle.chip.specs.Steps.Step.{Open, Close, Send}
-use Rattle.chip.proofs.Laws.{active, and-left, and-right, close-went, idle, run-address, run-app}
+use Rattle.chip.proofs.Laws.{active, and-left, and-right, close-progress, idle, run-address, run-app}
 use Rattle.chip.proofs.Chunks.{seven, inside, first-register}
 use Rattle.history.specs.Programs.{reloadSteps}
 use Rattle.history.proofs.Runs.{Rest, stopped-run}
@@ -100,17 +100,17 @@ module _ (address : ℕ) (bs : List ℕ) (long : length bs ≡ 27) (k : Chunk) (
 
 module _ (os : List ℕ) where
   -- a run that goes was going before
-  going-before : (ss : List Step) (t : Trace) → run inList os ss t .went ≡ Going → t .went ≡ Going
-  going-before ss t h = go (t .went) refl
+  going-before : (ss : List Step) (t : Trace) → run inList os ss t .progress ≡ Going → t .progress ≡ Going
+  going-before ss t h = go (t .progress) refl
     where
-      go : (u : Went) → t .went ≡ u → t .went ≡ Going
+      go : (u : Progress) → t .progress ≡ u → t .progress ≡ Going
       go Going e = e
       go (Refused11 k) e =
           let r : Rest os t (run inList os ss t) = stopped-run os ss t (ap goes e) in
-          absurd (true≢false (ap goes (sym h ∙ r .went ∙ e)))
+          absurd (true≢false (ap goes (sym h ∙ r .progress ∙ e)))
 
   -- a write after which it still goes was done
-  sent-done : (n : ℕ) (bytes : List ℕ) (t : Trace) → t .went ≡ Going → step inList os (Send n bytes) t .went ≡ Going
+  sent-done : (n : ℕ) (bytes : List ℕ) (t : Trace) → t .progress ≡ Going → step inList os (Send n bytes) t .progress ≡ Going
       → taken inList os true (Send n bytes) t ≡ step inList os (Send n bytes) t
   sent-done n bytes t g h = go (okFor os (t .count) (Send n bytes)) refl
     where
@@ -120,20 +120,20 @@ module _ (os : List ℕ) where
       go : (b : Bool) → okFor os (t .count) (Send n bytes) ≡ b → taken inList os true (Send n bytes) t ≡ step inList os (Send n bytes) t
       go true o = ap (λ (b : Bool). taken inList os b (Send n bytes) t) (sym o) ∙ made
       go false o =
-          absurd (false≢true (ap (λ (b : Bool). goes (toldOf b (t .count))) (sym o) ∙ ap (λ (u : Trace). goes (u .went)) made ∙ ap goes h))
+          absurd (false≢true (ap (λ (b : Bool). goes (progressOf b (t .count))) (sym o) ∙ ap (λ (u : Trace). goes (u .progress)) made ∙ ap goes h))
 
   -- the repeater's steps name no register
   quiet : (address : ℕ) (s : Step) (t : Trace) (r : ℕ) → ((ok : Bool) → names address (emit s (t .chip) ok) r ≡ false)
       → lastIn address (step inList os s t .log) r ≡ lastIn address (t .log) r
-  quiet address s t r none = go (acts s (t .went) (t .held)) refl
+  quiet address s t r none = go (acts s (t .progress) (t .opened)) refl
     where
-      go : (a : Bool) → acts s (t .went) (t .held) ≡ a → lastIn address (step inList os s t .log) r ≡ lastIn address (t .log) r
+      go : (a : Bool) → acts s (t .progress) (t .opened) ≡ a → lastIn address (step inList os s t .log) r ≡ lastIn address (t .log) r
       go true a =
           let ok : Bool = okFor os (t .count) s in
           sym (ap (λ (u : Trace). lastIn address (u .log) r) (active inList os s t a)) ∙ last-same address (t .log) (emit s (t .chip) ok) r (none ok)
       go false a = sym (ap (λ (u : Trace). lastIn address (u .log) r) (idle inList os s t a))
 
-  run-behind : (ss : List Step) (t : Trace) → run inList os (behind ss) t ≡ step inList os Close (run inList os ss (step inList os Open t))
+  run-behind : (ss : List Step) (t : Trace) → run inList os (whileOpen ss) t ≡ step inList os Close (run inList os ss (step inList os Open t))
   unfolding run
   run-behind ss t = run-app inList os ss (Close ∷ []) (step inList os Open t)
 
@@ -147,14 +147,14 @@ module _ (os : List ℕ) where
 
     -- chunks one after the other
     chunks-last : (ks : List Chunk) → every within ks ≡ true → (t : Trace) → t .chip .address ≡ address
-        → run inList os (map (chunkStep bs) ks) t .went ≡ Going
+        → run inList os (map (chunkStep bs) ks) t .progress ≡ Going
         → lastIn address (run inList os (map (chunkStep bs) ks) t .log) (5 + i) ≡ cond (covers ks i) now (lastIn address (t .log) (5 + i))
     unfolding run every covers attemptedBy
     chunks-last [] w t a g = refl
     chunks-last (k ∷ ks) w t a g =
         let s : Step = chunkStep bs k in
         let next : Trace = step inList os s t in
-        let still : next .went ≡ Going = going-before (map (chunkStep bs) ks) next g in
+        let still : next .progress ≡ Going = going-before (map (chunkStep bs) ks) next g in
         let made : taken inList os true s t ≡ next = sent-done (k .size + 1) (chunkBytes bs (k .at) (k .size)) t (going-before (s ∷ map (chunkStep bs) ks) t g) still in
         let same : next .chip .address ≡ address = sym (ap (λ (u : Trace). u .chip .address) made) ∙ a in
         let one : lastIn address (next .log) (5 + i) ≡ cond (inChunk k i) now (lastIn address (t .log) (5 + i)) =
@@ -167,7 +167,7 @@ module _ (os : List ℕ) where
         ∙ pick-pick (inChunk k i) (covers ks i) now (lastIn address (t .log) (5 + i))
 
     -- a part of the table behind its repeater
-    tuner-last : (from to : ℕ) (t : Trace) → t .chip .address ≡ address → run inList os (tunerWrite bs from to) t .went ≡ Going
+    tuner-last : (from to : ℕ) (t : Trace) → t .chip .address ≡ address → run inList os (tunerWrite bs from to) t .progress ≡ Going
         → lastIn address (run inList os (tunerWrite bs from to) t .log) (5 + i)
         ≡ cond (covers (drop from (take to chunkTable)) i) now (lastIn address (t .log) (5 + i))
     tuner-last from to t a g =
@@ -175,28 +175,28 @@ module _ (os : List ℕ) where
         let ss : List Step = map (chunkStep bs) ks in
         let opened : Trace = step inList os Open t in
         let sent : Trace = run inList os ss opened in
-        let whole : run inList os (behind ss) t ≡ step inList os Close sent = run-behind ss t in
+        let whole : run inList os (whileOpen ss) t ≡ step inList os Close sent = run-behind ss t in
         let same : opened .chip .address ≡ address = open-address t address a in
-        let went : sent .went ≡ Going = sym (close-went inList os sent) ∙ sym (ap (λ (u : Trace). u .went) whole) ∙ g in
+        let progress : sent .progress ≡ Going = sym (close-progress inList os sent) ∙ sym (ap (λ (u : Trace). u .progress) whole) ∙ g in
         ap (λ (u : Trace). lastIn address (u .log) (5 + i)) whole
         ∙ quiet address Close sent (5 + i) (λ ok. other-kind address (emit Close (sent .chip) ok) (5 + i) refl)
-        ∙ chunks-last ks (table-part from to) opened same went
+        ∙ chunks-last ks (table-part from to) opened same progress
         ∙ ap (cond (covers ks i) now) (quiet address Open t (5 + i) (λ ok. other-kind address (emit Open (t .chip) ok) (5 + i) refl))
 
 -- every register's last attempt in a reload that was done
-pub reload-last : (os : List ℕ) (c : Chip) (bs : List ℕ) → length bs ≡ 27 → trace os (reloadSteps bs) c .went ≡ Going → (i : ℕ) → i < 27
+pub reload-last : (os : List ℕ) (c : Chip) (bs : List ℕ) → length bs ≡ 27 → trace os (reloadSteps bs) c .progress ≡ Going → (i : ℕ) → i < 27
     → lastIn (c .address) (trace os (reloadSteps bs) c .log) (5 + i) ≡ Tried (getD bs i 0) true
 unfolding trace lastFrom
 reload-last os c bs long g i h =
     let start : Trace = line c [] 0 Going false in
     let mid : Trace = run inList os (tunerWrite bs 0 3) start in
     let whole : run inList os (reloadSteps bs) start ≡ run inList os (tunerWrite bs 3 5) mid = run-app inList os (tunerWrite bs 0 3) (tunerWrite bs 3 5) start in
-    let went : run inList os (tunerWrite bs 3 5) mid .went ≡ Going = sym (ap (λ (u : Trace). u .went) whole) ∙ g in
+    let progress : run inList os (tunerWrite bs 3 5) mid .progress ≡ Going = sym (ap (λ (u : Trace). u .progress) whole) ∙ g in
     let same : mid .chip .address ≡ c .address = run-address inList os (tunerWrite bs 0 3) start in
     let first : lastIn (c .address) (mid .log) (5 + i) ≡ cond (covers (drop 0 (take 3 chunkTable)) i) (Tried (getD bs i 0) true) Never =
-    tuner-last os (c .address) bs long i 0 3 start refl (going-before os (tunerWrite bs 3 5) mid went) in
+    tuner-last os (c .address) bs long i 0 3 start refl (going-before os (tunerWrite bs 3 5) mid progress) in
     ap (λ (u : Trace). lastIn (c .address) (u .log) (5 + i)) whole
-    ∙ tuner-last os (c .address) bs long i 3 5 mid same went
+    ∙ tuner-last os (c .address) bs long i 3 5 mid same progress
     ∙ ap (cond (covers (drop 3 (take 5 chunkTable)) i) (Tried (getD bs i 0) true)) first
     ∙ pick-pick (covers (drop 0 (take 3 chunkTable)) i) (covers (drop 3 (take 5 chunkTable)) i) (Tried (getD bs i 0) true) Never
     ∙ ap (λ (b : Bool). cond b (Tried (getD bs i 0) true) Never) (all-covered i h)

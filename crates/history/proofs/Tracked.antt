@@ -17,10 +17,10 @@ use Rattle.attempts.specs.Attempts.{byteIn, done, doubtIn, lastIn, names, sentT
 use Rattle.attempts.specs.Attempts.Last.{Tried}
 use Rattle.attempts.proofs.Named.{named, other-kind, below-first, past-last, one-byte, last-snoc, last-same}
 use Rattle.chip.specs.declared.Chip.{Chip}
-use Rattle.chip.specs.declared.Went.the-variants.{Going}
+use Rattle.chip.specs.declared.Progress.the-variants.{Going}
 use Rattle.chip.specs.Chips.{attemptedBy, maskedByte, pair}
-use Rattle.chip.specs.Entries.{flagOf, settled, written}
-use Rattle.chip.specs.Steps.{Step, Trace, after, emit, every, line, okFor, trace}
+use Rattle.chip.specs.Entries.{flagOf, withOutcome, written}
+use Rattle.chip.specs.Steps.{Step, Trace, chipAfter, emit, every, line, okFor, trace}
 use Rattle.chip.specs.Steps.Step.{Open, Close, Send, Mask, Plain}
 use Rattle.history.specs.Programs.{fine, finePlain, fineSend}
 use Rattle.history.specs.Histories.{Tracks}
@@ -88,14 +88,14 @@ sent-of n bytes h =
     }
 
 pub record Aside (e : Entry) : Type 0 where
-  pub fits : entryFits (settled e true) ≡ true
+  pub fits : entryFits (withOutcome e true) ≡ true
   pub kind : eqb (e .kind) 1 ≡ false
   pub none : (not (eqb (e .kind) 2) || eqb (e .n) 1) ≡ true
 
 pub aside-of : (e : Entry) → finePlain e ≡ true → Aside e
 unfolding finePlain
 aside-of e h =
-    let t1 = entryFits (settled e true) in
+    let t1 = entryFits (withOutcome e true) in
     let t2 = not (eqb (e .kind) 1) in
     let t3 = not (eqb (e .kind) 2) || eqb (e .n) 1 in
     let p = both (t1 && t2) t3 h in
@@ -206,19 +206,19 @@ tracks-quiet init c es e none follows =
       shadow = λ i h. follows .shadow i h ∙ sym (ap (byteIn (getD init i 0)) (last-same (c .address) es e (5 + i) (none (5 + i))));
     }
 
-pub plain-none : (address : ℕ) (e : Entry) (ok : Bool) → finePlain e ≡ true → (r : ℕ) → names address (settled e ok) r ≡ false
+pub plain-none : (address : ℕ) (e : Entry) (ok : Bool) → finePlain e ≡ true → (r : ℕ) → names address (withOutcome e ok) r ≡ false
 plain-none address e ok h r = go (eqb (e .kind) 2) refl
   where
-    go : (b : Bool) → eqb (e .kind) 2 ≡ b → names address (settled e ok) r ≡ false
-    go false k = other-kind address (settled e ok) r k
+    go : (b : Bool) → eqb (e .kind) 2 ≡ b → names address (withOutcome e ok) r ≡ false
+    go false k = other-kind address (withOutcome e ok) r k
     go true k =
         let one : e .n ≡ 1 = eqb-true (e .n) 1 (rw k at (aside-of e h .none)) in
-        one-byte address (settled e ok) r (omega arith)
+        one-byte address (withOutcome e ok) r (omega arith)
 
 -- ---- a step, and a program
 
 tracks-step : (init : List ℕ) (s : Step) (c : Chip) (es : List Entry) (ok : Bool) → fine s ≡ true → Tracks init c es
-    → Tracks init (after s c ok) (es ++ (emit s c ok ∷ []))
+    → Tracks init (chipAfter s c ok) (es ++ (emit s c ok ∷ []))
 tracks-step init Open c es ok h t = tracks-quiet init c es (emit Open c ok) (λ r. other-kind (c .address) (emit Open c ok) r refl) t
 tracks-step init Close c es ok h t = tracks-quiet init c es (emit Close c ok) (λ r. other-kind (c .address) (emit Close c ok) r refl) t
 tracks-step init (Send n bytes) c es ok h t =
@@ -230,7 +230,7 @@ tracks-step init (Mask r v m) c es ok h t =
     let low : 5 ≤ r = leb-true 5 r (p .0) in
     let high : r + 2 ≤ 33 = omega (arith, leb-true r 31 (p .1)) in
     tracks-write init c es 2 (pair r b) ok (omega arith) (omega arith) low high t
-tracks-step init (Plain e) c es ok h t = tracks-quiet init c es (settled e ok) (plain-none (c .address) e ok h) t
+tracks-step init (Plain e) c es ok h t = tracks-quiet init c es (withOutcome e ok) (plain-none (c .address) e ok h) t
 
 -- the record follows the entries before a program and its own, wherever the program stopped
 pub tracks-trace : (init : List ℕ) (c : Chip) (es : List Entry) (os : List ℕ) (ss : List Step) → every fine ss ≡ true → Tracks init c es
@@ -239,6 +239,6 @@ unfolding trace
 tracks-trace init c es os ss f t =
     run-keeps os (λ (u : Trace). Tracks init (u .chip) (es ++ u .log)) fine
     (λ s u g a q.
-    subst (Tracks init (after s (u .chip) (okFor os (u .count) s))) (append-assoc es (u .log) (emit s (u .chip) (okFor os (u .count) s) ∷ []))
+    subst (Tracks init (chipAfter s (u .chip) (okFor os (u .count) s))) (append-assoc es (u .log) (emit s (u .chip) (okFor os (u .count) s) ∷ []))
     (tracks-step init s (u .chip) (es ++ u .log) (okFor os (u .count) s) g q)) ss (line c [] 0 Going false) f
     (subst (Tracks init c) (sym (append-nil es)) t)

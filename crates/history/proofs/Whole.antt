@@ -9,7 +9,7 @@ use lib.ListN.{getD}
 use Rattle.chip.specs.declared.Chip.{Chip}
 use Rattle.chip.specs.Chips.{attemptedBy, maskOf, maskedByte, pair}
 use Rattle.chip.specs.Entries.{written}
-use Rattle.chip.specs.Steps.{after, emit}
+use Rattle.chip.specs.Steps.{chipAfter, emit}
 use Rattle.chip.specs.Steps.Step.{Mask, Send}
 
 value-alone : (old value : ℕ) → value < 256 → maskOf old value 0xff ≡ value
@@ -29,5 +29,5 @@ module _ (c : Chip) (register value : ℕ) (ok : Bool) (small : value < 256) whe
   whole-sent = ap (λ (b : ℕ). written (c .address) 2 (pair register b) ok) byte
 
   -- and the record after it
-  pub whole-stored : after (Mask register value 0xff) c ok ≡ after (Send 2 (pair register value)) c ok
+  pub whole-stored : chipAfter (Mask register value 0xff) c ok ≡ chipAfter (Send 2 (pair register value)) c ok
   whole-stored = ap (λ (b : ℕ). attemptedBy c 2 (pair register b) ok) byte

@@ -7,7 +7,7 @@ use mathlib.Core.List.{List, [], _∷_, _++_}
 use native.Mathlib.Omega.{arith}
 use lib.ListN.{length, replicate, drop}
 use Rattle.chip.specs.declared.Chip.{Chip}
-use Rattle.chip.specs.declared.Went.the-variants.{Refused11}
+use Rattle.chip.specs.declared.Progress.the-variants.{Refused11}
 use Rattle.chip.specs.Chips.{attemptedBy}
 use Rattle.chip.specs.Entries.{repeater}
 use Rattle.chip.specs.Steps.{chunkBytes, run, step, trace}
@@ -26,7 +26,7 @@ fresh = record { address = 0x74; shadow = bytes; doubtful = replicate 27 true }
 abbrev outcomes : List ℕ
 outcomes = 0 ∷ 0 ∷ 1 ∷ 0 ∷ []
 
-pub second-failed : trace outcomes (reloadSteps bytes) fresh .went ≡ Refused11 2
+pub second-failed : trace outcomes (reloadSteps bytes) fresh .progress ≡ Refused11 2
 unfolding trace run step attemptedBy chunkBytes
 second-failed = refl
 

@@ -16,8 +16,8 @@ use Rattle.attempts.specs.Attempts.{Regs, byteIn, done, doubtIn, firstOf, lastI
 use Rattle.chip.specs.declared.Answer.{Answer}
 use Rattle.chip.specs.declared.Answer.the-variants.{Done, Refused, Stopped}
 use Rattle.chip.specs.declared.Chip.{Chip}
-use Rattle.chip.specs.declared.Went.{Went}
-use Rattle.chip.specs.declared.Went.the-variants.{Going, Refused11}
+use Rattle.chip.specs.declared.Progress.{Progress}
+use Rattle.chip.specs.declared.Progress.the-variants.{Going, Refused11}
 use Rattle.chip.specs.Entries.{repeater}
 use Rattle.chip.specs.Steps.{Step, every, trace}
 use Rattle.history.specs.Programs.{beside, fine}
@@ -84,12 +84,12 @@ abbrev pub passable : Entry → Bool
 passable e = done e || isClosing e
 
 -- how a call went, told by its entries: "a step other than a closing failed", the first one, by its index
-unfoldable pub wentFrom : ℕ → List Entry → Went
-wentFrom k [] = Going
-wentFrom k (e ∷ es) = cond (passable e) (wentFrom (k + 1) es) (Refused11 k)
+unfoldable pub progressFrom : ℕ → List Entry → Progress
+progressFrom k [] = Going
+progressFrom k (e ∷ es) = cond (passable e) (progressFrom (k + 1) es) (Refused11 k)
 
-abbrev pub wentIn : List Entry → Went
-wentIn es = wentFrom 0 es
+abbrev pub progressIn : List Entry → Progress
+progressIn es = progressFrom 0 es
 
 -- an answer of a call whose steps are all done: a value or a refusal of its own, never a step's failing
 abbrev pub stops : Answer → Bool

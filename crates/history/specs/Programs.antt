@@ -7,7 +7,7 @@ use lib.Dec.{eqb, leb}
 use lib.ListN.{length, getD, drop}
 use Rattle.transcript.specs.declared.Entry.{Entry}
 use Rattle.transcript.specs.Entries.{entryFits, zeros}
-use Rattle.chip.specs.Entries.{settled}
+use Rattle.chip.specs.Entries.{withOutcome}
 use Rattle.chip.specs.Steps.{Step, tunerWrite}
 use Rattle.chip.specs.Steps.Step.{Open, Close, Send, Mask, Plain}
 
@@ -24,7 +24,7 @@ fineSend n bytes =
 -- an entry that names no register and is no repeater's: `Open` and `Close` alone speak of the repeater, `Send` and `Mask` alone of registers.
 -- It fits the table as it is when the step is done; so it does when it failed
 unfoldable pub finePlain : Entry → Bool
-finePlain e = entryFits (settled e true) && not (eqb (e .kind) 1) && (not (eqb (e .kind) 2) || eqb (e .n) 1)
+finePlain e = entryFits (withOutcome e true) && not (eqb (e .kind) 1) && (not (eqb (e .kind) 2) || eqb (e .n) 1)
 
 abbrev pub fine : Step → Bool
 fine Open = true

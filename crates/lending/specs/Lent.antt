@@ -26,6 +26,6 @@ lentTo refusal value bytes out =
     (cond (ltb (length out) (length bytes)) (given (Refused 8) out) (given (Done value) (sets out 0 bytes)))
     (given (Refused refusal) out)
 
--- bytes behind an answer
+-- an answer's bytes
 abbrev pub answeredTo : Answer → List ℕ → List ℕ → Given
 answeredTo a bytes out = lentTo (numberOf a) (valueOf a) bytes out

@@ -18,7 +18,7 @@ pub fn lend(refusal: u8, value: u64, bytes: &[u8], out: &mut [u8]) -> Answer
     Answer::Done(value)
 }
 
-// The bytes behind an answer, where it is done; else its refusal's number.
+// Writes an answer's bytes where it is done; else returns its refusal's number.
 pub fn lend_answer(answer: Answer, bytes: &[u8], out: &mut [u8]) -> Answer
     ensures { λ r. ⌜ given r (now (out .exit)) ≡ answeredTo answer (now (bytes .entry)) (now (out .entry)) ⌝ }
 {

@@ -16,8 +16,8 @@ use Rattle.transcript.specs.Entries.{entryFits, zeros, zeros8}
 use Rattle.transcript.specs.Table.{addressMost, firstMost, isRead, nHigh, nLow, outcomeMost, rowFits, targetMost}
 use Rattle.transcript.proofs.Reading.{both}
 use Rattle.transcript.proofs.Rows.{row-of}
-use Rattle.packets.specs.Packets.{became, expands, followed, indexOf, isDemod, packets, packetsOf, sentBy, setup, sync, valueOf}
-use Rattle.packets.specs.Heard.{entryIn, highIn, inTable, lengthIn, lowIn, named, stands, step, syncIn, typeIn, valueIn, word}
+use Rattle.packets.specs.Packets.{became, expands, followed, wIndexOf, isDemod, packets, packetsOf, sentBy, setup, sync, wValueOf}
+use Rattle.packets.specs.Heard.{entryIn, highIn, inTable, lengthIn, lowIn, named, packetsStand, entryNamed, syncIn, typeIn, valueIn, word}
 use Rattle.packets.proofs.Written.{packets-long, sent-most, setup-back, stays}
 use Rattle.packets.proofs.Reading.{entry-long, named-kind, table-most, table-row}
 use Rattle.packets.proofs.Units.{all-zeros, columns, laid-zeros, zeros-drop}
@@ -45,17 +45,17 @@ pub record Fine (e : Entry) : Type 0 where
   pub address : e .address ≤ getD addressMost (e .kind) 0
   pub still : e .outcome ≡ 0
 
-page-fine : (b : Bool) (t n a : ℕ) → t ≤ 15 → a ≤ 255 → Fine (step (cond b 4 5) t n a)
+page-fine : (b : Bool) (t n a : ℕ) → t ≤ 15 → a ≤ 255 → Fine (entryNamed (cond b 4 5) t n a)
 unfolding expands addressMost
 page-fine true t n a p q = record { expand = rw (le-leb a 255 q, le-leb t 15 p); target = omega arith; address = omega arith; still = refl }
 page-fine false t n a p q = record { expand = rw (le-leb a 255 q, le-leb t 15 p); target = omega arith; address = omega arith; still = refl }
 
-i2c-fine : (b : Bool) (t n : ℕ) → t ≤ 255 → Fine (step (cond b 2 3) t n 0)
+i2c-fine : (b : Bool) (t n : ℕ) → t ≤ 255 → Fine (entryNamed (cond b 2 3) t n 0)
 unfolding expands addressMost
 i2c-fine true t n p = record { expand = refl; target = p; address = omega arith; still = refl }
 i2c-fine false t n p = record { expand = refl; target = p; address = omega arith; still = refl }
 
-block-fine : (b c : Bool) (t n a : ℕ) → t ≤ 255 → a ≤ 65535 → (t ≡ 0 → ⊥) → (t ≡ 6 → ⊥) → Fine (step (cond b (cond c 6 7) 8) t n a)
+block-fine : (b c : Bool) (t n a : ℕ) → t ≤ 255 → a ≤ 65535 → (t ≡ 0 → ⊥) → (t ≡ 6 → ⊥) → Fine (entryNamed (cond b (cond c 6 7) 8) t n a)
 unfolding expands addressMost
 block-fine true true t n a p q z s = record { expand = rw (ne-eqb t 0 z, ne-eqb t 6 s); target = p; address = q; still = refl }
 block-fine true false t n a p q z s = record { expand = rw (ne-eqb t 0 z, ne-eqb t 6 s); target = p; address = q; still = refl }
@@ -123,8 +123,8 @@ pub record Standing (b : List ℕ) : Type 0 where
   pub same : leValue (setup (named (word b))) ≡ word b
   pub room : 8 + sentBy (named (word b) .kind) (named (word b) .n) ≤ length b
 
-pub standing : (b : List ℕ) → stands b ≡ true → Standing b
-unfolding stands
+pub standing : (b : List ℕ) → packetsStand b ≡ true → Standing b
+unfolding packetsStand
 standing b h =
     let e = named (word b) in
     let x = inTable (e .kind) (e .n) in
@@ -159,7 +159,7 @@ sync-room true true l h = leb-true 8 (length l) (both (leb 8 (length l)) (eqb (w
 sync-room true false l h = omega arith
 sync-room false y l h = omega arith
 
-module _ (b : List ℕ) (h : stands b ≡ true) where
+module _ (b : List ℕ) (h : packetsStand b ≡ true) where
   abbrev e : Entry
   e = named (word b)
 
@@ -196,7 +196,7 @@ module _ (b : List ℕ) (h : stands b ≡ true) where
 
   module _ (bytes : Bytes b) where
     setup-begins : setup (entryIn b) ≡ take 8 b
-    unfolding entryIn setup valueOf indexOf
+    unfolding entryIn setup wValueOf wIndexOf
     setup-begins = sym (setup-back e) ∙ ap (leBytes 8) (standing b h .same) ∙ one-number 8 0 b bytes (omega (arith, standing b h .long))
 
     data-begins : take sent (entryIn b .bytes) ≡ take sent (drop 8 b)

@@ -16,20 +16,20 @@ use Rattle.transcript.specs.Table.{isRead, nLow, nHigh}
 use Rattle.transcript.proofs.Reading.{both}
 use Rattle.packets.specs.declared.Heard.{Heard}
 use Rattle.packets.specs.Packets.{isDemod, packets, sentBy, setup}
-use Rattle.packets.specs.Heard.{entryIn, heardIn, highIn, inTable, lengthIn, lowIn, named, nothing, stands, step, syncIn, told, typeIn, valueIn, word}
+use Rattle.packets.specs.Heard.{entryIn, heardIn, highIn, inTable, lengthIn, lowIn, named, nothing, packetsStand, entryNamed, syncIn, heardWith, typeIn, valueIn, word}
 use Rattle.packets.proofs.Written.{packets-long, sent-most}
 
 module _ (w : ℕ) where
-  pub page-named : (k : ℕ) → highIn w ≡ 0 → k ≡ cond (eqb (lengthIn w) 1) 4 5 → step k (lowIn w % 16) (lengthIn w) (valueIn w / 256) ≡ named w
+  pub page-named : (k : ℕ) → highIn w ≡ 0 → k ≡ cond (eqb (lengthIn w) 1) 4 5 → entryNamed k (lowIn w % 16) (lengthIn w) (valueIn w / 256) ≡ named w
   unfolding named
   page-named k h e = rw (eq-eqb (highIn w) 0 h, e)
 
-  pub i2c-named : (k : ℕ) → (highIn w ≡ 0 → ⊥) → highIn w ≡ 6 → k ≡ cond (eqb (typeIn w) 0x40) 2 3 → step k (valueIn w % 256) (lengthIn w) 0 ≡ named w
+  pub i2c-named : (k : ℕ) → (highIn w ≡ 0 → ⊥) → highIn w ≡ 6 → k ≡ cond (eqb (typeIn w) 0x40) 2 3 → entryNamed k (valueIn w % 256) (lengthIn w) 0 ≡ named w
   unfolding named
   i2c-named k z h e = rw (ne-eqb (highIn w) 0 z, eq-eqb (highIn w) 6 h, e)
 
   pub block-named : (j k : ℕ) → (highIn w ≡ 0 → ⊥) → (highIn w ≡ 6 → ⊥) → j ≡ cond (eqb (lengthIn w) 1) 6 7 → k ≡ cond (eqb (typeIn w) 0x40) j 8
-      → step k (highIn w) (lengthIn w) (valueIn w) ≡ named w
+      → entryNamed k (highIn w) (lengthIn w) (valueIn w) ≡ named w
   unfolding named
   block-named j k z h e f = rw (ne-eqb (highIn w) 0 z, ne-eqb (highIn w) 6 h, f, e)
 
@@ -48,7 +48,7 @@ pub named-kind : (w : ℕ) → (2 ≤ named w .kind) × (named w .kind ≤ 8)
 unfolding named
 named-kind w =
     picked-kind (eqb (highIn w) 0) (eqb (lengthIn w) 1) (eqb (highIn w) 6) (eqb (typeIn w) 0x40)
-    (λ k. step k (lowIn w % 16) (lengthIn w) (valueIn w / 256)) (λ k. step k (valueIn w % 256) (lengthIn w) 0) (λ k. step k (highIn w) (lengthIn w) (valueIn w))
+    (λ k. entryNamed k (lowIn w % 16) (lengthIn w) (valueIn w / 256)) (λ k. entryNamed k (valueIn w % 256) (lengthIn w) 0) (λ k. entryNamed k (highIn w) (lengthIn w) (valueIn w))
     (λ k. refl) (λ k. refl) (λ k. refl)
 
 high-most : (k : ℕ) → getD nHigh k 0 ≤ 8
@@ -89,8 +89,8 @@ module _ (s : List ℕ) (at : ℕ) where
       → behind ≡ cond (isDemod (e .kind) && syncIn (drop (at + 8 + sent) s)) 8 0
       → _≡_ {A = Heard}
       (record { entry = record { kind = e .kind; outcome = 0; target = e .target; n = e .n; address = e .address; bytes = image }; size = 8 + sent + behind })
-      (told e sent (drop at s))
-  unfolding told
+      (heardWith e sent (drop at s))
+  unfolding heardWith
   told-made e sent behind image i b =
       let wide : at + 8 + sent - (at + 8) ≡ sent = omega arith in
       let next : at + (8 + sent) ≡ at + 8 + sent = omega arith in
@@ -109,7 +109,7 @@ behind-as false y = refl
 
 module _ (b : List ℕ) where
   pub heard-short : length b < 8 → nothing ≡ heardIn b
-  unfolding heardIn stands
+  unfolding heardIn packetsStand
   heard-short h = rw (lt-leb 8 (length b) h)
 
   abbrev sent : ℕ
@@ -123,8 +123,8 @@ module _ (b : List ℕ) where
       ∙ ap (λ (k : ℕ). 8 + sent + k) (behind-as (isDemod (named (word b) .kind)) (syncIn (drop (8 + sent) b)))
 
   whole : 8 ≤ length b → inTable (named (word b) .kind) (named (word b) .n) && eqb (leValue (setup (named (word b)))) (word b) ≡ true → 8 + sent ≤ length b
-      → told (named (word b)) sent b ≡ heardIn b
-  unfolding heardIn stands told entryIn
+      → heardWith (named (word b)) sent b ≡ heardIn b
+  unfolding heardIn packetsStand heardWith entryIn
   whole l f h =
       let t = both (inTable (named (word b) .kind) (named (word b) .n)) (eqb (leValue (setup (named (word b)))) (word b)) f .0 in
       rw (le-leb 8 (length b) l, f, le-leb (8 + sent) (length b) h, entry-long t, kept (isRead (named (word b) .kind)) (named (word b) .n) (drop 8 b))
@@ -142,17 +142,17 @@ module _ (b : List ℕ) where
     sent-same = ap (λ (u : Entry). sentBy (u .kind) (u .n)) same ∙ sym sends
 
     pub heard-other : (x : Bool) (v : ℕ) → x ≡ inTable (e .kind) (e .n) → v ≡ leValue (setup e) → x && eqb v w ≡ false → nothing ≡ heardIn b
-    unfolding heardIn stands
+    unfolding heardIn packetsStand
     heard-other x v p q h = rw (tested false x v p q h, and-false)
 
     pub heard-cut : length b < 8 + k → nothing ≡ heardIn b
-    unfolding heardIn stands
+    unfolding heardIn packetsStand
     heard-cut h = rw (lt-leb (8 + sent) (length b) (omega (arith, sent-same)), and-false)
 
     pub heard-told : (x : Bool) (v : ℕ) → x ≡ inTable (e .kind) (e .n) → v ≡ leValue (setup e) → x && eqb v w ≡ true → 8 ≤ length b → 8 + k ≤ length b
-        → told e k b ≡ heardIn b
+        → heardWith e k b ≡ heardIn b
     heard-told x v p q h l r =
-        ap₂ (λ (u : Entry) (i : ℕ). told u i b) (sym same) (sym sent-same) ∙ whole l (tested true x v p q h) (omega (arith, sent-same))
+        ap₂ (λ (u : Entry) (i : ℕ). heardWith u i b) (sym same) (sym sent-same) ∙ whole l (tested true x v p q h) (omega (arith, sent-same))
 
     pub few : (x : Bool) (v : ℕ) → x ≡ inTable (e .kind) (e .n) → x && eqb v w ≡ true → k ≤ 8
     few x v p h = omega (arith, table-most (e .kind) (e .n) (sym p ∙ both x (eqb v w) h .0), sent-most (e .kind) (e .n), sends)

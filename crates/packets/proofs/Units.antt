@@ -15,8 +15,8 @@ use Rattle.transcript.specs.Entries.{bare, entryFits, keptBy, zeros, zeros8}
 use Rattle.transcript.specs.Table.{addressMost, firstMost, isRead, nHigh, nLow, outcomeMost, rowFits, targetMost}
 use Rattle.transcript.proofs.Reading.{both}
 use Rattle.transcript.proofs.Rows.{row-of}
-use Rattle.packets.specs.Packets.{expands, followed, indexOf, isDemod, packets, sentBy, setup, sync, valueOf}
-use Rattle.packets.specs.Heard.{entryIn, highIn, inTable, lengthIn, lowIn, named, stands, step, syncIn, typeIn, valueIn, word}
+use Rattle.packets.specs.Packets.{expands, followed, wIndexOf, isDemod, packets, sentBy, setup, sync, wValueOf}
+use Rattle.packets.specs.Heard.{entryIn, highIn, inTable, lengthIn, lowIn, named, packetsStand, entryNamed, syncIn, typeIn, valueIn, word}
 use Rattle.packets.proofs.Written.{packets-long, sent-long, setup-long, setup-value}
 use Rattle.packets.proofs.Reading.{block-named, i2c-named, page-named}
 
@@ -49,13 +49,13 @@ pub record Said (e : Entry) : Type 0 where
   pub names : named (leValue (setup e)) ≡ e
   pub other : leValue (setup e) ≡ leValue sync → ⊥
 
-same-step : (k t u n m a b : ℕ) → t ≡ u → n ≡ m → a ≡ b → step k t n a ≡ step k u m b
+same-step : (k t u n m a b : ℕ) → t ≡ u → n ≡ m → a ≡ b → entryNamed k t n a ≡ entryNamed k u m b
 same-step k t u n m a b p q r = rw (p, q, r)
 
 -- the setup packet of a step, by its fields
 module _ (k t n a : ℕ) where
   abbrev e : Entry
-  e = step k t n a
+  e = entryNamed k t n a
 
   abbrev w : ℕ
   w = leValue (setup e)
@@ -96,41 +96,41 @@ not-so true h = sym h
 not-so false h = refl
 
 -- each kind of the table that is a transfer
-said : (k t n a : ℕ) → 2 ≤ k → k ≤ 8 → t ≤ 255 → getD nLow k 0 ≤ n → n ≤ getD nHigh k 0 → a ≤ getD addressMost k 0 → expands (step k t n a) ≡ true → Said (step k t n a)
-unfolding nLow nHigh addressMost expands valueOf indexOf
+said : (k t n a : ℕ) → 2 ≤ k → k ≤ 8 → t ≤ 255 → getD nLow k 0 ≤ n → n ≤ getD nHigh k 0 → a ≤ getD addressMost k 0 → expands (entryNamed k t n a) ≡ true → Said (entryNamed k t n a)
+unfolding nLow nHigh addressMost expands wValueOf wIndexOf
 said zero t n a x y p q r s h = absurd (omega arith)
 said (suc zero) t n a x y p q r s h = absurd (omega arith)
 said (suc (suc zero)) t n a x y p q r s h =
-    said-i2c 2 t n a 0x40 0x10 (fields (leValue (setup (step 2 t n a))) 0x40 t 0x10 6 n (setup-value (step 2 t n a) ∙ omega arith) (omega arith) (omega arith) (omega arith) (omega arith) (omega arith)) refl (omega arith) (omega arith)
+    said-i2c 2 t n a 0x40 0x10 (fields (leValue (setup (entryNamed 2 t n a))) 0x40 t 0x10 6 n (setup-value (entryNamed 2 t n a) ∙ omega arith) (omega arith) (omega arith) (omega arith) (omega arith) (omega arith)) refl (omega arith) (omega arith)
 said (suc (suc (suc zero))) t n a x y p q r s h =
-    said-i2c 3 t n a 0xc0 0 (fields (leValue (setup (step 3 t n a))) 0xc0 t 0 6 n (setup-value (step 3 t n a) ∙ omega arith) (omega arith) (omega arith) (omega arith) (omega arith) (omega arith)) refl (omega arith) (omega arith)
+    said-i2c 3 t n a 0xc0 0 (fields (leValue (setup (entryNamed 3 t n a))) 0xc0 t 0 6 n (setup-value (entryNamed 3 t n a) ∙ omega arith) (omega arith) (omega arith) (omega arith) (omega arith) (omega arith)) refl (omega arith) (omega arith)
 said (suc (suc (suc (suc zero)))) t n a x y p q r s h =
     let g = both (leb a 255) (leb t 15) h in
     let ga : a ≤ 255 = leb-true a 255 (g .0) in
     let gt : t ≤ 15 = leb-true t 15 (g .1) in
     let one : n ≡ 1 = omega arith in
-    said-page 4 t n a (a * 256 + 32) (t + 16) (fields (leValue (setup (step 4 t n a))) 0x40 (a * 256 + 32) (t + 16) 0 n (setup-value (step 4 t n a) ∙ omega arith) (omega arith) (omega arith) (omega arith) (omega arith) (omega arith))
+    said-page 4 t n a (a * 256 + 32) (t + 16) (fields (leValue (setup (entryNamed 4 t n a))) 0x40 (a * 256 + 32) (t + 16) 0 n (setup-value (entryNamed 4 t n a) ∙ omega arith) (omega arith) (omega arith) (omega arith) (omega arith) (omega arith))
     (rw one) (omega arith) (omega arith)
 said (suc (suc (suc (suc (suc zero))))) t n a x y p q r s h =
     let g = both (leb a 255) (leb t 15) h in
     let ga : a ≤ 255 = leb-true a 255 (g .0) in
     let gt : t ≤ 15 = leb-true t 15 (g .1) in
     let two : n ≡ 2 = omega arith in
-    said-page 5 t n a (a * 256 + 32) (t + 16) (fields (leValue (setup (step 5 t n a))) 0x40 (a * 256 + 32) (t + 16) 0 n (setup-value (step 5 t n a) ∙ omega arith) (omega arith) (omega arith) (omega arith) (omega arith) (omega arith))
+    said-page 5 t n a (a * 256 + 32) (t + 16) (fields (leValue (setup (entryNamed 5 t n a))) 0x40 (a * 256 + 32) (t + 16) 0 n (setup-value (entryNamed 5 t n a) ∙ omega arith) (omega arith) (omega arith) (omega arith) (omega arith) (omega arith))
     (rw two) (omega arith) (omega arith)
 said (suc (suc (suc (suc (suc (suc zero)))))) t n a x y p q r s h =
     let g = both (not (eqb t 0)) (not (eqb t 6)) h in
     let one : n ≡ 1 = omega arith in
-    said-block 6 t n a 0x40 0x10 (fields (leValue (setup (step 6 t n a))) 0x40 a 0x10 t n (setup-value (step 6 t n a) ∙ omega arith) (omega arith) (omega arith) (omega arith) (omega arith) (omega arith))
+    said-block 6 t n a 0x40 0x10 (fields (leValue (setup (entryNamed 6 t n a))) 0x40 a 0x10 t n (setup-value (entryNamed 6 t n a) ∙ omega arith) (omega arith) (omega arith) (omega arith) (omega arith) (omega arith))
     (rw one) (eqb-false t 0 (not-so (eqb t 0) (g .0))) (eqb-false t 6 (not-so (eqb t 6) (g .1)))
 said (suc (suc (suc (suc (suc (suc (suc zero))))))) t n a x y p q r s h =
     let g = both (not (eqb t 0)) (not (eqb t 6)) h in
     let two : n ≡ 2 = omega arith in
-    said-block 7 t n a 0x40 0x10 (fields (leValue (setup (step 7 t n a))) 0x40 a 0x10 t n (setup-value (step 7 t n a) ∙ omega arith) (omega arith) (omega arith) (omega arith) (omega arith) (omega arith))
+    said-block 7 t n a 0x40 0x10 (fields (leValue (setup (entryNamed 7 t n a))) 0x40 a 0x10 t n (setup-value (entryNamed 7 t n a) ∙ omega arith) (omega arith) (omega arith) (omega arith) (omega arith) (omega arith))
     (rw two) (eqb-false t 0 (not-so (eqb t 0) (g .0))) (eqb-false t 6 (not-so (eqb t 6) (g .1)))
 said (suc (suc (suc (suc (suc (suc (suc (suc zero)))))))) t n a x y p q r s h =
     let g = both (not (eqb t 0)) (not (eqb t 6)) h in
-    said-block 8 t n a 0xc0 0 (fields (leValue (setup (step 8 t n a))) 0xc0 a 0 t n (setup-value (step 8 t n a) ∙ omega arith) (omega arith) (omega arith) (omega arith) (omega arith) (omega arith))
+    said-block 8 t n a 0xc0 0 (fields (leValue (setup (entryNamed 8 t n a))) 0xc0 a 0 t n (setup-value (entryNamed 8 t n a) ∙ omega arith) (omega arith) (omega arith) (omega arith) (omega arith) (omega arith))
     refl (eqb-false t 0 (not-so (eqb t 0) (g .0))) (eqb-false t 6 (not-so (eqb t 6) (g .1)))
 said (suc (suc (suc (suc (suc (suc (suc (suc (suc k))))))))) t n a x y p q r s h = absurd (omega arith)
 
@@ -229,7 +229,7 @@ ended true (suc (suc o)) r m s = absurd (omega arith)
 
 module _ (e : Entry) (fit : entryFits e ≡ true) (low : 2 ≤ e .kind) (high : e .kind ≤ 8) (fine : expands e ≡ true) where
   abbrev bare-step : Entry
-  bare-step = step (e .kind) (e .target) (e .n) (e .address)
+  bare-step = entryNamed (e .kind) (e .target) (e .n) (e .address)
 
   pub told-of : Said bare-step
   unfolding expands
@@ -238,7 +238,7 @@ module _ (e : Entry) (fit : entryFits e ≡ true) (low : 2 ≤ e .kind) (high : 
       said (e .kind) (e .target) (e .n) (e .address) low high (row-of e fit .target) (c .0) (c .1 .0) (c .1 .1) fine
 
   setup-same : setup bare-step ≡ setup e
-  unfolding setup valueOf indexOf
+  unfolding setup wValueOf wIndexOf
   setup-same = refl
 
   module _ (r : List ℕ) where
@@ -282,8 +282,8 @@ module _ (e : Entry) (fit : entryFits e ≡ true) (low : 2 ≤ e .kind) (high : 
     unfolding syncIn
     no-stray = rw (worded, ne-eqb (leValue (setup e)) (leValue sync) (λ same. told-of .other (ap leValue setup-same ∙ same)), and-false)
 
-    pub unit-stands : stands all ≡ true
-    unfolding stands inTable
+    pub unit-stands : packetsStand all ≡ true
+    unfolding packetsStand inTable
     unit-stands =
         let c = columns e fit in
         rw (names, le-leb 8 (length all) (omega (arith, long)), le-leb (getD nLow (e .kind) 0) (e .n) (c .0), le-leb (e .n) (getD nHigh (e .kind) 0) (c .1 .0), eq-eqb (leValue (setup bare-step)) (word all) (ap leValue setup-same ∙ sym worded), le-leb (8 + sent) (length all) long)

@@ -14,31 +14,31 @@ use Rattle.wire.proofs.Stores.{sets-append}
 use Rattle.wire.proofs.Widths.{bytes-value}
 use Rattle.transcript.specs.declared.Entry.{Entry}
 use Rattle.transcript.specs.Table.{isRead}
-use Rattle.packets.specs.Packets.{became, followed, indexOf, isDemod, isI2c, packets, packetsOf, sentBy, setup, sync, typeOf, valueOf}
+use Rattle.packets.specs.Packets.{became, followed, wIndexOf, isDemod, isI2c, packets, packetsOf, sentBy, setup, sync, typeOf, wValueOf}
 
 module _ (e : Entry) where
-  pub value-demod : isDemod (e .kind) ≡ true → e .address * 256 + 32 ≡ valueOf e
-  unfolding valueOf
+  pub value-demod : isDemod (e .kind) ≡ true → e .address * 256 + 32 ≡ wValueOf e
+  unfolding wValueOf
   value-demod h = rw h
 
-  pub value-i2c : isDemod (e .kind) ≡ false → isI2c (e .kind) ≡ true → e .target ≡ valueOf e
-  unfolding valueOf
+  pub value-i2c : isDemod (e .kind) ≡ false → isI2c (e .kind) ≡ true → e .target ≡ wValueOf e
+  unfolding wValueOf
   value-i2c h k = rw (h, k)
 
-  pub value-block : isDemod (e .kind) ≡ false → isI2c (e .kind) ≡ false → e .address ≡ valueOf e
-  unfolding valueOf
+  pub value-block : isDemod (e .kind) ≡ false → isI2c (e .kind) ≡ false → e .address ≡ wValueOf e
+  unfolding wValueOf
   value-block h k = rw (h, k)
 
-  pub index-demod : isDemod (e .kind) ≡ true → e .target + cond (isRead (e .kind)) 0 0x10 ≡ indexOf e
-  unfolding indexOf
+  pub index-demod : isDemod (e .kind) ≡ true → e .target + cond (isRead (e .kind)) 0 0x10 ≡ wIndexOf e
+  unfolding wIndexOf
   index-demod h = rw h
 
-  pub index-i2c : isDemod (e .kind) ≡ false → isI2c (e .kind) ≡ true → 0x600 + cond (isRead (e .kind)) 0 0x10 ≡ indexOf e
-  unfolding indexOf
+  pub index-i2c : isDemod (e .kind) ≡ false → isI2c (e .kind) ≡ true → 0x600 + cond (isRead (e .kind)) 0 0x10 ≡ wIndexOf e
+  unfolding wIndexOf
   index-i2c h k = rw (h, k)
 
-  pub index-block : isDemod (e .kind) ≡ false → isI2c (e .kind) ≡ false → e .target * 256 + cond (isRead (e .kind)) 0 0x10 ≡ indexOf e
-  unfolding indexOf
+  pub index-block : isDemod (e .kind) ≡ false → isI2c (e .kind) ≡ false → e .target * 256 + cond (isRead (e .kind)) 0 0x10 ≡ wIndexOf e
+  unfolding wIndexOf
   index-block h k = rw (h, k)
 
   -- a repeater entry, and any other
@@ -81,14 +81,14 @@ module _ (e : Entry) where
   unfolding setup leBytes
   setup-long = refl
 
-  pub setup-value : leValue (setup e) ≡ typeOf (e .kind) + valueOf e % 65536 * 65536 + indexOf e % 65536 * 4294967296 + e .n % 65536 * 281474976710656
+  pub setup-value : leValue (setup e) ≡ typeOf (e .kind) + wValueOf e % 65536 * 65536 + wIndexOf e % 65536 * 4294967296 + e .n % 65536 * 281474976710656
   unfolding setup leBytes leValue
-  setup-value = omega (arith, two (valueOf e), two (indexOf e), two (e .n))
+  setup-value = omega (arith, two (wValueOf e), two (wIndexOf e), two (e .n))
 
   pub setup-back : leBytes 8 (leValue (setup e)) ≡ setup e
   setup-back = rw setup-long at (bytes-value (setup e) setup-bytes)
 
-  pub setup-made : (t v i n : ℕ) → t ≡ typeOf (e .kind) → v ≡ valueOf e → i ≡ indexOf e → i < 65536 → n ≡ e .n → n < 256
+  pub setup-made : (t v i n : ℕ) → t ≡ typeOf (e .kind) → v ≡ wValueOf e → i ≡ wIndexOf e → i < 65536 → n ≡ e .n → n < 256
       → t + v % 65536 * 65536 + i * 4294967296 + n * 281474976710656 ≡ leValue (setup e)
   setup-made t v i n a b c less d small =
       rw (setup-value, ← a, ← b, ← c, ← d) (omega arith)

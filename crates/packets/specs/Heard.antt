@@ -33,16 +33,16 @@ highIn w = w / 0x100_0000_0000 % 256
 abbrev pub lengthIn : ℕ → ℕ
 lengthIn w = w / 0x1_0000_0000_0000 % 256
 
-abbrev pub step : ℕ → ℕ → ℕ → ℕ → Entry
-step kind target n address =
+abbrev pub entryNamed : ℕ → ℕ → ℕ → ℕ → Entry
+entryNamed kind target n address =
     record { kind = kind; outcome = 0; target = target; n = n; address = address; bytes = zeros8 }
 
 -- The index's high byte says what is spoken to: 0 a demod page, 6 I2C, any other a block. Only one entry can have such a setup packet.
 unfoldable pub named : ℕ → Entry
 named w =
-    cond (eqb (highIn w) 0) (step (cond (eqb (lengthIn w) 1) 4 5) (lowIn w % 16) (lengthIn w) (valueIn w / 256))
-    (cond (eqb (highIn w) 6) (step (cond (eqb (typeIn w) 0x40) 2 3) (valueIn w % 256) (lengthIn w) 0)
-    (step (cond (eqb (typeIn w) 0x40) (cond (eqb (lengthIn w) 1) 6 7) 8) (highIn w) (lengthIn w) (valueIn w)))
+    cond (eqb (highIn w) 0) (entryNamed (cond (eqb (lengthIn w) 1) 4 5) (lowIn w % 16) (lengthIn w) (valueIn w / 256))
+    (cond (eqb (highIn w) 6) (entryNamed (cond (eqb (typeIn w) 0x40) 2 3) (valueIn w % 256) (lengthIn w) 0)
+    (entryNamed (cond (eqb (typeIn w) 0x40) (cond (eqb (lengthIn w) 1) 6 7) 8) (highIn w) (lengthIn w) (valueIn w)))
 
 -- document 01's table: how many bytes a kind has
 unfoldable pub inTable : ℕ → ℕ → Bool
@@ -52,8 +52,8 @@ unfoldable pub syncIn : List ℕ → Bool
 syncIn b = leb 8 (length b) && eqb (word b) (leValue sync)
 
 -- bytes that begin with a setup packet of some entry, and with all of its data
-unfoldable pub stands : List ℕ → Bool
-stands b =
+unfoldable pub packetsStand : List ℕ → Bool
+packetsStand b =
     let e = named (word b) in
     leb 8 (length b)
     && (inTable (e .kind) (e .n) && eqb (leValue (setup e)) (word b))
@@ -74,8 +74,8 @@ entryIn b =
     }
 
 -- an entry that a setup packet names, with its data bytes, and how long its packets are
-unfoldable pub told : Entry → ℕ → List ℕ → Heard
-told e sent b =
+unfoldable pub heardWith : Entry → ℕ → List ℕ → Heard
+heardWith e sent b =
     record {
       entry =
           record {
@@ -90,10 +90,10 @@ told e sent b =
     }
 
 abbrev pub nothing : Heard
-nothing = record { entry = step 0 0 0 0; size = 0 }
+nothing = record { entry = entryNamed 0 0 0 0; size = 0 }
 
 -- "without waits, outcomes and read data (both zero)", and how many bytes its packets have; 0 where none stand there
 unfoldable pub heardIn : List ℕ → Heard
 heardIn b =
-    cond (stands b) (record { entry = bare (entryIn b); size = length (packets (entryIn b)) })
+    cond (packetsStand b) (record { entry = bare (entryIn b); size = length (packets (entryIn b)) })
     nothing

@@ -23,17 +23,17 @@ abbrev pub typeOf : ℕ → ℕ
 typeOf k = cond (isRead k) 0xc0 0x40
 
 -- "value and index as in `src/device.rs`": a demod register stands in the value's high byte above 0x20, an I2C address and a block's register are the value
-unfoldable pub valueOf : Entry → ℕ
-valueOf e = cond (isDemod (e .kind)) (e .address * 256 + 0x20) (cond (isI2c (e .kind)) (e .target) (e .address))
+unfoldable pub wValueOf : Entry → ℕ
+wValueOf e = cond (isDemod (e .kind)) (e .address * 256 + 0x20) (cond (isI2c (e .kind)) (e .target) (e .address))
 
 -- the page, block 6 for I2C, or the block in the high byte; and 0x10 in a write
-unfoldable pub indexOf : Entry → ℕ
-indexOf e =
+unfoldable pub wIndexOf : Entry → ℕ
+wIndexOf e =
     cond (isDemod (e .kind)) (e .target) (cond (isI2c (e .kind)) 0x600 (e .target * 256)) + cond (isRead (e .kind)) 0 0x10
 
 -- type, "request 0", value, index and length
 unfoldable pub setup : Entry → List ℕ
-setup e = typeOf (e .kind) ∷ 0 ∷ (leBytes 2 (valueOf e) ++ (leBytes 2 (indexOf e) ++ leBytes 2 (e .n)))
+setup e = typeOf (e .kind) ∷ 0 ∷ (leBytes 2 (wValueOf e) ++ (leBytes 2 (wIndexOf e) ++ leBytes 2 (e .n)))
 
 -- how many data bytes stand after a setup packet: a read has none
 abbrev pub sentBy : ℕ → ℕ → ℕ

@@ -8,8 +8,8 @@ ghost use lib.ListN.{length, drop};
 ghost use lib.Seq.{sets};
 ghost use Rattle.wire.specs.Bytes.{leValue};
 ghost use Rattle.transcript.specs.Table.{isRead};
-ghost use Rattle.packets.specs.Packets.{became, expands, indexOf, isDemod, packets, packetsOf, sentBy, setup, typeOf, valueOf};
-ghost use Rattle.packets.specs.Heard.{heardIn, inTable, named, syncIn, told};
+ghost use Rattle.packets.specs.Packets.{became, expands, wIndexOf, isDemod, packets, packetsOf, sentBy, setup, typeOf, wValueOf};
+ghost use Rattle.packets.specs.Heard.{heardIn, inTable, named, syncIn, heardWith};
 use transcript::Entry;
 
 // The read of page 0x0a, register 0x01, as a number of eight bytes, low byte first.
@@ -42,7 +42,7 @@ fn type_of(k: u8) -> u64
 }
 
 fn value_of(e: Entry) -> u64
-    ensures { λ r. ⌜ (r ≡ valueOf e) × (r < 16777472) ⌝ }
+    ensures { λ r. ⌜ (r ≡ wValueOf e) × (r < 16777472) ⌝ }
 {
     if is_demod(e.kind) {
         return (e.address as u64) * 256 + 0x20;
@@ -64,7 +64,7 @@ fn write_bit(k: u8) -> u64
 }
 
 fn index_of(e: Entry) -> u64
-    ensures { λ r. ⌜ (r ≡ indexOf e) × (r < 65536) ⌝ }
+    ensures { λ r. ⌜ (r ≡ wIndexOf e) × (r < 65536) ⌝ }
 {
     let write = write_bit(e.kind);
     if is_demod(e.kind) {
@@ -183,7 +183,7 @@ pub fn put(e: Entry, out: &mut [u8], at: usize)
 }
 
 fn step(kind: u8, target: u8, n: u8, address: u16) -> Entry
-    ensures { λ r. ⌜ r ≡ Rattle.packets.specs.Heard.step kind target n address ⌝ }
+    ensures { λ r. ⌜ r ≡ Rattle.packets.specs.Heard.entryNamed kind target n address ⌝ }
 {
     Entry {
         kind,
@@ -271,7 +271,7 @@ fn nothing() -> Heard
 // The entry with its data, which stand after its setup packet from `at`.
 fn with_data(e: Entry, s: &[u8], at: usize, sent: usize) -> Heard
     requires { ⌜ (sent ≤ 8) × (at + 8 + sent ≤ length (now s)) ⌝ }
-    ensures { λ r. ⌜ r ≡ told e sent (drop at (now (s .entry))) ⌝ }
+    ensures { λ r. ⌜ r ≡ heardWith e sent (drop at (now (s .entry))) ⌝ }
 {
     let mut image = [0u8; 8];
     let end = at + 8 + sent;

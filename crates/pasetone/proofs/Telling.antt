@@ -6,15 +6,15 @@ use mathlib.Core.List.{List}
 use Rattle.lending.specs.Lent.{Given, given}
 use Rattle.chip.specs.declared.Answer.{Answer}
 use Rattle.chip.specs.Calls.{Called, called}
-use Rattle.replies.specs.declared.Reply.{Reply}
-use Rattle.replies.specs.Replies.{replyOf}
-use Rattle.pasetone.specs.Told.{lent, lentBy, shown, shownBy}
+use Rattle.reply.specs.declared.Reply.{Reply}
+use Rattle.reply.specs.Replies.{replyOf}
+use Rattle.pasetone.specs.Results.{outResult, outResultOf, roomResult, roomResultOf}
 
 pub answer-told : (r : Reply) (a b : Answer) → r ≡ replyOf a 0 → a ≡ b → r ≡ replyOf b 0
 answer-told r a b h e = h ∙ ap (λ (x : Answer). replyOf x 0) e
 
-pub lent-told : (r : Reply) (a : Answer) (out : List ℕ) (g : Given) → r ≡ replyOf a 0 → given a out ≡ g → lent r out ≡ lentBy g
-lent-told r a out g h e = ap (λ (x : Reply). lent x out) h ∙ ap lentBy e
+pub lent-told : (r : Reply) (a : Answer) (out : List ℕ) (g : Given) → r ≡ replyOf a 0 → given a out ≡ g → outResult r out ≡ outResultOf g
+lent-told r a out g h e = ap (λ (x : Reply). outResult x out) h ∙ ap outResultOf e
 
-pub shown-told : (r : Reply) (a : Answer) (n : ℕ) (room : List ℕ) (c : Called (Unit {0})) → r ≡ replyOf a n → called tt room n a ≡ c → shown r room ≡ shownBy c
-shown-told r a n room c h e = ap (λ (x : Reply). shown x room) h ∙ ap shownBy e
+pub shown-told : (r : Reply) (a : Answer) (n : ℕ) (room : List ℕ) (c : Called (Unit {0})) → r ≡ replyOf a n → called tt room n a ≡ c → roomResult r room ≡ roomResultOf c
+shown-told r a n room c h e = ap (λ (x : Reply). roomResult x room) h ∙ ap roomResultOf e

@@ -21,19 +21,19 @@ ghost use Rattle.r82xx.specs.Orders.{courseOf};
 ghost use Rattle.r82xx.specs.Orders.Order.{Initialize, Reload, Bandwidth, IfFreq, Gain, GainIndex, InputPath, Tune, Notch, GainTold, IfTold};
 ghost use Rattle.parting.specs.Parting.{partingOf};
 ghost use Rattle.restoring.specs.Standing.{restoreInto};
-ghost use Rattle.replies.specs.Replies.{partsOf, replyOf};
+ghost use Rattle.reply.specs.Replies.{partsOf, replyOf};
 ghost use Rattle.settings.specs.Image.{wider};
 ghost use Rattle.settings.specs.Reading.{movedTo1, movedTo2, readOf1, readOf2, settings, toldOf1, toldOf2, writtenTo1, writtenTo2};
 ghost use Rattle.transcript.specs.Sections.{sectionOf};
 ghost use Rattle.tuners.specs.Over.{after, overTuner, overTuning, tunedTo};
 ghost use Rattle.tuners.specs.Still as tuner;
 ghost use Rattle.tuners.specs.Still.{answerOver, changedInto, tableOver};
-ghost use Rattle.pasetone.specs.Told.{lent, lentBy, shown, shownBy, yes};
+ghost use Rattle.pasetone.specs.Results.{outResult, outResultOf, roomResult, roomResultOf, yes};
 use commands::FeedReply;
 use parting::Place;
-use replies::Parts;
-use replies::Reply;
-use replies::TuneReply;
+use reply::Parts;
+use reply::Reply;
+use reply::TuneReply;
 use settings::Reply1;
 use settings::Reply2;
 use settings::Settings;
@@ -50,10 +50,10 @@ pub extern "C" fn pasetone_version() -> u32
 // The tuner: src/tuners/r82xx.rs.
 #[no_mangle]
 pub extern "C" fn pasetone_tuner_new(kind: u64, address: u8, nominal: u64, next: &mut [u8]) -> Reply
-    ensures { λ r. ⌜ lent r (now (next .exit)) ≡ lentBy (tuner.freshInto kind address nominal (now (next .entry))) ⌝ }
+    ensures { λ r. ⌜ outResult r (now (next .exit)) ≡ outResultOf (tuner.freshInto kind address nominal (now (next .entry))) ⌝ }
 {
     let answer = tuners::fresh(kind, address, nominal, next);
-    replies::numbers(answer, 0)
+    reply::numbers(answer, 0)
 }
 
 #[no_mangle]
@@ -172,7 +172,7 @@ pub extern "C" fn pasetone_get_gain(tuner: &[u8]) -> Reply
     ensures { λ r. ⌜ r ≡ replyOf (answerOver GainTold (now (tuner .entry))) 0 ⌝ }
 {
     let answer = tuners::get_gain(tuner);
-    replies::numbers(answer, 0)
+    reply::numbers(answer, 0)
 }
 
 #[no_mangle]
@@ -180,24 +180,24 @@ pub extern "C" fn pasetone_get_if_freq(tuner: &[u8]) -> Reply
     ensures { λ r. ⌜ r ≡ replyOf (answerOver IfTold (now (tuner .entry))) 0 ⌝ }
 {
     let answer = tuners::get_if_freq(tuner);
-    replies::numbers(answer, 0)
+    reply::numbers(answer, 0)
 }
 
 #[no_mangle]
 pub extern "C" fn pasetone_get_gain_table(tuner: &[u8], out: &mut [u8]) -> Reply
-    ensures { λ r. ⌜ lent r (now (out .exit)) ≡ lentBy (tableOver (now (tuner .entry)) (now (out .entry))) ⌝ }
+    ensures { λ r. ⌜ outResult r (now (out .exit)) ≡ outResultOf (tableOver (now (tuner .entry)) (now (out .entry))) ⌝ }
 {
     let answer = tuners::get_gain_table(tuner, out);
-    replies::numbers(answer, 0)
+    reply::numbers(answer, 0)
 }
 
 // This one, `pasetone_set_ppm` and `pasetone_feed` change the caller's bytes where they lie.
 #[no_mangle]
 pub extern "C" fn pasetone_apply_notch(tuner: &mut [u8], on: u8) -> Reply
-    ensures { λ r. ⌜ lent r (now (tuner .exit)) ≡ lentBy (changedInto (Notch (yes on)) (now (tuner .entry)) (now (tuner .entry))) ⌝ }
+    ensures { λ r. ⌜ outResult r (now (tuner .exit)) ≡ outResultOf (changedInto (Notch (yes on)) (now (tuner .entry)) (now (tuner .entry))) ⌝ }
 {
     let answer = tuners::apply_notch(tuner, on != 0);
-    replies::numbers(answer, 0)
+    reply::numbers(answer, 0)
 }
 
 // The driver: src/lib.rs.
@@ -210,10 +210,10 @@ pub extern "C" fn pasetone_driver_new(
     rate: u32,
     next: &mut [u8],
 ) -> Reply
-    ensures { λ r. ⌜ lent r (now (next .exit)) ≡ lentBy (driver.freshInto board nominal ppm frequency rate (now (next .entry))) ⌝ }
+    ensures { λ r. ⌜ outResult r (now (next .exit)) ≡ outResultOf (driver.freshInto board nominal ppm frequency rate (now (next .entry))) ⌝ }
 {
     let answer = drivers::fresh(board, nominal, ppm, frequency, rate, next);
-    replies::numbers(answer, 0)
+    reply::numbers(answer, 0)
 }
 
 #[no_mangle]
@@ -221,7 +221,7 @@ pub extern "C" fn pasetone_corrected_xtal_hz(driver: &[u8]) -> Reply
     ensures { λ r. ⌜ r ≡ replyOf (xtalOver (now (driver .entry))) 0 ⌝ }
 {
     let answer = drivers::corrected_xtal_hz(driver);
-    replies::numbers(answer, 0)
+    reply::numbers(answer, 0)
 }
 
 // The one correction, of both records where they lie, or of neither.
@@ -317,71 +317,71 @@ pub extern "C" fn pasetone_stream_pending(stream: &[u8]) -> Reply
     ensures { λ r. ⌜ r ≡ replyOf (pendingAnswer (now (stream .entry))) 0 ⌝ }
 {
     let answer = commands::pending(stream);
-    replies::numbers(answer, 0)
+    reply::numbers(answer, 0)
 }
 
 // The demodulator: src/demod.rs.
 #[no_mangle]
 pub extern "C" fn pasetone_init_baseband(outcomes: &[u8], room: &mut [u8]) -> Reply
-    ensures { λ r. ⌜ shown r (now (room .exit)) ≡ shownBy (freeResult (demodCourse Baseband) (now (outcomes .entry)) (now (room .entry))) ⌝ }
+    ensures { λ r. ⌜ roomResult r (now (room .exit)) ≡ roomResultOf (freeResult (demodCourse Baseband) (now (outcomes .entry)) (now (room .entry))) ⌝ }
 {
     let handed = demod::init_baseband(outcomes, room);
     let answer = handed.answer;
-    replies::numbers(answer, handed.count)
+    reply::numbers(answer, handed.count)
 }
 
 #[no_mangle]
 pub extern "C" fn pasetone_power_on(outcomes: &[u8], room: &mut [u8]) -> Reply
-    ensures { λ r. ⌜ shown r (now (room .exit)) ≡ shownBy (freeResult (demodCourse Baseband) (now (outcomes .entry)) (now (room .entry))) ⌝ }
+    ensures { λ r. ⌜ roomResult r (now (room .exit)) ≡ roomResultOf (freeResult (demodCourse Baseband) (now (outcomes .entry)) (now (room .entry))) ⌝ }
 {
     let handed = demod::power_on(outcomes, room);
     let answer = handed.answer;
-    replies::numbers(answer, handed.count)
+    reply::numbers(answer, handed.count)
 }
 
 #[no_mangle]
 pub extern "C" fn pasetone_reset_demod(outcomes: &[u8], room: &mut [u8]) -> Reply
-    ensures { λ r. ⌜ shown r (now (room .exit)) ≡ shownBy (freeResult (demodCourse Reset) (now (outcomes .entry)) (now (room .entry))) ⌝ }
+    ensures { λ r. ⌜ roomResult r (now (room .exit)) ≡ roomResultOf (freeResult (demodCourse Reset) (now (outcomes .entry)) (now (room .entry))) ⌝ }
 {
     let handed = demod::reset_demod(outcomes, room);
     let answer = handed.answer;
-    replies::numbers(answer, handed.count)
+    reply::numbers(answer, handed.count)
 }
 
 #[no_mangle]
 pub extern "C" fn pasetone_set_tuner_low_if(outcomes: &[u8], room: &mut [u8]) -> Reply
-    ensures { λ r. ⌜ shown r (now (room .exit)) ≡ shownBy (freeResult (demodCourse LowIf) (now (outcomes .entry)) (now (room .entry))) ⌝ }
+    ensures { λ r. ⌜ roomResult r (now (room .exit)) ≡ roomResultOf (freeResult (demodCourse LowIf) (now (outcomes .entry)) (now (room .entry))) ⌝ }
 {
     let handed = demod::set_tuner_low_if(outcomes, room);
     let answer = handed.answer;
-    replies::numbers(answer, handed.count)
+    reply::numbers(answer, handed.count)
 }
 
 #[no_mangle]
 pub extern "C" fn pasetone_set_tuner_zero_if(outcomes: &[u8], room: &mut [u8]) -> Reply
-    ensures { λ r. ⌜ shown r (now (room .exit)) ≡ shownBy (freeResult (demodCourse ZeroIf) (now (outcomes .entry)) (now (room .entry))) ⌝ }
+    ensures { λ r. ⌜ roomResult r (now (room .exit)) ≡ roomResultOf (freeResult (demodCourse ZeroIf) (now (outcomes .entry)) (now (room .entry))) ⌝ }
 {
     let handed = demod::set_tuner_zero_if(outcomes, room);
     let answer = handed.answer;
-    replies::numbers(answer, handed.count)
+    reply::numbers(answer, handed.count)
 }
 
 #[no_mangle]
 pub extern "C" fn pasetone_start_streaming(outcomes: &[u8], room: &mut [u8]) -> Reply
-    ensures { λ r. ⌜ shown r (now (room .exit)) ≡ shownBy (freeResult (demodCourse Start) (now (outcomes .entry)) (now (room .entry))) ⌝ }
+    ensures { λ r. ⌜ roomResult r (now (room .exit)) ≡ roomResultOf (freeResult (demodCourse Start) (now (outcomes .entry)) (now (room .entry))) ⌝ }
 {
     let handed = demod::start_streaming(outcomes, room);
     let answer = handed.answer;
-    replies::numbers(answer, handed.count)
+    reply::numbers(answer, handed.count)
 }
 
 #[no_mangle]
 pub extern "C" fn pasetone_stop_streaming(outcomes: &[u8], room: &mut [u8]) -> Reply
-    ensures { λ r. ⌜ shown r (now (room .exit)) ≡ shownBy (freeResult (demodCourse Stop) (now (outcomes .entry)) (now (room .entry))) ⌝ }
+    ensures { λ r. ⌜ roomResult r (now (room .exit)) ≡ roomResultOf (freeResult (demodCourse Stop) (now (outcomes .entry)) (now (room .entry))) ⌝ }
 {
     let handed = demod::stop_streaming(outcomes, room);
     let answer = handed.answer;
-    replies::numbers(answer, handed.count)
+    reply::numbers(answer, handed.count)
 }
 
 #[no_mangle]
@@ -392,11 +392,11 @@ pub extern "C" fn pasetone_write_reg_direct(
     outcomes: &[u8],
     room: &mut [u8],
 ) -> Reply
-    ensures { λ r. ⌜ shown r (now (room .exit)) ≡ shownBy (freeResult (demodCourse (Direct page address value)) (now (outcomes .entry)) (now (room .entry))) ⌝ }
+    ensures { λ r. ⌜ roomResult r (now (room .exit)) ≡ roomResultOf (freeResult (demodCourse (Direct page address value)) (now (outcomes .entry)) (now (room .entry))) ⌝ }
 {
     let handed = demod::write_reg_direct(page, address, value, outcomes, room);
     let answer = handed.answer;
-    replies::numbers(answer, handed.count)
+    reply::numbers(answer, handed.count)
 }
 
 #[no_mangle]
@@ -406,11 +406,11 @@ pub extern "C" fn pasetone_set_if_freq_xtal(
     outcomes: &[u8],
     room: &mut [u8],
 ) -> Reply
-    ensures { λ r. ⌜ shown r (now (room .exit)) ≡ shownBy (freeResult (demodCourse (IfXtal hz xtal)) (now (outcomes .entry)) (now (room .entry))) ⌝ }
+    ensures { λ r. ⌜ roomResult r (now (room .exit)) ≡ roomResultOf (freeResult (demodCourse (IfXtal hz xtal)) (now (outcomes .entry)) (now (room .entry))) ⌝ }
 {
     let handed = demod::set_if_freq_xtal(hz, xtal, outcomes, room);
     let answer = handed.answer;
-    replies::numbers(answer, handed.count)
+    reply::numbers(answer, handed.count)
 }
 
 #[no_mangle]
@@ -420,11 +420,11 @@ pub extern "C" fn pasetone_set_sample_rate_xtal(
     outcomes: &[u8],
     room: &mut [u8],
 ) -> Reply
-    ensures { λ r. ⌜ shown r (now (room .exit)) ≡ shownBy (freeResult (demodCourse (RateXtal rate xtal)) (now (outcomes .entry)) (now (room .entry))) ⌝ }
+    ensures { λ r. ⌜ roomResult r (now (room .exit)) ≡ roomResultOf (freeResult (demodCourse (RateXtal rate xtal)) (now (outcomes .entry)) (now (room .entry))) ⌝ }
 {
     let handed = demod::set_sample_rate_xtal(rate, xtal, outcomes, room);
     let answer = handed.answer;
-    replies::numbers(answer, handed.count)
+    reply::numbers(answer, handed.count)
 }
 
 // GPIO: src/device.rs.
@@ -435,11 +435,11 @@ pub extern "C" fn pasetone_set_gpio_output(
     replies: &[u8],
     room: &mut [u8],
 ) -> Reply
-    ensures { λ r. ⌜ shown r (now (room .exit)) ≡ shownBy (freeResult (gpioCourse (Output gpio (now (replies .entry)))) (now (outcomes .entry)) (now (room .entry))) ⌝ }
+    ensures { λ r. ⌜ roomResult r (now (room .exit)) ≡ roomResultOf (freeResult (gpioCourse (Output gpio (now (replies .entry)))) (now (outcomes .entry)) (now (room .entry))) ⌝ }
 {
     let handed = device::set_gpio_output(gpio, outcomes, replies, room);
     let answer = handed.answer;
-    replies::numbers(answer, handed.count)
+    reply::numbers(answer, handed.count)
 }
 
 #[no_mangle]
@@ -450,45 +450,45 @@ pub extern "C" fn pasetone_set_gpio_bit(
     replies: &[u8],
     room: &mut [u8],
 ) -> Reply
-    ensures { λ r. ⌜ shown r (now (room .exit)) ≡ shownBy (freeResult (gpioCourse (Bit gpio value (now (replies .entry)))) (now (outcomes .entry)) (now (room .entry))) ⌝ }
+    ensures { λ r. ⌜ roomResult r (now (room .exit)) ≡ roomResultOf (freeResult (gpioCourse (Bit gpio value (now (replies .entry)))) (now (outcomes .entry)) (now (room .entry))) ⌝ }
 {
     let handed = device::set_gpio_bit(gpio, value, outcomes, replies, room);
     let answer = handed.answer;
-    replies::numbers(answer, handed.count)
+    reply::numbers(answer, handed.count)
 }
 
 // Leaves: src/tuner.rs, src/registers.rs, the FIR of src/demod.rs, the reader of sections.
 #[no_mangle]
 pub extern "C" fn pasetone_plan_tuning(board: u64, hz: u64, out: &mut [u8]) -> Reply
-    ensures { λ r. ⌜ lent r (now (out .exit)) ≡ lentBy (planInto (boardOf board) hz (now (out .entry))) ⌝ }
+    ensures { λ r. ⌜ outResult r (now (out .exit)) ≡ outResultOf (planInto (boardOf board) hz (now (out .entry))) ⌝ }
 {
     let answer = answers::plan_tuning(board, hz, out);
-    replies::numbers(answer, 0)
+    reply::numbers(answer, 0)
 }
 
 // Boards from a table.
 #[no_mangle]
 pub extern "C" fn pasetone_board_table(board: u64, out: &mut [u8]) -> Reply
-    ensures { λ r. ⌜ lent r (now (out .exit)) ≡ lentBy (tableInto (boardOf board) (now (out .entry))) ⌝ }
+    ensures { λ r. ⌜ outResult r (now (out .exit)) ≡ outResultOf (tableInto (boardOf board) (now (out .entry))) ⌝ }
 {
     let answer = bands::board_table(board, out);
-    replies::numbers(answer, 0)
+    reply::numbers(answer, 0)
 }
 
 #[no_mangle]
 pub extern "C" fn pasetone_plan_by_table(table: &[u8], hz: u64, out: &mut [u8]) -> Reply
-    ensures { λ r. ⌜ lent r (now (out .exit)) ≡ lentBy (planByInto (now (table .entry)) hz (now (out .entry))) ⌝ }
+    ensures { λ r. ⌜ outResult r (now (out .exit)) ≡ outResultOf (planByInto (now (table .entry)) hz (now (out .entry))) ⌝ }
 {
     let answer = answers::plan_by_table(table, hz, out);
-    replies::numbers(answer, 0)
+    reply::numbers(answer, 0)
 }
 
 #[no_mangle]
 pub extern "C" fn pasetone_plan_pll(kind: u64, lo: u64, reference: u32, out: &mut [u8]) -> Reply
-    ensures { λ r. ⌜ lent r (now (out .exit)) ≡ lentBy (pllInto kind lo reference (now (out .entry))) ⌝ }
+    ensures { λ r. ⌜ outResult r (now (out .exit)) ≡ outResultOf (pllInto kind lo reference (now (out .entry))) ⌝ }
 {
     let answer = answers::plan_pll(kind, lo, reference, out);
-    replies::numbers(answer, 0)
+    reply::numbers(answer, 0)
 }
 
 #[no_mangle]
@@ -498,42 +498,42 @@ pub extern "C" fn pasetone_plan_pll_by_worksheet(
     reference: u32,
     out: &mut [u8],
 ) -> Reply
-    ensures { λ r. ⌜ lent r (now (out .exit)) ≡ lentBy (worksheetInto kind lo reference (now (out .entry))) ⌝ }
+    ensures { λ r. ⌜ outResult r (now (out .exit)) ≡ outResultOf (worksheetInto kind lo reference (now (out .entry))) ⌝ }
 {
     let answer = answers::plan_pll_by_worksheet(kind, lo, reference, out);
-    replies::numbers(answer, 0)
+    reply::numbers(answer, 0)
 }
 
 #[no_mangle]
 pub extern "C" fn pasetone_if_freq_regs(hz: u32, xtal: u32, out: &mut [u8]) -> Reply
-    ensures { λ r. ⌜ lent r (now (out .exit)) ≡ lentBy (ifInto hz xtal (now (out .entry))) ⌝ }
+    ensures { λ r. ⌜ outResult r (now (out .exit)) ≡ outResultOf (ifInto hz xtal (now (out .entry))) ⌝ }
 {
     let answer = answers::if_freq_regs(hz, xtal, out);
-    replies::numbers(answer, 0)
+    reply::numbers(answer, 0)
 }
 
 #[no_mangle]
 pub extern "C" fn pasetone_resample_regs(rate: u32, xtal: u32, out: &mut [u8]) -> Reply
-    ensures { λ r. ⌜ lent r (now (out .exit)) ≡ lentBy (resampleInto rate xtal (now (out .entry))) ⌝ }
+    ensures { λ r. ⌜ outResult r (now (out .exit)) ≡ outResultOf (resampleInto rate xtal (now (out .entry))) ⌝ }
 {
     let answer = answers::resample_regs(rate, xtal, out);
-    replies::numbers(answer, 0)
+    reply::numbers(answer, 0)
 }
 
 #[no_mangle]
 pub extern "C" fn pasetone_pack_fir(values: &[u8], out: &mut [u8]) -> Reply
-    ensures { λ r. ⌜ lent r (now (out .exit)) ≡ lentBy (packInto (now (values .entry)) (now (out .entry))) ⌝ }
+    ensures { λ r. ⌜ outResult r (now (out .exit)) ≡ outResultOf (packInto (now (values .entry)) (now (out .entry))) ⌝ }
 {
     let answer = answers::pack_fir(values, out);
-    replies::numbers(answer, 0)
+    reply::numbers(answer, 0)
 }
 
 #[no_mangle]
 pub extern "C" fn pasetone_unpack_fir(bytes: &[u8], out: &mut [u8]) -> Reply
-    ensures { λ r. ⌜ lent r (now (out .exit)) ≡ lentBy (unpackInto (now (bytes .entry)) (now (out .entry))) ⌝ }
+    ensures { λ r. ⌜ outResult r (now (out .exit)) ≡ outResultOf (unpackInto (now (bytes .entry)) (now (out .entry))) ⌝ }
 {
     let answer = answers::unpack_fir(bytes, out);
-    replies::numbers(answer, 0)
+    reply::numbers(answer, 0)
 }
 
 #[no_mangle]
@@ -541,7 +541,7 @@ pub extern "C" fn pasetone_read_section(bytes: &[u8]) -> Parts
     ensures { λ r. ⌜ r ≡ partsOf (sectionOf (now (bytes .entry))) ⌝ }
 {
     let section = transcript::read_section(bytes);
-    replies::located(section)
+    reply::located(section)
 }
 
 // Where two sections part: document 02, #114.
@@ -571,7 +571,7 @@ pub extern "C" fn pasetone_write_settings_1(
     gain: u64,
     out: &mut [u8],
 ) -> Reply
-    ensures { λ r. ⌜ lent r (now (out .exit)) ≡ lentBy (writtenTo1 (settings kind board correction rate frequency gain) (now (out .entry))) ⌝ }
+    ensures { λ r. ⌜ outResult r (now (out .exit)) ≡ outResultOf (writtenTo1 (settings kind board correction rate frequency gain) (now (out .entry))) ⌝ }
 {
     let s = Settings {
         kind: kind,
@@ -582,7 +582,7 @@ pub extern "C" fn pasetone_write_settings_1(
         gain: gain,
     };
     let answer = settings::write_1(s, out);
-    replies::numbers(answer, 0)
+    reply::numbers(answer, 0)
 }
 
 // Edition 2: document 02, #112.
@@ -605,8 +605,8 @@ pub extern "C" fn pasetone_write_settings_2(
     intermediate: u32,
     out: &mut [u8],
 ) -> Reply
-    ensures { λ r. ⌜ lent r (now (out .exit))
-        ≡ lentBy (writtenTo2 (wider (settings kind board correction rate frequency gain) intermediate) (now (out .entry))) ⌝ }
+    ensures { λ r. ⌜ outResult r (now (out .exit))
+        ≡ outResultOf (writtenTo2 (wider (settings kind board correction rate frequency gain) intermediate) (now (out .entry))) ⌝ }
 {
     let s = Settings {
         kind: kind,
@@ -621,47 +621,47 @@ pub extern "C" fn pasetone_write_settings_2(
         ifreq: intermediate,
     };
     let answer = settings::write_2(w, out);
-    replies::numbers(answer, 0)
+    reply::numbers(answer, 0)
 }
 
 #[no_mangle]
 pub extern "C" fn pasetone_move_settings_1_to_2(bytes: &[u8], out: &mut [u8]) -> Reply
-    ensures { λ r. ⌜ lent r (now (out .exit)) ≡ lentBy (movedTo2 (now (bytes .entry)) (now (out .entry))) ⌝ }
+    ensures { λ r. ⌜ outResult r (now (out .exit)) ≡ outResultOf (movedTo2 (now (bytes .entry)) (now (out .entry))) ⌝ }
 {
     let answer = settings::move_1_to_2(bytes, out);
-    replies::numbers(answer, 0)
+    reply::numbers(answer, 0)
 }
 
 #[no_mangle]
 pub extern "C" fn pasetone_move_settings_2_to_1(bytes: &[u8], out: &mut [u8]) -> Reply
-    ensures { λ r. ⌜ lent r (now (out .exit)) ≡ lentBy (movedTo1 (now (bytes .entry)) (now (out .entry))) ⌝ }
+    ensures { λ r. ⌜ outResult r (now (out .exit)) ≡ outResultOf (movedTo1 (now (bytes .entry)) (now (out .entry))) ⌝ }
 {
     let answer = settings::move_2_to_1(bytes, out);
-    replies::numbers(answer, 0)
+    reply::numbers(answer, 0)
 }
 
 // Setup packets for the replay box: document 02, #107.
 #[no_mangle]
 pub extern "C" fn pasetone_expand(section: &[u8], out: &mut [u8]) -> Reply
-    ensures { λ r. ⌜ lent r (now (out .exit)) ≡ lentBy (expandInto (now (section .entry)) (now (out .entry))) ⌝ }
+    ensures { λ r. ⌜ outResult r (now (out .exit)) ≡ outResultOf (expandInto (now (section .entry)) (now (out .entry))) ⌝ }
 {
     let answer = expansion::expand(section, out);
-    replies::numbers(answer, 0)
+    reply::numbers(answer, 0)
 }
 
 #[no_mangle]
 pub extern "C" fn pasetone_read_packets(packets: &[u8], out: &mut [u8]) -> Reply
-    ensures { λ r. ⌜ lent r (now (out .exit)) ≡ lentBy (readInto (now (packets .entry)) (now (out .entry))) ⌝ }
+    ensures { λ r. ⌜ outResult r (now (out .exit)) ≡ outResultOf (readInto (now (packets .entry)) (now (out .entry))) ⌝ }
 {
     let answer = expansion::read_packets(packets, out);
-    replies::numbers(answer, 0)
+    reply::numbers(answer, 0)
 }
 
 // Restore lists: document 02, #110.
 #[no_mangle]
 pub extern "C" fn pasetone_restore(sections: &[u8], address: u8, out: &mut [u8]) -> Reply
-    ensures { λ r. ⌜ lent r (now (out .exit)) ≡ lentBy (restoreInto (now (sections .entry)) address (now (out .entry))) ⌝ }
+    ensures { λ r. ⌜ outResult r (now (out .exit)) ≡ outResultOf (restoreInto (now (sections .entry)) address (now (out .entry))) ⌝ }
 {
     let answer = restoring::restore(sections, address, out);
-    replies::numbers(answer, 0)
+    reply::numbers(answer, 0)
 }

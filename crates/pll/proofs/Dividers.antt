@@ -13,7 +13,7 @@ use lib.ListN.{length, getD}
 use borrow.Author.Tests.{lt-leb, le-leb, lt-ltb, le-ltb, leb-true, ltb-true, ltb-false}
 use Rattle.below.proofs.Test.{below}
 use Rattle.pll.specs.declared.Mixer.the-variants.{By, Missing}
-use Rattle.pll.specs.Divide.{inVco, firstOf, dividers, dividerOf}
+use Rattle.pll.specs.Divide.{inVco, firstMixer, dividers, dividerOf}
 
 -- lo·m is below, in, or above the oscillator's range
 under : (lo m : ℕ) → lo * m < 1_770_000_000 → inVco lo m ≡ false
@@ -43,42 +43,42 @@ vco-range lo m e =
 
 -- each divider, by its interval
 pub by2 : (lo : ℕ) → 885_000_000 ≤ lo → lo < 1_800_000_000 → dividerOf lo ≡ By 2 0
-unfolding firstOf
+unfolding firstMixer
 by2 lo h k = simp (within lo 2 (omega arith) (omega arith))
 
 pub by4 : (lo : ℕ) → 442_500_000 ≤ lo → lo < 885_000_000 → dividerOf lo ≡ By 4 1
-unfolding firstOf
+unfolding firstMixer
 by4 lo h k = simp (under lo 2 (omega arith), within lo 4 (omega arith) (omega arith))
 
 pub by8 : (lo : ℕ) → 221_250_000 ≤ lo → lo < 442_500_000 → dividerOf lo ≡ By 8 2
-unfolding firstOf
+unfolding firstMixer
 by8 lo h k = simp (under lo 2 (omega arith), under lo 4 (omega arith), within lo 8 (omega arith) (omega arith))
 
 pub by16 : (lo : ℕ) → 110_625_000 ≤ lo → lo < 221_250_000 → dividerOf lo ≡ By 16 3
-unfolding firstOf
+unfolding firstMixer
 by16 lo h k =
     simp (under lo 2 (omega arith), under lo 4 (omega arith), under lo 8 (omega arith), within lo 16 (omega arith) (omega arith))
 
 pub by32 : (lo : ℕ) → 55_312_500 ≤ lo → lo < 110_625_000 → dividerOf lo ≡ By 32 4
-unfolding firstOf
+unfolding firstMixer
 by32 lo h k =
     simp
     (under lo 2 (omega arith), under lo 4 (omega arith), under lo 8 (omega arith), under lo 16 (omega arith), within lo 32 (omega arith) (omega arith))
 
 pub by64 : (lo : ℕ) → 27_656_250 ≤ lo → lo < 55_312_500 → dividerOf lo ≡ By 64 5
-unfolding firstOf
+unfolding firstMixer
 by64 lo h k =
     simp
     (under lo 2 (omega arith), under lo 4 (omega arith), under lo 8 (omega arith), under lo 16 (omega arith), under lo 32 (omega arith), within lo 64 (omega arith) (omega arith))
 
 pub too-low : (lo : ℕ) → lo < 27_656_250 → dividerOf lo ≡ Missing
-unfolding firstOf
+unfolding firstMixer
 too-low lo h =
     simp
     (under lo 2 (omega arith), under lo 4 (omega arith), under lo 8 (omega arith), under lo 16 (omega arith), under lo 32 (omega arith), under lo 64 (omega arith))
 
 pub too-high : (lo : ℕ) → 1_800_000_000 ≤ lo → dividerOf lo ≡ Missing
-unfolding firstOf
+unfolding firstMixer
 too-high lo h =
     simp
     (over lo 2 (omega arith), over lo 4 (omega arith), over lo 8 (omega arith), over lo 16 (omega arith), over lo 32 (omega arith), over lo 64 (omega arith))
@@ -118,13 +118,13 @@ first-later lo m ms number m′ k e f =
     earlier zero h = e
     earlier (suc i) h = f .before i (le-of-suc-le-suc h)
 
-step : (lo m : ℕ) (ms : List ℕ) (number m′ k : ℕ) (b : Bool) → inVco lo m ≡ b → cond b (By m number) (firstOf lo ms (number + 1)) ≡ By m′ k → (firstOf lo ms (number + 1) ≡ By m′ k → First lo ms (number + 1) m′ k) → First lo (m ∷ ms) number m′ k
+step : (lo m : ℕ) (ms : List ℕ) (number m′ k : ℕ) (b : Bool) → inVco lo m ≡ b → cond b (By m number) (firstMixer lo ms (number + 1)) ≡ By m′ k → (firstMixer lo ms (number + 1) ≡ By m′ k → First lo ms (number + 1) m′ k) → First lo (m ∷ ms) number m′ k
 step lo m ms number m′ k true e same later = first-here lo m ms number m′ k e same
 step lo m ms number m′ k false e same later = first-later lo m ms number m′ k e (later same)
 
 -- the divider found is the first right one: of any list
-pub first : (lo : ℕ) (ms : List ℕ) (number m k : ℕ) → firstOf lo ms number ≡ By m k → First lo ms number m k
-unfolding firstOf
+pub first : (lo : ℕ) (ms : List ℕ) (number m k : ℕ) → firstMixer lo ms number ≡ By m k → First lo ms number m k
+unfolding firstMixer
 first lo [] number m k e = let z : _≡_ {A = ℕ} 0 1 = cc in absurd (omega arith)
 first lo (x ∷ ms) number m k e = step lo x ms number m k (inVco lo x) refl e (first lo ms (number + 1) m k)
 
@@ -132,13 +132,13 @@ first lo (x ∷ ms) number m k e = step lo x ms number m k (inVco lo x) refl e (
 abbrev pub AllWrong : ℕ → List ℕ → Type 0
 AllWrong lo ms = (i : ℕ) → i < length ms → inVco lo (getD ms i 0) ≡ false
 
-none-step : (lo m : ℕ) (ms : List ℕ) (number : ℕ) (b : Bool) → inVco lo m ≡ b → cond b (By m number) (firstOf lo ms (number + 1)) ≡ Missing → (firstOf lo ms (number + 1) ≡ Missing → AllWrong lo ms) → AllWrong lo (m ∷ ms)
+none-step : (lo m : ℕ) (ms : List ℕ) (number : ℕ) (b : Bool) → inVco lo m ≡ b → cond b (By m number) (firstMixer lo ms (number + 1)) ≡ Missing → (firstMixer lo ms (number + 1) ≡ Missing → AllWrong lo ms) → AllWrong lo (m ∷ ms)
 none-step lo m ms number true t e later i h = let z : _≡_ {A = ℕ} 0 1 = cc in absurd (omega arith)
 none-step lo m ms number false t e later zero h = t
 none-step lo m ms number false t e later (suc i) h = later e i (le-of-suc-le-suc h)
 
-pub none : (lo : ℕ) (ms : List ℕ) (number : ℕ) → firstOf lo ms number ≡ Missing → AllWrong lo ms
-unfolding firstOf
+pub none : (lo : ℕ) (ms : List ℕ) (number : ℕ) → firstMixer lo ms number ≡ Missing → AllWrong lo ms
+unfolding firstMixer
 none lo [] number e = λ i h. absurd (not-suc-le-zero h)
 none lo (m ∷ ms) number e = none-step lo m ms number (inVco lo m) refl e (none lo ms (number + 1))
 

@@ -8,38 +8,38 @@ use lib.Pow.{pow-pos}
 use lib.Dec.{ltb}
 use borrow.Author.Tests.{ltb-true}
 use Rattle.pll.specs.declared.Sum.{Sum}
-use Rattle.pll.specs.Fraction.{takes, turnOf, turnsOf, startOf, sumOf, takenOf}
+use Rattle.pll.specs.Fraction.{takesTurn, turnOf, turnsOf, sumStart, sumOf, takenOf}
 
 -- what that many turns can add at most, from n on
 weights : ℕ → ℕ → ℕ
 weights zero n = 0
 weights (suc t) n = 32_768 / (n / 2) + weights t (n * 2)
 
-grows : (k n : ℕ) (s : Sum) (b : Bool) → takes k n s ≡ b → turnOf k n s .sum ≤ s .sum + 32_768 / (n / 2)
+grows : (k n : ℕ) (s : Sum) (b : Bool) → takesTurn k n s ≡ b → turnOf k n s .sum ≤ s .sum + 32_768 / (n / 2)
 unfolding turnOf
 grows k n s true e = simp e (omega arith)
 grows k n s false e = simp e (omega arith)
 
 -- a turn adds no more than 32,768
 pub turn-most : (k n : ℕ) (s : Sum) → turnOf k n s .sum ≤ s .sum + 32_768
-turn-most k n s = omega (arith, grows k n s (takes k n s) refl, div-le-self 32_768 (n / 2))
+turn-most k n s = omega (arith, grows k n s (takesTurn k n s) refl, div-le-self 32_768 (n / 2))
 
 sum-most : (t k n : ℕ) (s : Sum) → turnsOf t k n s .sum ≤ s .sum + weights t n
 unfolding turnsOf weights
 sum-most zero k n s = omega arith
-sum-most (suc t) k n s = omega (arith, sum-most t k (n * 2) (turnOf k n s), grows k n s (takes k n s) refl)
+sum-most (suc t) k n s = omega (arith, sum-most t k (n * 2) (turnOf k n s), grows k n s (takesTurn k n s) refl)
 
 -- S fits 16 bits
 pub sum-fits : (k f : ℕ) → sumOf k f .sum < 2 ^ 16
 unfolding weights
-sum-fits k f = omega (arith, sum-most 16 k 2 (startOf f))
+sum-fits k f = omega (arith, sum-most 16 k 2 (sumStart f))
 
 later : (a b : Bool) → (a && b) ≡ true → b ≡ true
 later true b e = e
 later false b e = let z : _≡_ {A = ℕ} 0 1 = cc in absurd (omega arith)
 
 -- one turn moves what it takes, and nothing else, from the rest
-keeps : (k n : ℕ) (s : Sum) (b : Bool) → takes k n s ≡ b → cond (takes k n s) (2 * k / n) 0 + turnOf k n s .rest ≡ s .rest
+keeps : (k n : ℕ) (s : Sum) (b : Bool) → takesTurn k n s ≡ b → cond (takesTurn k n s) (2 * k / n) 0 + turnOf k n s .rest ≡ s .rest
 unfolding turnOf
 keeps k n s true e =
     let l : 2 * k / n < s .rest = ltb-true _ _ (later (ltb 1 (s .rest)) (ltb (2 * k / n) (s .rest)) (later (not (s .stopped)) (ltb 1 (s .rest) && ltb (2 * k / n) (s .rest)) e)) in
@@ -49,11 +49,11 @@ keeps k n s false e = simp e (omega arith)
 turns-keep : (t k n : ℕ) (s : Sum) → takenOf t k n s + turnsOf t k n s .rest ≡ s .rest
 unfolding turnsOf takenOf
 turns-keep zero k n s = omega arith
-turns-keep (suc t) k n s = omega (arith, turns-keep t k (n * 2) (turnOf k n s), keeps k n s (takes k n s) refl)
+turns-keep (suc t) k n s = omega (arith, turns-keep t k (n * 2) (turnOf k n s), keeps k n s (takesTurn k n s) refl)
 
 -- the quotients taken plus the rest equal the first F
-pub sum-keeps : (k f : ℕ) → takenOf 16 k 2 (startOf f) + sumOf k f .rest ≡ f
-sum-keeps k f = turns-keep 16 k 2 (startOf f)
+pub sum-keeps : (k f : ℕ) → takenOf 16 k 2 (sumStart f) + sumOf k f .rest ≡ f
+sum-keeps k f = turns-keep 16 k 2 (sumStart f)
 
 -- for the loop over a counter of the turns left: one turn ahead, and how far n has doubled
 pub turns-on : (left k n : ℕ) (s : Sum) → 0 < left → turnsOf left k n s ≡ turnsOf (left - 1) k (n * 2) (turnOf k n s)

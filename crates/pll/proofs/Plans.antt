@@ -14,7 +14,7 @@ use Rattle.pll.specs.declared.Pll.the-variants.{Planned, Refused}
 use Rattle.pll.specs.declared.Sum.{Sum}
 use Rattle.pll.specs.Divide.{dividerOf}
 use Rattle.pll.specs.Setting.{settingOf}
-use Rattle.pll.specs.Fraction.{startOf, sumOf, takenOf}
+use Rattle.pll.specs.Fraction.{sumStart, sumOf, takenOf}
 use Rattle.pll.specs.Plan.{capOf, wholeOf, fractionOf, madeOf, taken, planWith, planOf}
 use Rattle.pll.proofs.Dividers.{both, found}
 use Rattle.pll.proofs.Settings.{setting-law, setting-byte}
@@ -64,7 +64,7 @@ pub record Known (kind : Kind) (lo r : ℕ) (p : Plan) : Type 0 where
   pub setting : p .setting < 256
   pub back : 13 + 4 * (p .setting % 64) + p .setting / 64 ≡ p .n
   pub sum : p .sum < 2 ^ 16
-  pub taken : takenOf 16 (r / 1000) 2 (startOf (p .fraction)) + p .rest ≡ p .fraction
+  pub taken : takenOf 16 (r / 1000) 2 (sumStart (p .fraction)) + p .rest ≡ p .fraction
 
 known-of : (kind : Kind) (lo r m k : ℕ) → 0 < r → dividerOf lo ≡ By m k → 13 ≤ wholeOf (lo * m) r → wholeOf (lo * m) r ≤ capOf kind → Known kind lo r (madeOf (lo * m) m k r)
 known-of kind lo r m k h e w l =

@@ -11,12 +11,12 @@ unfoldable pub inVco : ℕ → ℕ → Bool
 inVco lo m = leb 1_770_000_000 (lo * m) && ltb (lo * m) 3_600_000_000
 
 -- the first right one of a list, with its place in it, counted from `number`
-unfoldable pub firstOf : ℕ → List ℕ → ℕ → Mixer
-firstOf lo [] number = Missing
-firstOf lo (m ∷ ms) number = cond (inVco lo m) (By m number) (firstOf lo ms (number + 1))
+unfoldable pub firstMixer : ℕ → List ℕ → ℕ → Mixer
+firstMixer lo [] number = Missing
+firstMixer lo (m ∷ ms) number = cond (inVco lo m) (By m number) (firstMixer lo ms (number + 1))
 
 abbrev pub dividers : List ℕ
 dividers = 2 ∷ 4 ∷ 8 ∷ 16 ∷ 32 ∷ 64 ∷ []
 
 abbrev pub dividerOf : ℕ → Mixer
-dividerOf lo = firstOf lo dividers 0
+dividerOf lo = firstMixer lo dividers 0

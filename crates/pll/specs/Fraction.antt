@@ -6,12 +6,12 @@ use lib.Dec.{leb, ltb}
 use Rattle.pll.specs.declared.Sum.{Sum}
 
 -- a turn takes the quotient: not stopped, F > 1 and F > 2K/n
-abbrev pub takes : ℕ → ℕ → Sum → Bool
-takes k n s = not (s .stopped) && (ltb 1 (s .rest) && ltb (2 * k / n) (s .rest))
+abbrev pub takesTurn : ℕ → ℕ → Sum → Bool
+takesTurn k n s = not (s .stopped) && (ltb 1 (s .rest) && ltb (2 * k / n) (s .rest))
 
 unfoldable pub turnOf : ℕ → ℕ → Sum → Sum
 turnOf k n s =
-    cond (takes k n s)
+    cond (takesTurn k n s)
     (record { sum = s .sum + 32_768 / (n / 2); rest = s .rest - 2 * k / n; stopped = leb 32_768 n })
     s
 
@@ -21,13 +21,13 @@ turnsOf zero k n s = s
 turnsOf (suc t) k n s = turnsOf t k (n * 2) (turnOf k n s)
 
 -- the state before the first turn
-abbrev pub startOf : ℕ → Sum
-startOf f = record { sum = 0; rest = f; stopped = false }
+abbrev pub sumStart : ℕ → Sum
+sumStart f = record { sum = 0; rest = f; stopped = false }
 
 abbrev pub sumOf : ℕ → ℕ → Sum
-sumOf k f = turnsOf 16 k 2 (startOf f)
+sumOf k f = turnsOf 16 k 2 (sumStart f)
 
 -- the quotients taken, added up: what the law of the sum speaks of
 unfoldable pub takenOf : ℕ → ℕ → ℕ → Sum → ℕ
 takenOf zero k n s = 0
-takenOf (suc t) k n s = cond (takes k n s) (2 * k / n) 0 + takenOf t k (n * 2) (turnOf k n s)
+takenOf (suc t) k n s = cond (takesTurn k n s) (2 * k / n) 0 + takenOf t k (n * 2) (turnOf k n s)

@@ -44,12 +44,12 @@ use Rattle.chip.specs.declared.Answer.{Answer}
 use Rattle.chip.proofs.Answer as S
 use Rattle.chip.proofs.Answer.Laws as S′
 use Rattle.r82xx.specs.declared.Tuner.{Tuner}
-use Rattle.r82xx.specs.declared.Told.{Told}
+use Rattle.r82xx.specs.declared.TunerResult.{TunerResult}
 use Rattle.r82xx.proofs.Lent.{Lies, lies-in, lies-out, vals}
 use Rattle.r82xx.proofs.Tuner as T
 use Rattle.r82xx.proofs.Tuner.Laws as T′
-use Rattle.r82xx.proofs.Told as R
-use Rattle.r82xx.proofs.Told.Laws as R′
+use Rattle.r82xx.proofs.TunerResult as R
+use Rattle.r82xx.proofs.TunerResult.Laws as R′
 
 -- the function's MIR, by the second argument's type and the callee's name
 abbrev function : Ty → Name → Fn
@@ -69,7 +69,7 @@ abbrev mach : Tuner → Val
 mach t = LL.tuple-val T.the-type T′.the-laws (T.the-type .to t)
 
 -- what is handed back, and its machine value
-abbrev told : Tuner → Answer → Told
+abbrev told : Tuner → Answer → TunerResult
 told t r = record { tuner = t; answer = r; count = 0 }
 
 abbrev whole : Tuner → Answer → Val

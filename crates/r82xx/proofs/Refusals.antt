@@ -5,7 +5,7 @@ use mathlib.Core.Bool.{Bool, true, false, not, _&&_, _||_, cond}
 use native.Mathlib.Omega.{arith}
 use borrow.Author.Tests.{eq-eqb, eqb-false, eqb-true, le-leb, leb-false, lt-leb, ltb-false, ne-eqb}
 use lib.Dec.{eqb, leb, ltb}
-use Rattle.chip.specs.Calls.{lentOf}
+use Rattle.chip.specs.Calls.{tooShort}
 use Rattle.r82xx.specs.declared.Tuner.{Tuner}
 use Rattle.r82xx.specs.Record.{sound}
 use Rattle.r82xx.specs.Calls.{hzRefusal, refusalOf}

@@ -16,12 +16,13 @@ use Rattle.chip.specs.declared.Answer.{Answer}
 use Rattle.chip.specs.declared.Answer.the-variants.{Done, Refused}
 use Rattle.chip.specs.declared.Chip.{Chip}
 use Rattle.chip.specs.declared.Flow.{Flow}
-use Rattle.chip.specs.declared.Seen.{Seen}
+use Rattle.chip.specs.declared.LockTries.{LockTries}
 use Rattle.chip.specs.declared.Updates.{Updates}
-use Rattle.chip.specs.declared.Went.the-variants.{Going}
-use Rattle.chip.specs.Calls.{Called, answerOf, called, laidOut, performed, sealed, seenIn}
-use Rattle.chip.specs.Entries.{unseen}
-use Rattle.chip.specs.Steps.{Line, Logged, Step, Trace, behind, eight, every, inRoom, line, listed, logged, meantOf, onRoom, run, trace}
+use Rattle.chip.specs.declared.Progress.the-variants.{Going}
+use Rattle.chip.specs.Calls.{Called, answerOf, called, performed, lockTriesIn}
+use Rattle.chip.specs.Entries.{noTries}
+use Rattle.chip.specs.InCode.{laidOut, sealed, Logged, inRoom, listed, logged, meantOf, onRoom}
+use Rattle.chip.specs.Steps.{Line, Step, Trace, whileOpen, eight, every, line, run, trace}
 use Rattle.chip.proofs.Taken.{handed, performs, seen-in, stands, tried, untried}
 use Rattle.gain.specs.Steps.{chosenOf, clamped, steps}
 use Rattle.gain.proofs.Steps.{chosen-lt}
@@ -31,7 +32,7 @@ use Rattle.pll.specs.declared.Pll.{Pll}
 use Rattle.pll.specs.declared.Pll.the-variants as pll-variants
 use Rattle.pll.specs.Plan.{planOf}
 use Rattle.pll.proofs.Plans.{known}
-use Rattle.tuning.specs.Program.{innerSteps, dividerNumber, wholeOf}
+use Rattle.tuning.specs.Program.{innerSteps, dividerNumber, tuneAnswer}
 use Rattle.tuning.specs.Tries.{lockBy}
 use Rattle.tuning.proofs.Programs.{eight-inner}
 use Rattle.writes.specs.Lists.{pathUpdates}
@@ -40,8 +41,9 @@ use Rattle.r82xx.specs.declared.Tuner.{Tuner}
 use Rattle.r82xx.specs.Record.{sound, soundBy, withChip, withLock, withNotch}
 use Rattle.chip.specs.Courses.{leftBy}
 use Rattle.chip.specs.Courses.Course.{Still}
-use Rattle.r82xx.specs.Calls.{hzRefusal, keptNotch, planFor, refusalOf, soundAnswer}
-use Rattle.r82xx.specs.Orders.{lockKept, pathRow, quietly, resultOf, seenOf, tableOf, tuneOf}
+use Rattle.r82xx.specs.InCode.{keptNotch, soundAnswer}
+use Rattle.r82xx.specs.Calls.{hzRefusal, planFor, refusalOf}
+use Rattle.r82xx.specs.Orders.{lockKept, pathRow, quietly, resultOf, lockTriesOf, tableOf, tuneOf}
 use Rattle.r82xx.specs.Orders.Order.{Tune, Notch, GainTold, IfTold, TableTold}
 use Rattle.r82xx.proofs.Whole.{behind-eight, bracket-by, bracketCall, refuse-by, stepCall}
 
@@ -55,12 +57,12 @@ number-small kind lo r = go (planOf kind lo r) refl
 
 -- a tuning's steps by its plan: what is handed back, and what is told of the lock
 pub tune-by : (os rs room : List ℕ) (hz : ℕ) (t : Tuner) (plan : Pll) (f : Flow) (mid after : List ℕ) (answer whole : Answer) (lock : Bool)
-    → onRoom f mid ≡ run inRoom os (tuneOf t plan hz rs) (line (t .chip) (logged room unseen) 0 Going false)
-    → whole ≡ wholeOf plan hz → after ≡ sealed mid (f .log .count) → answer ≡ answerOf whole (f .log .went)
-    → lock ≡ lockBy (f .log .seen) (t .lock) → f .log .count ≤ 53
+    → onRoom f mid ≡ run inRoom os (tuneOf t plan hz rs) (line (t .chip) (logged room noTries) 0 Going false)
+    → whole ≡ tuneAnswer plan hz → after ≡ sealed mid (f .log .count) → answer ≡ answerOf whole (f .log .progress)
+    → lock ≡ lockBy (f .log .lock) (t .lock) → f .log .count ≤ 53
     → (called (withLock (withChip t (f .chip)) lock) after (f .log .count) answer
-    ≡ performed (wholeOf plan hz) (lockKept t) room (trace os (tuneOf t plan hz rs) (t .chip)))
-    × (f .log .seen ≡ seenIn (trace os (tuneOf t plan hz rs) (t .chip) .log))
+    ≡ performed (tuneAnswer plan hz) (lockKept t) room (trace os (tuneOf t plan hz rs) (t .chip)))
+    × (f .log .lock ≡ lockTriesIn (trace os (tuneOf t plan hz rs) (t .chip) .log))
 tune-by os rs room hz t plan f mid after answer whole lock k w q a l few =
     let ss : List Step = tuneOf t plan hz rs in
     let tr : Trace = trace os ss (t .chip) in
@@ -69,31 +71,31 @@ tune-by os rs room hz t plan f mid after answer whole lock k w q a l few =
     (eight-inner (t .chip .address) (t .kind) (t .notch) plan hz rs) in
     let all : onRoom f mid ≡ laidOut room tr = stands os room ss (t .chip) f mid eights k in
     let count : f .log .count ≡ length (tr .log) = ap (λ (x : Line Logged). x .count) all in
-    let seen : f .log .seen ≡ seenIn (tr .log) = ap (λ (x : Line Logged). x .log .seen) all ∙ seen-in (tr .log) (omega arith) in
+    let seen : f .log .lock ≡ lockTriesIn (tr .log) = ap (λ (x : Line Logged). x .log .lock) all ∙ seen-in (tr .log) (omega arith) in
     let chip : f .chip ≡ tr .chip = ap (λ (x : Line Logged). x .chip) all in
-    let same : withLock (withChip t (f .chip)) lock ≡ lockKept t tr = λ i. withLock (withChip t (chip i)) ((l ∙ ap (λ (s : Seen). lockBy s (t .lock)) seen) i) in (
-      handed os room ss (t .chip) (lockKept t) (wholeOf plan hz) (withLock (withChip t (f .chip)) lock) f mid after answer eights k q
-          (a ∙ ap (λ (x : Answer). answerOf x (f .log .went)) w) same,
+    let same : withLock (withChip t (f .chip)) lock ≡ lockKept t tr = λ i. withLock (withChip t (chip i)) ((l ∙ ap (λ (s : LockTries). lockBy s (t .lock)) seen) i) in (
+      handed os room ss (t .chip) (lockKept t) (tuneAnswer plan hz) (withLock (withChip t (f .chip)) lock) f mid after answer eights k q
+          (a ∙ ap (λ (x : Answer). answerOf x (f .log .progress)) w) same,
       seen,
     )
 
 -- a tuning refused before any step, and one that is taken
 pub tune-refused : (os rs room : List ℕ) (hz given : ℕ) (t : Tuner)
     → given ≡ refusalOf t (hzRefusal hz (t .ifreq)) 53 35 (length room) (length os) (length rs) → (given ≡ 0 → ⊥)
-    → (called t room 0 (Refused given) ≡ resultOf (Tune hz rs) os t room) × (unseen ≡ seenOf (Tune hz rs) os t room)
-unfolding resultOf leftBy seenOf
+    → (called t room 0 (Refused given) ≡ resultOf (Tune hz rs) os t room) × (noTries ≡ lockTriesOf (Tune hz rs) os t room)
+unfolding resultOf leftBy lockTriesOf
 tune-refused os rs room hz given t e h =
     (refuse-by _ given _ os _ (t .chip) _ t room e h, untried _ os _ (t .chip) (λ z. h (e ∙ z)))
 
-pub tune-taken : (os rs room : List ℕ) (hz given : ℕ) (t : Tuner) (plan : Pll) (x : Called Tuner) (s : Seen)
+pub tune-taken : (os rs room : List ℕ) (hz given : ℕ) (t : Tuner) (plan : Pll) (x : Called Tuner) (s : LockTries)
     → given ≡ refusalOf t (hzRefusal hz (t .ifreq)) 53 35 (length room) (length os) (length rs) → given ≡ 0 → plan ≡ planFor t hz
-    → (x ≡ performed (wholeOf plan hz) (lockKept t) room (trace os (tuneOf t plan hz rs) (t .chip))) × (s ≡ seenIn (trace os (tuneOf t plan hz rs) (t .chip) .log))
-    → (x ≡ resultOf (Tune hz rs) os t room) × (s ≡ seenOf (Tune hz rs) os t room)
-unfolding resultOf leftBy seenOf
+    → (x ≡ performed (tuneAnswer plan hz) (lockKept t) room (trace os (tuneOf t plan hz rs) (t .chip))) × (s ≡ lockTriesIn (trace os (tuneOf t plan hz rs) (t .chip) .log))
+    → (x ≡ resultOf (Tune hz rs) os t room) × (s ≡ lockTriesOf (Tune hz rs) os t room)
+unfolding resultOf leftBy lockTriesOf
 tune-taken os rs room hz given t plan x s e z p h =
     let zero : refusalOf t (hzRefusal hz (t .ifreq)) 53 35 (length room) (length os) (length rs) ≡ 0 = sym e ∙ z in (
-      h .0 ∙ ap (λ (q : Pll). performed (wholeOf q hz) (lockKept t) room (trace os (tuneOf t q hz rs) (t .chip))) p ∙ performs _ _ os _ (t .chip) _ t room zero,
-      h .1 ∙ ap (λ (q : Pll). seenIn (trace os (tuneOf t q hz rs) (t .chip) .log)) p ∙ tried _ os _ (t .chip) zero,
+      h .0 ∙ ap (λ (q : Pll). performed (tuneAnswer q hz) (lockKept t) room (trace os (tuneOf t q hz rs) (t .chip))) p ∙ performs _ _ os _ (t .chip) _ t room zero,
+      h .1 ∙ ap (λ (q : Pll). lockTriesIn (trace os (tuneOf t q hz rs) (t .chip) .log)) p ∙ tried _ os _ (t .chip) zero,
     )
 
 -- the input path's three ways

@@ -13,11 +13,12 @@ use Rattle.chip.specs.declared.Chip.{Chip}
 use Rattle.chip.specs.declared.Flow.{Flow}
 use Rattle.chip.specs.declared.Update.{Update}
 use Rattle.chip.specs.declared.Updates.{Updates}
-use Rattle.chip.specs.declared.Went.{Went}
-use Rattle.chip.specs.declared.Went.the-variants.{Going}
-use Rattle.chip.specs.Calls.{Called, answerOf, callOf, called, laidOut, sealed}
-use Rattle.chip.specs.Entries.{unseen}
-use Rattle.chip.specs.Steps.{Line, Logged, Step, Trace, behind, eight, every, goes, inRoom, line, listed, logged, meantOf, onRoom, run, trace, tunerWrite, updates}
+use Rattle.chip.specs.declared.Progress.{Progress}
+use Rattle.chip.specs.declared.Progress.the-variants.{Going}
+use Rattle.chip.specs.Calls.{Called, answerOf, callOf, called}
+use Rattle.chip.specs.Entries.{noTries}
+use Rattle.chip.specs.InCode.{laidOut, sealed, Logged, inRoom, listed, logged, meantOf, onRoom}
+use Rattle.chip.specs.Steps.{Line, Step, Trace, whileOpen, eight, every, goes, line, run, trace, tunerWrite, updates}
 use Rattle.chip.specs.Steps.Step.{Open, Close, Plain}
 use Rattle.chip.proofs.Chunks.{chunk-eight}
 use Rattle.chip.proofs.Lists.{meant-all, meant-count}
@@ -43,8 +44,8 @@ refuse-by number given whole os ss c keep old room e h =
 pub perform-by : {R : Type 0} (number given : ℕ) (whole : Answer) (os : List ℕ) (ss : List Step) (c : Chip) (keep : Trace → R) (see : Line Logged → R) (old r : R) (room : List ℕ)
     (f : Flow) (mid after : List ℕ) (answer : Answer)
     → given ≡ number → given ≡ 0 → every eight ss ≡ true
-    → onRoom f mid ≡ run inRoom os ss (line c (logged room unseen) 0 Going false)
-    → after ≡ sealed mid (f .log .count) → answer ≡ answerOf whole (f .log .went)
+    → onRoom f mid ≡ run inRoom os ss (line c (logged room noTries) 0 Going false)
+    → after ≡ sealed mid (f .log .count) → answer ≡ answerOf whole (f .log .progress)
     → r ≡ see (onRoom f mid) → see (laidOut room (trace os ss c)) ≡ keep (trace os ss c)
     → called r after (f .log .count) answer ≡ callOf number whole os ss c keep old room
 perform-by number given whole os ss c keep see old r room f mid after answer e z h k p q l m =
@@ -59,11 +60,11 @@ close-eight : every eight (Close ∷ []) ≡ true
 unfolding every
 close-eight = refl
 
-pub behind-eight : (ss : List Step) → every eight ss ≡ true → every eight (behind ss) ≡ true
+pub behind-eight : (ss : List Step) → every eight ss ≡ true → every eight (whileOpen ss) ≡ true
 unfolding every
 behind-eight ss h = every-app eight ss (Close ∷ []) h close-eight
 
-pub bracket-eight : (us : List Update) → every eight (behind (updates us)) ≡ true
+pub bracket-eight : (us : List Update) → every eight (whileOpen (updates us)) ≡ true
 bracket-eight us = behind-eight (updates us) (all-updates eight eight-plain eight-update us)
 
 pub send-eight : (bs : List ℕ) → every eight (sendAll bs) ≡ true
@@ -73,8 +74,8 @@ send-eight bs =
 
 pub init-eight : every eight initSteps ≡ true
 init-eight =
-    every-app eight (sendAll initArray) (behind (updates initUpdates) ++ behind (updates (ifUpdates 2_300_000))) (send-eight initArray)
-    (every-app eight (behind (updates initUpdates)) (behind (updates (ifUpdates 2_300_000))) (bracket-eight initUpdates) (bracket-eight (ifUpdates 2_300_000)))
+    every-app eight (sendAll initArray) (whileOpen (updates initUpdates) ++ whileOpen (updates (ifUpdates 2_300_000))) (send-eight initArray)
+    (every-app eight (whileOpen (updates initUpdates)) (whileOpen (updates (ifUpdates 2_300_000))) (bracket-eight initUpdates) (bracket-eight (ifUpdates 2_300_000)))
 
 -- what a bracket's row leaves, and a gain's
 abbrev pub bracketCall : Tuner → Tuner → Answer → List Update → ℕ → List ℕ → Tuner → List ℕ → Called Tuner
@@ -104,17 +105,17 @@ unfolding gainRow bracket leftBy
 step-refused k given os t room e h = refuse-by _ given _ os _ _ _ t room e h
 
 -- the record of a call that is the same cut or whole
-pub same-ended : (t : Tuner) (went : Went) (chip : Chip) → withChip t chip ≡ endedBy t t went chip
-same-ended t went chip = by (goes went)
+pub same-ended : (t : Tuner) (progress : Progress) (chip : Chip) → withChip t chip ≡ endedBy t t progress chip
+same-ended t progress chip = by (goes progress)
   where
     by : (b : Bool) → withChip t chip ≡ withChip (cond b t t) chip
     by true = refl
     by false = refl
 
 -- the record of a gain's call, whose gain alone was chosen
-pub gain-kept : (t : Tuner) (actual g : Float) (went : Went) (chip : Chip) → g ≡ cond (goes went) actual (t .gain)
-    → withChip (withGain t g) chip ≡ endedBy t (withGain t actual) went chip
-gain-kept t actual g went chip e = ap (λ (x : Float). withChip (withGain t x) chip) e ∙ by (goes went)
+pub gain-kept : (t : Tuner) (actual g : Float) (progress : Progress) (chip : Chip) → g ≡ cond (goes progress) actual (t .gain)
+    → withChip (withGain t g) chip ≡ endedBy t (withGain t actual) progress chip
+gain-kept t actual g progress chip e = ap (λ (x : Float). withChip (withGain t x) chip) e ∙ by (goes progress)
   where
     by : (b : Bool) → withChip (withGain t (cond b actual (t .gain))) chip ≡ withChip (cond b (withGain t actual) t) chip
     by true = refl

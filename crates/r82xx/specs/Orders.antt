@@ -12,18 +12,18 @@ use Rattle.board.specs.declared.PathRead.the-variants as path-read
 use Rattle.board.specs.Numbers.{pathOf}
 use Rattle.chip.specs.declared.Answer.{Answer}
 use Rattle.chip.specs.declared.Answer.the-variants.{Done, Refused}
-use Rattle.chip.specs.declared.Seen.{Seen}
+use Rattle.chip.specs.declared.LockTries.{LockTries}
 use Rattle.chip.specs.declared.Update.{Update}
-use Rattle.chip.specs.Calls.{Called, seenIn}
+use Rattle.chip.specs.Calls.{Called, lockTriesIn}
 use Rattle.chip.specs.Courses.{Course, askedBy, entriesBy, leftBy}
 use Rattle.chip.specs.Courses.Course.{Still, Taken}
-use Rattle.chip.specs.Steps.{Step, Trace, behind, updates}
+use Rattle.chip.specs.Steps.{Step, Trace, whileOpen, updates}
 use Rattle.gain.specs.Product.{gainOf}
 use Rattle.gain.specs.Steps.{chosenOf, clamped, stepAt, steps}
 use Rattle.pll.specs.declared.Kind.{Kind}
 use Rattle.pll.specs.declared.Kind.the-variants.{R820T, R828D}
 use Rattle.pll.specs.declared.Pll.{Pll}
-use Rattle.tuning.specs.Program.{tuneSteps, wholeOf}
+use Rattle.tuning.specs.Program.{tuneSteps, tuneAnswer}
 use Rattle.tuning.specs.Tries.{lockBy}
 use Rattle.writes.specs.Lists.{bandwidthUpdates, gainUpdates, ifUpdates, pathUpdates}
 use Rattle.writes.specs.Programs.{initSteps, sendAll}
@@ -49,7 +49,7 @@ pub data Order : Type 0 where
 
 -- one bracket of n masked writes, which leaves the record `cut` where a step failed and `whole` where all were done
 unfoldable pub bracket : ℕ → List Update → Answer → Tuner → Tuner → Course Tuner
-bracket n us answer cut whole = Taken 0 (n + 2) 0 [] answer (behind (updates us)) (λ tr. endedBy cut whole (tr .went) (tr .chip))
+bracket n us answer cut whole = Taken 0 (n + 2) 0 [] answer (whileOpen (updates us)) (λ tr. endedBy cut whole (tr .progress) (tr .chip))
 
 -- "gain only when all are done"; "The answer is step / 10 in binary32"
 unfoldable pub gainRow : ℕ → Tuner → Course Tuner
@@ -66,7 +66,7 @@ abbrev pub tuneOf : Tuner → Pll → ℕ → List ℕ → List Step
 tuneOf t plan hz rs = tuneSteps (t .chip .address) (t .kind) (t .notch) plan hz rs
 
 abbrev pub lockKept : Tuner → Trace → Tuner
-lockKept t tr = withLock (withChip t (tr .chip)) (lockBy (seenIn (tr .log)) (t .lock))
+lockKept t tr = withLock (withChip t (tr .chip)) (lockBy (lockTriesIn (tr .log)) (t .lock))
 
 -- "initialise 19, 0; tune 53, 35; gain 7, 0; bandwidth 3, 0; IF 4, 0; .. reload 9, 0"
 abbrev pub courseOf : Order → Tuner → Course Tuner
@@ -78,7 +78,7 @@ courseOf (Gain db) t = gainRow (chosenOf db) t
 courseOf (GainIndex k) t = gainRow (clamped k) t
 courseOf (InputPath path) t = pathRow (pathOf path) (t .kind) t
 courseOf (Tune hz rs) t =
-    Taken (hzRefusal hz (t .ifreq)) 53 35 rs (wholeOf (planFor t hz) hz) (tuneOf t (planFor t hz) hz rs) (lockKept t)
+    Taken (hzRefusal hz (t .ifreq)) 53 35 rs (tuneAnswer (planFor t hz) hz) (tuneOf t (planFor t hz) hz rs) (lockKept t)
 courseOf (Notch on) t = Still (withNotch t on) (Done 0)
 courseOf GainTold t = Still t (Done (toBits binary32 (t .gain)))
 courseOf IfTold t = Still t (Done (t .ifreq))
@@ -89,14 +89,14 @@ unfoldable pub resultOf : Order → List ℕ → Tuner → List ℕ → Called T
 resultOf o os t room = leftBy (sound t) (courseOf o t) os (t .chip) t room
 
 -- #101: what it tells of the lock, read off the entries that it makes: "On refusal 11 the tries are those counted so far"
-unfoldable pub seenOf : Order → List ℕ → Tuner → List ℕ → Seen
-seenOf o os t room = seenIn (entriesBy (askedBy (sound t) (courseOf o t) (length os) (length room)) os (t .chip))
+unfoldable pub lockTriesOf : Order → List ℕ → Tuner → List ℕ → LockTries
+lockTriesOf o os t room = lockTriesIn (entriesBy (askedBy (sound t) (courseOf o t) (length os) (length room)) os (t .chip))
 
 -- a call without steps, to which nothing is lent
 abbrev pub quietly : Order → Tuner → Called Tuner
 quietly o t = resultOf o [] t []
 
--- the gain table behind its answer: zeros beside a refusal
+-- the gain table with its answer: zeros beside a refusal
 unfoldable pub tableOf : Tuner → Table
 tableOf t =
     record { answer = quietly TableTold t .answer; steps = cond (sound t) (map pos steps) (replicate 29 (pos 0)) }

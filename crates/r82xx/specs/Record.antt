@@ -9,7 +9,7 @@ use lib.ListN.{replicate}
 use Rattle.chip.specs.declared.Answer.{Answer}
 use Rattle.chip.specs.declared.Answer.the-variants.{Done, Refused, Stopped}
 use Rattle.chip.specs.declared.Chip.{Chip}
-use Rattle.chip.specs.declared.Went.{Went}
+use Rattle.chip.specs.declared.Progress.{Progress}
 use Rattle.chip.specs.Steps.{goes}
 use Rattle.pll.specs.declared.Kind.{Kind}
 use Rattle.pll.specs.declared.Kind.the-variants.{R820T, R828D}
@@ -88,5 +88,5 @@ withNotch t notch =
     record { kind = t .kind; chip = t .chip; nominal = t .nominal; corrected = t .corrected; lock = t .lock; gain = t .gain; ifreq = t .ifreq; notch = notch }
 
 -- the record after steps: one where a step failed, another where all were done, each with the chip's part as the steps left it
-abbrev pub endedBy : Tuner → Tuner → Went → Chip → Tuner
-endedBy cut whole went chip = withChip (cond (goes went) whole cut) chip
+abbrev pub endedBy : Tuner → Tuner → Progress → Chip → Tuner
+endedBy cut whole progress chip = withChip (cond (goes progress) whole cut) chip

@@ -7,22 +7,24 @@ ghost use mathlib.Core.List.{List, []};
 ghost use lib.Ieee.{binary32, toBits};
 ghost use Prim.Native.Nat.{ℕ, _+_, _≤_, _<_};
 ghost use lib.ListN.{length};
-ghost use Rattle.chip.specs.Calls.{called, performed, seenIn};
+ghost use Rattle.chip.specs.Calls.{called, performed, lockTriesIn};
 ghost use Rattle.chip.specs.declared.Answer.the-variants.{Done, Refused};
-ghost use Rattle.chip.specs.Entries.{saw};
-ghost use Rattle.chip.specs.Steps.{allIn, goes, meantOf, trace};
+ghost use Rattle.chip.specs.Entries.{lockTries};
+ghost use Rattle.chip.specs.InCode.{meantOf};
+ghost use Rattle.chip.specs.Steps.{allIn, goes, trace};
 ghost use Rattle.chip.specs.Courses.{leftBy};
-ghost use Rattle.tuning.specs.Program.{dividerNumber, wholeOf};
+ghost use Rattle.tuning.specs.Program.{dividerNumber, tuneAnswer};
 ghost use Rattle.r82xx.specs.Record.{freshTuner, madeOf, sound, soundBy};
-ghost use Rattle.r82xx.specs.Calls.{hzRefusal, keptNotch, refusalOf, soundAnswer};
-ghost use Rattle.r82xx.specs.Orders.{bracket, lockKept, quietly, resultOf, seenOf, tableOf, tuneOf};
+ghost use Rattle.r82xx.specs.InCode.{keptNotch, soundAnswer};
+ghost use Rattle.r82xx.specs.Calls.{hzRefusal, refusalOf};
+ghost use Rattle.r82xx.specs.Orders.{bracket, lockKept, quietly, resultOf, lockTriesOf, tableOf, tuneOf};
 ghost use Rattle.r82xx.specs.Orders.Order.{Initialize, Reload, Bandwidth, IfFreq, Gain, GainIndex, InputPath, Tune, Notch, GainTold, IfTold};
 use board::PathRead;
 use chip::Answer;
 use chip::Chip;
 use chip::Flow;
+use chip::Progress;
 use chip::Updates;
-use chip::Went;
 use pll::Kind;
 use pll::Pll;
 use tuning::Tuning;
@@ -47,7 +49,7 @@ pub struct Made {
 }
 
 // What a call hands back: the next record, its answer, how many entries it made.
-pub struct Told {
+pub struct TunerResult {
     pub tuner: Tuner,
     pub answer: Answer,
     pub count: usize,
@@ -55,13 +57,13 @@ pub struct Told {
 
 // What a tuning hands back. #101: "locked or not with the number of tries". `locked` is not the record's lock: it is told of this tuning alone, so that it
 // is false where the tuning was refused or cut before a try read the lock bit.
-pub struct TuneTold {
-    pub told: Told,
+pub struct TuneResult {
+    pub told: TunerResult,
     pub tries: u16,
     pub locked: bool,
 }
 
-// The gain table behind an answer.
+// The gain table, with its answer.
 pub struct Table {
     pub answer: Answer,
     pub steps: [i32; 29],
@@ -70,14 +72,14 @@ pub struct Table {
 fn fresh(kind: Kind, address: u8, nominal: u32) -> Tuner
     ensures { λ r. ⌜ r ≡ freshTuner kind address nominal ⌝ }
 {
-    let chip = Chip {
+    let chip_state = Chip {
         address: address,
         shadow: INIT_ARRAY,
         doubtful: [true; 27],
     };
     Tuner {
         kind: kind,
-        chip: chip,
+        chip: chip_state,
         nominal: nominal,
         corrected: nominal,
         lock: false,
@@ -95,21 +97,21 @@ pub fn sound(nominal: u32, corrected: u32) -> bool
 }
 
 // A call that is refused before its steps.
-pub fn refused(tuner: Tuner, number: u8) -> Told
+pub fn refused(tuner: Tuner, number: u8) -> TunerResult
     ensures { λ r. ⌜ ((room : List ℕ) → called (r .tuner) room (r .count) (r .answer) ≡ called tuner room 0 (Refused number)) ⌝ }
 {
-    Told {
+    TunerResult {
         tuner: tuner,
         answer: Answer::Refused(number),
         count: 0,
     }
 }
 
-// "gain only when all are done". The number alone: two whole records to choose from cost more than the writes.
-fn kept_gain(went: Went, old: f32, new: f32) -> f32
-    ensures { λ r. ⌜ r ≡ cond (goes went) new old ⌝ }
+// "gain only when all are done". It takes the number alone: to choose between two whole records would cost more than the writes.
+fn kept_gain(progress: Progress, old: f32, new: f32) -> f32
+    ensures { λ r. ⌜ r ≡ cond (goes progress) new old ⌝ }
 {
-    let Went::Going = went else {
+    let Progress::Going = progress else {
         return old;
     };
     new
@@ -189,7 +191,7 @@ impl Tuner {
         refused
     }
 
-    // 1 for the record, then an argument's refusal, then 8, 9, 10; 0 where none is given.
+    // 1 for the record, then an argument's refusal, then 8, 9, 10; 0 where nothing is refused.
     fn refusal(
         self,
         argument: u8,
@@ -206,8 +208,8 @@ impl Tuner {
         chip::refusal(whole, argument, n, m, room, outcomes, replies)
     }
 
-    // A call of one bracket of masked writes: the record is `next` behind them, done or not, with the chip's part as they left it.
-    fn operate(self, mut next: Tuner, us: Updates, outcomes: &[u8], room: &mut [u8]) -> Told
+    // A call of one bracket of masked writes: the record is `next` after them, done or not, with the chip's part as they left it.
+    fn operate(self, mut next: Tuner, us: Updates, outcomes: &[u8], room: &mut [u8]) -> TunerResult
         requires { ⌜ (us .n ≤ 14) × (allIn (meantOf us) ≡ true) ⌝ }
         ensures { λ r. ⌜ called (r .tuner) (now (room .exit)) (r .count) (r .answer)
             ≡ leftBy (sound self) (bracket (us .n) (meantOf us) (Done 0) next next) (now (outcomes .entry)) (self .chip) self (now (room .entry)) ⌝ }
@@ -216,23 +218,23 @@ impl Tuner {
         if number != 0 {
             return refused(self, number);
         }
-        let chip = self.chip;
+        let chip_state = self.chip;
         let start = Flow {
-            chip: chip,
+            chip: chip_state,
             log: chip::START,
         };
         let f = chip::with_repeater(start, us, outcomes, room);
         let answered = chip::finish(f, Answer::Done(0), room);
         let left = f.chip;
         next.chip = left;
-        Told {
+        TunerResult {
             tuner: next,
             answer: answered,
             count: f.log.count,
         }
     }
 
-    pub fn set_bandwidth(mut self, hz: u32, outcomes: &[u8], room: &mut [u8]) -> Told
+    pub fn set_bandwidth(mut self, hz: u32, outcomes: &[u8], room: &mut [u8]) -> TunerResult
         ensures { λ r. ⌜ called (r .tuner) (now (room .exit)) (r .count) (r .answer)
             ≡ resultOf (Bandwidth hz) (now (outcomes .entry)) self (now (room .entry)) ⌝ }
     {
@@ -240,7 +242,7 @@ impl Tuner {
         let told = self.operate(self, us, outcomes, room);
         let answer = told.answer;
         self = told.tuner;
-        Told {
+        TunerResult {
             tuner: self,
             answer: answer,
             count: told.count,
@@ -248,7 +250,7 @@ impl Tuner {
     }
 
     // The IF changes before its writes are tried.
-    pub fn set_if_freq(mut self, hz: u64, outcomes: &[u8], room: &mut [u8]) -> Told
+    pub fn set_if_freq(mut self, hz: u64, outcomes: &[u8], room: &mut [u8]) -> TunerResult
         ensures { λ r. ⌜ called (r .tuner) (now (room .exit)) (r .count) (r .answer)
             ≡ resultOf (IfFreq hz) (now (outcomes .entry)) self (now (room .entry)) ⌝ }
     {
@@ -259,7 +261,12 @@ impl Tuner {
     }
 
     // The gain changes only when all writes are done.
-    pub fn set_gain_by_index(mut self, index: usize, outcomes: &[u8], room: &mut [u8]) -> Told
+    pub fn set_gain_by_index(
+        mut self,
+        index: usize,
+        outcomes: &[u8],
+        room: &mut [u8],
+    ) -> TunerResult
         ensures { λ r. ⌜ called (r .tuner) (now (room .exit)) (r .count) (r .answer)
             ≡ resultOf (GainIndex index) (now (outcomes .entry)) self (now (room .entry)) ⌝ }
     {
@@ -270,19 +277,19 @@ impl Tuner {
         }
         let actual = gain::gain_at(k);
         let bits = wire::bits_of(actual);
-        let chip = self.chip;
+        let chip_state = self.chip;
         let start = Flow {
-            chip: chip,
+            chip: chip_state,
             log: chip::START,
         };
         let f = writes::gain_steps(start, k, outcomes, room);
         let answered = chip::finish(f, Answer::Done(bits as u64), room);
         let log = f.log;
-        let went = log.went;
+        let progress = log.progress;
         let left = f.chip;
         self.chip = left;
-        self.gain = kept_gain(went, self.gain, actual);
-        Told {
+        self.gain = kept_gain(progress, self.gain, actual);
+        TunerResult {
             tuner: self,
             answer: answered,
             count: f.log.count,
@@ -290,14 +297,14 @@ impl Tuner {
     }
 
     // The nearest step, then as by its index.
-    pub fn set_gain(mut self, db: f32, outcomes: &[u8], room: &mut [u8]) -> Told
+    pub fn set_gain(mut self, db: f32, outcomes: &[u8], room: &mut [u8]) -> TunerResult
         ensures { λ r. ⌜ called (r .tuner) (now (room .exit)) (r .count) (r .answer)
             ≡ resultOf (Gain db) (now (outcomes .entry)) self (now (room .entry)) ⌝ }
     {
         let told = self.set_gain_by_index(gain::choose(db), outcomes, room);
         let answer = told.answer;
         self = told.tuner;
-        Told {
+        TunerResult {
             tuner: self,
             answer: answer,
             count: told.count,
@@ -305,7 +312,7 @@ impl Tuner {
     }
 
     // path: 0 HF, 1 VHF, 2 UHF. R820T has one input: nothing is written, and no lent memory is looked at.
-    pub fn set_input_path(mut self, path: u8, outcomes: &[u8], room: &mut [u8]) -> Told
+    pub fn set_input_path(mut self, path: u8, outcomes: &[u8], room: &mut [u8]) -> TunerResult
         ensures { λ r. ⌜ called (r .tuner) (now (room .exit)) (r .count) (r .answer)
             ≡ resultOf (InputPath path) (now (outcomes .entry)) self (now (room .entry)) ⌝ }
     {
@@ -314,7 +321,7 @@ impl Tuner {
         };
         let kind = self.kind;
         match kind {
-            Kind::R820T => Told {
+            Kind::R820T => TunerResult {
                 tuner: self,
                 answer: sound_answer(self.nominal, self.corrected, 0),
                 count: 0,
@@ -323,7 +330,7 @@ impl Tuner {
                 let told = self.operate(self, writes::path_updates(by), outcomes, room);
                 let answer = told.answer;
                 self = told.tuner;
-                Told {
+                TunerResult {
                     tuner: self,
                     answer: answer,
                     count: told.count,
@@ -332,7 +339,7 @@ impl Tuner {
         }
     }
 
-    pub fn initialize(mut self, outcomes: &[u8], room: &mut [u8]) -> Told
+    pub fn initialize(mut self, outcomes: &[u8], room: &mut [u8]) -> TunerResult
         ensures { λ r. ⌜ called (r .tuner) (now (room .exit)) (r .count) (r .answer)
             ≡ resultOf Initialize (now (outcomes .entry)) self (now (room .entry)) ⌝ }
     {
@@ -340,16 +347,16 @@ impl Tuner {
         if number != 0 {
             return refused(self, number);
         }
-        let chip = self.chip;
+        let chip_state = self.chip;
         let start = Flow {
-            chip: chip,
+            chip: chip_state,
             log: chip::START,
         };
         let f = writes::initialize(start, outcomes, room);
         let answered = chip::finish(f, Answer::Done(0), room);
         let left = f.chip;
         self.chip = left;
-        Told {
+        TunerResult {
             tuner: self,
             answer: answered,
             count: f.log.count,
@@ -357,7 +364,7 @@ impl Tuner {
     }
 
     // "Reload sends the attempted bytes in `initialize`'s chunks": since #106 they are the shadow, so nothing is set at its end.
-    pub fn reload(mut self, outcomes: &[u8], room: &mut [u8]) -> Told
+    pub fn reload(mut self, outcomes: &[u8], room: &mut [u8]) -> TunerResult
         ensures { λ r. ⌜ called (r .tuner) (now (room .exit)) (r .count) (r .answer)
             ≡ resultOf Reload (now (outcomes .entry)) self (now (room .entry)) ⌝ }
     {
@@ -365,17 +372,17 @@ impl Tuner {
         if number != 0 {
             return refused(self, number);
         }
-        let chip = self.chip;
-        let bytes = chip.shadow;
+        let chip_state = self.chip;
+        let bytes = chip_state.shadow;
         let start = Flow {
-            chip: chip,
+            chip: chip_state,
             log: chip::START,
         };
         let sent = writes::send_all(start, bytes, outcomes, room);
         let answered = chip::finish(sent, Answer::Done(0), room);
         let left = sent.chip;
         self.chip = left;
-        Told {
+        TunerResult {
             tuner: self,
             answer: answered,
             count: sent.log.count,
@@ -390,16 +397,16 @@ impl Tuner {
         outcomes: &[u8],
         replies: &[u8],
         room: &mut [u8],
-    ) -> TuneTold
+    ) -> TuneResult
         requires { ⌜ (dividerNumber plan ≤ 5) × (35 ≤ length (now replies)) × (53 ≤ length (now outcomes)) × (856 ≤ length (now room)) ⌝ }
         ensures { λ r. ⌜ (called (r .told .tuner) (now (room .exit)) (r .told .count) (r .told .answer)
-            ≡ performed (wholeOf plan hz) (lockKept self) (now (room .entry)) (trace (now (outcomes .entry)) (tuneOf self plan hz (now (replies .entry))) (self .chip)))
-            × (saw (r .tries) (r .locked) ≡ seenIn (trace (now (outcomes .entry)) (tuneOf self plan hz (now (replies .entry))) (self .chip) .log)) ⌝ }
+            ≡ performed (tuneAnswer plan hz) (lockKept self) (now (room .entry)) (trace (now (outcomes .entry)) (tuneOf self plan hz (now (replies .entry))) (self .chip)))
+            × (lockTries (r .tries) (r .locked) ≡ lockTriesIn (trace (now (outcomes .entry)) (tuneOf self plan hz (now (replies .entry))) (self .chip) .log)) ⌝ }
     {
         let kind = self.kind;
-        let chip = self.chip;
+        let chip_state = self.chip;
         let start = Flow {
-            chip: chip,
+            chip: chip_state,
             log: chip::START,
         };
         let by = Tuning {
@@ -412,17 +419,17 @@ impl Tuner {
         let answered = chip::finish(f, tuning::whole_answer(plan, hz), room);
         let left = f.chip;
         let log = f.log;
-        let seen = log.seen;
+        let lock = log.lock;
         self.chip = left;
-        self.lock = tuning::lock_after(seen, self.lock);
-        TuneTold {
-            told: Told {
+        self.lock = tuning::lock_after(lock, self.lock);
+        TuneResult {
+            told: TunerResult {
                 tuner: self,
                 answer: answered,
                 count: log.count,
             },
-            tries: seen.tries,
-            locked: seen.locked,
+            tries: lock.tries,
+            locked: lock.locked,
         }
     }
 
@@ -432,10 +439,10 @@ impl Tuner {
         outcomes: &[u8],
         replies: &[u8],
         room: &mut [u8],
-    ) -> TuneTold
+    ) -> TuneResult
         ensures { λ r. ⌜ (called (r .told .tuner) (now (room .exit)) (r .told .count) (r .told .answer)
             ≡ resultOf (Tune hz (now (replies .entry))) (now (outcomes .entry)) self (now (room .entry)))
-            × (saw (r .tries) (r .locked) ≡ seenOf (Tune hz (now (replies .entry))) (now (outcomes .entry)) self (now (room .entry))) ⌝ }
+            × (lockTries (r .tries) (r .locked) ≡ lockTriesOf (Tune hz (now (replies .entry))) (now (outcomes .entry)) self (now (room .entry))) ⌝ }
     {
         let ifreq = self.ifreq;
         let number = self.refusal(
@@ -447,7 +454,7 @@ impl Tuner {
             replies.len(),
         );
         if number != 0 {
-            return TuneTold {
+            return TuneResult {
                 told: refused(self, number),
                 tries: 0,
                 locked: false,
@@ -488,13 +495,13 @@ impl Tuner {
         }
     }
 
-    // `apply_notch` for callers that hold the record by value: it is lent from here, and whoever calls this needs no walk by hand.
-    pub fn with_notch(mut self, on: bool) -> Told
+    // `apply_notch` for callers that hold the record by value: it lends its own copy, so that the proof of a caller has no reference to follow.
+    pub fn with_notch(mut self, on: bool) -> TunerResult
         ensures { λ r. ⌜ called (r .tuner) [] (r .count) (r .answer)
             ≡ quietly (Notch on) self ⌝ }
     {
         let answer = apply_notch(&mut self, on);
-        Told {
+        TunerResult {
             tuner: self,
             answer: answer,
             count: 0,

@@ -19,7 +19,7 @@ use Rattle.pll.specs.declared.Kind.{Kind}
 use Rattle.pll.specs.declared.Kind.the-variants.{R820T, R828D}
 use Rattle.r82xx.specs.declared.Tuner.{Tuner}
 use Rattle.pll.specs.Plan.{kindNumber}
-use Rattle.records.specs.Fields.{flagByte, flagOf, flagsOnly, kindOf, properGain}
+use Rattle.records.specs.Fields.{flagByte, flagRead, flagsOnly, kindOf, properGain}
 use Rattle.wire.specs.Parts.{joined, partsFrom}
 use Rattle.records.specs.Tuners.{isTuner, tunerBytes, tunerFits, tunerFrom, tunerOf, tunerParts, tunerRead, tunerWidths}
 use Rattle.wire.proofs.Joins.{joined-parts, length-joined, parts-joined}
@@ -42,7 +42,7 @@ kind-written zero h = refl
 kind-written (suc zero) h = refl
 kind-written (suc (suc n)) h = absurd (omega arith)
 
-flag-read : (b : Bool) → flagOf (leValue (leBytes 1 (flagByte b))) ≡ b
+flag-read : (b : Bool) → flagRead (leValue (leBytes 1 (flagByte b))) ≡ b
 unfolding leValue leBytes
 flag-read true = refl
 flag-read false = refl
@@ -52,12 +52,12 @@ unfolding leValue leBytes
 flag-fits true = refl
 flag-fits false = refl
 
-flag-written : (n : ℕ) → n ≤ 1 → flagByte (flagOf n) ≡ n
+flag-written : (n : ℕ) → n ≤ 1 → flagByte (flagRead n) ≡ n
 flag-written zero h = refl
 flag-written (suc zero) h = refl
 flag-written (suc (suc n)) h = absurd (omega arith)
 
-flags-read : (fs : List Bool) → map flagOf (map flagByte fs) ≡ fs
+flags-read : (fs : List Bool) → map flagRead (map flagByte fs) ≡ fs
 flags-read [] = refl
 flags-read (true ∷ fs) = ap (λ (l : List Bool). true ∷ l) (flags-read fs)
 flags-read (false ∷ fs) = ap (λ (l : List Bool). false ∷ l) (flags-read fs)
@@ -74,7 +74,7 @@ both false b h =
     let z : _≡_ {A = ℕ} 0 1 = cc in
     absurd (omega arith)
 
-flags-written : (bs : List ℕ) → flagsOnly bs ≡ true → map flagByte (map flagOf bs) ≡ bs
+flags-written : (bs : List ℕ) → flagsOnly bs ≡ true → map flagByte (map flagRead bs) ≡ bs
 unfolding flagsOnly
 flags-written [] h = refl
 flags-written (b ∷ bs) h =
@@ -225,7 +225,7 @@ module _ (b : List ℕ) (bytes : Bytes b) (good : isTuner b ≡ true) where
         lists =
             record {
               shadow = one-long 27 2 b (omega (arith, size));
-              doubtful = length-map (take 27 (drop 51 b)) flagOf ∙ one-long 27 51 b (omega (arith, size));
+              doubtful = length-map (take 27 (drop 51 b)) flagRead ∙ one-long 27 51 b (omega (arith, size));
             };
         address = one-below 1 1 b bytes (omega (arith, size));
         nominal = one-below 4 29 b bytes (omega (arith, size));

@@ -18,7 +18,7 @@ use Rattle.r82xx.specs.declared.Made.{Made}
 use Rattle.r82xx.specs.declared.Tuner.{Tuner}
 use Rattle.r82xx.specs.Record.{madeOf}
 use Rattle.pll.specs.Plan.{kindNumber}
-use Rattle.records.specs.Fields.{flagByte, flagOf, flagsOnly, kindOf, properGain}
+use Rattle.records.specs.Fields.{flagByte, flagRead, flagsOnly, kindOf, properGain}
 use Rattle.wire.specs.Parts.{partsFrom, laid, Sized}
 use Rattle.records.specs.Tuners.{chipFrom, isTuner, tunerBytes, tunerFits, tunerFrom, tunerOf, tunerParts, tunerRead, tunerWidths}
 use Rattle.records.proofs.Turns.{sets-whole}
@@ -26,7 +26,7 @@ use Rattle.wire.proofs.Joins.{laid-joined, length-joined}
 
 module _ (b : List ℕ) where
   pub chip-made : (a : ℕ) (s : List ℕ) (d : List Bool) → a ≡ leValue (take 1 (drop 1 b)) → s ≡ take 27 (drop 2 b)
-      → d ≡ map flagOf (take 27 (drop 51 b))
+      → d ≡ map flagRead (take 27 (drop 51 b))
       → _≡_ {A = Chip} (record { address = a; shadow = s; doubtful = d }) (chipFrom (partsFrom 0 tunerWidths b))
   chip-made a s d ea es ed i = record { address = ea i; shadow = es i; doubtful = ed i }
 

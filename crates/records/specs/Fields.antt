@@ -22,8 +22,8 @@ abbrev pub flagByte : Bool → ℕ
 flagByte true = 1
 flagByte false = 0
 
-abbrev pub flagOf : ℕ → Bool
-flagOf n = eqb n 1
+abbrev pub flagRead : ℕ → Bool
+flagRead n = eqb n 1
 
 -- no byte but 0 and 1
 unfoldable pub flagsOnly : List ℕ → Bool

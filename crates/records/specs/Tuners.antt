@@ -14,7 +14,7 @@ use Rattle.r82xx.specs.declared.Tuner.{Tuner}
 use Rattle.r82xx.specs.Record.{freshTuner}
 use Rattle.records.specs.declared.TunerRead.{TunerRead}
 use Rattle.pll.specs.Plan.{kindNumber}
-use Rattle.records.specs.Fields.{flagByte, flagOf, flagsOnly, kindOf, properGain}
+use Rattle.records.specs.Fields.{flagByte, flagRead, flagsOnly, kindOf, properGain}
 use Rattle.wire.specs.Parts.{joined, num, part, partsFrom}
 
 -- kind, address, shadow, nominal, corrected, lock, gain, IF, notch, doubtful
@@ -40,7 +40,7 @@ tunerBytes t = joined (tunerParts t)
 
 abbrev pub chipFrom : List (List ℕ) → Chip
 chipFrom ps =
-    record { address = num ps 1; shadow = part ps 2; doubtful = map flagOf (part ps 9) }
+    record { address = num ps 1; shadow = part ps 2; doubtful = map flagRead (part ps 9) }
 
 abbrev pub tunerFrom : List (List ℕ) → Tuner
 tunerFrom ps =
@@ -49,10 +49,10 @@ tunerFrom ps =
       chip = chipFrom ps;
       nominal = num ps 3;
       corrected = num ps 4;
-      lock = flagOf (num ps 5);
+      lock = flagRead (num ps 5);
       gain = ofBits binary32 (num ps 6);
       ifreq = num ps 7;
-      notch = flagOf (num ps 8);
+      notch = flagRead (num ps 8);
     }
 
 -- the ranges that document 01 names, "kind, .., nominal and corrected reference", and flags and a gain that are written so

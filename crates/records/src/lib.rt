@@ -9,7 +9,7 @@ ghost use lib.Seq.{sets};
 ghost use Rattle.wire.specs.Bytes.{leBytes};
 ghost use Rattle.records.specs.Drivers.{driverBytes, driverFrom, driverOf, driverWidths};
 ghost use Rattle.pll.specs.Plan.{kindNumber};
-ghost use Rattle.records.specs.Fields.{boardFrom, flagByte, flagOf, flagsOnly, kindOf, properGain};
+ghost use Rattle.records.specs.Fields.{boardFrom, flagByte, flagRead, flagsOnly, kindOf, properGain};
 ghost use Rattle.wire.specs.Parts.{partsFrom};
 ghost use Rattle.records.specs.Tuners.{chipFrom, tunerBytes, tunerFits, tunerFrom, tunerOf, tunerWidths};
 use board::Board;
@@ -52,7 +52,7 @@ const ACTUAL: usize = 21;
 
 pub const DRIVER: usize = 29;
 
-// A record that bytes were read as. Where they are no record's, `tuner` is a fresh one and counts for nothing.
+// A record that bytes were read as. Where they are not valid, `tuner` is a fresh one and counts for nothing.
 pub struct TunerRead {
     pub ok: bool,
     pub tuner: Tuner,
@@ -87,7 +87,7 @@ fn kind_of(n: u64) -> Kind
     Kind::R820T
 }
 
-// No NaN but the one that a gain is written as.
+// The bits of any NaN other than the one that a gain is written as are not valid.
 fn proper_gain(bits: u64) -> bool
     ensures { λ r. ⌜ r ≡ properGain bits ⌝ }
 {
@@ -105,7 +105,7 @@ fn bytes_at(b: &[u8], at: usize) -> [u8; 27]
 
 fn flags_at(b: &[u8], at: usize) -> [bool; 27]
     requires { ⌜ at + 27 ≤ length (now b) ⌝ }
-    ensures { λ r. ⌜ r ≡ map flagOf (take 27 (drop at (now (b .entry)))) ⌝ }
+    ensures { λ r. ⌜ r ≡ map flagRead (take 27 (drop at (now (b .entry)))) ⌝ }
 {
     let image = bytes_at(b, at);
     let mut flags = [false; 27];
@@ -184,7 +184,7 @@ fn tuner_in(b: &[u8]) -> Tuner
     }
 }
 
-// The record that the bytes are written from, where they are.
+// The record that valid bytes are written from.
 pub fn decode_tuner(b: &[u8]) -> TunerRead
     ensures { λ r. ⌜ r ≡ tunerOf (now (b .entry)) ⌝ }
 {
@@ -225,12 +225,12 @@ pub fn tuner_image(t: Tuner) -> [u8; 78]
     ensures { λ r. ⌜ r ≡ tunerBytes t ⌝ }
 {
     let kind = t.kind;
-    let chip = t.chip;
-    let shadow = chip.shadow;
-    let doubtful = chip.doubtful;
+    let chip_state = t.chip;
+    let shadow = chip_state.shadow;
+    let doubtful = chip_state.doubtful;
     let mut image = [0u8; 78];
     number(&mut image, 0, kind_number(kind) as u64, 1);
-    number(&mut image, ADDRESS, chip.address as u64, 1);
+    number(&mut image, ADDRESS, chip_state.address as u64, 1);
     list(&mut image, SHADOW, shadow);
     number(&mut image, NOMINAL, t.nominal as u64, 4);
     number(&mut image, CORRECTED, t.corrected as u64, 4);
@@ -265,7 +265,7 @@ fn driver_in(b: &[u8]) -> Driver
     }
 }
 
-// "A given driver record whose nominal and ppm give a bad" corrected reference is none.
+// "A given driver record whose nominal and ppm give a bad" corrected reference is not valid.
 pub fn decode_driver(b: &[u8]) -> DriverRead
     ensures { λ r. ⌜ r ≡ driverOf (now (b .entry)) ⌝ }
 {
@@ -305,9 +305,9 @@ fn field(image: &mut [u8; 29], at: usize, n: u64, k: usize)
 pub fn driver_image(d: Driver) -> [u8; 29]
     ensures { λ r. ⌜ r ≡ driverBytes d ⌝ }
 {
-    let board = d.board;
+    let named = d.board;
     let mut image = [0u8; 29];
-    field(&mut image, 0, board::board_number(board) as u64, 1);
+    field(&mut image, 0, board::board_number(named) as u64, 1);
     field(&mut image, REFERENCE, d.nominal as u64, 4);
     field(&mut image, PPM, wire::to_bits(d.ppm) as u64, 4);
     field(&mut image, FREQUENCY, d.frequency, 8);

@@ -9,7 +9,7 @@ use borrow.Author.Tests.{eq-eqb, eqb-false, eqb-true, le-leb, le-ltb, leb-false,
 use lib.Dec.{eqb, leb, ltb}
 use mathlib.Core.List.{[], _∷_}
 use Rattle.registers.specs.declared.ResampleRegs.{ResampleRegs}
-use Rattle.registers.specs.Rates.{fourOf, holds, ratioOf, rateNumber, resampleRegsOf, sentOf, trueOf, zeroNumber}
+use Rattle.registers.specs.Rates.{fourOf, ratioHolds, ratioOf, rateNumber, resampleRegsOf, sentOf, trueOf, zeroNumber}
 use Rattle.registers.proofs.Values.{sent-fits, sent-is}
 
 -- ---- the numbers of zeros
@@ -46,12 +46,12 @@ passed rate xtal later z e n = go (eqb rate 0) (eqb xtal 0) (sym e ∙ n)
 -- a rate's number over the code, whose parts were worked out apart
 pub number-first : (rate xtal z : ℕ) → z ≡ zeroNumber rate xtal 0 → (z ≡ 0 → ⊥) → z ≡ rateNumber rate xtal
 unfolding rateNumber
-number-first rate xtal z e h = zero-first rate xtal (cond (holds (ratioOf rate xtal)) 0 13) z e h
+number-first rate xtal z e h = zero-first rate xtal (cond (ratioHolds (ratioOf rate xtal)) 0 13) z e h
 
-pub number-last : (rate xtal z r : ℕ) (b : Bool) → z ≡ zeroNumber rate xtal 0 → z ≡ 0 → r ≡ ratioOf rate xtal → b ≡ holds r → cond b 0 13 ≡ rateNumber rate xtal
+pub number-last : (rate xtal z r : ℕ) (b : Bool) → z ≡ zeroNumber rate xtal 0 → z ≡ 0 → r ≡ ratioOf rate xtal → b ≡ ratioHolds r → cond b 0 13 ≡ rateNumber rate xtal
 unfolding rateNumber
 number-last rate xtal z r b e n v h =
-    ap (λ (x : Bool). cond x 0 13) (h ∙ ap holds v) ∙ passed rate xtal (cond (holds (ratioOf rate xtal)) 0 13) z e n
+    ap (λ (x : Bool). cond x 0 13) (h ∙ ap ratioHolds v) ∙ passed rate xtal (cond (ratioHolds (ratioOf rate xtal)) 0 13) z e n
 
 -- the leaf's registers likewise
 pub no-regs : (rate xtal z : ℕ) → z ≡ zeroNumber rate xtal 0 → (z ≡ 0 → ⊥)
@@ -77,8 +77,8 @@ pub record Held (r : ℕ) : Type 0 where
   pub most : r < 2 ^ 29
   pub alike : r / 2 ^ 27 % 2 ≡ r / 2 ^ 28 % 2
 
-pub held : (r : ℕ) → holds r ≡ true → Held r
-unfolding holds
+pub held : (r : ℕ) → ratioHolds r ≡ true → Held r
+unfolding ratioHolds
 held r h =
     let parts = held-by (leb 4 r) (ltb r (2 ^ 29)) (eqb (r / 2 ^ 27 % 2) (r / 2 ^ 28 % 2)) h in
     record { least = leb-true 4 r (parts .0); most = ltb-true r (2 ^ 29) (parts .1); alike = eqb-true (r / 2 ^ 27 % 2) (r / 2 ^ 28 % 2) (parts .2) }
@@ -88,7 +88,7 @@ only : (r : ℕ) → r < 2 ^ 29 → r / 2 ^ 28 % 2 ≡ r / 4 / 2 ^ 26
 only r h = omega arith
 
 -- what is sent of a ratio that is held: the ratio, with its two low bits cleared
-pub sent-held : (r : ℕ) → holds r ≡ true → sentOf r ≡ r / 4 * 4
+pub sent-held : (r : ℕ) → ratioHolds r ≡ true → sentOf r ≡ r / 4 * 4
 sent-held r h =
     let top : r / 2 ^ 27 % 2 ≡ r / 4 / 2 ^ 26 = held r h .alike ∙ only r (held r h .most) in
     sent-is r ∙ ap (λ (x : ℕ). x * 2 ^ 28 + r / 4 % 2 ^ 26 * 4) top ∙ whole (r / 4)
@@ -97,8 +97,8 @@ sent-held r h =
     whole q = omega arith
 
 -- and no ratio is refused without need: one that is sent so, and not as 0, is held
-pub needed : (r : ℕ) → sentOf r ≡ r / 4 * 4 → 0 < sentOf r → holds r ≡ true
-unfolding holds
+pub needed : (r : ℕ) → sentOf r ≡ r / 4 * 4 → 0 < sentOf r → ratioHolds r ≡ true
+unfolding ratioHolds
 needed r e s =
     let least : 4 ≤ r = omega (arith, e, s) in
     let most : r < 2 ^ 29 = omega (arith, e, sent-fits r) in
@@ -112,13 +112,13 @@ needed r e s =
 pub record Taken (rate xtal : ℕ) : Type 0 where
   pub some : 0 < rate
   pub referred : 0 < xtal
-  pub ratio : holds (ratioOf rate xtal) ≡ true
+  pub ratio : ratioHolds (ratioOf rate xtal) ≡ true
 
 pub taken : (rate xtal : ℕ) → rateNumber rate xtal ≡ 0 → Taken rate xtal
 unfolding rateNumber
 taken rate xtal e =
-    let parts = none-given rate xtal (cond (holds (ratioOf rate xtal)) 0 13) e in
-    record { some = parts .0; referred = parts .1; ratio = last (holds (ratioOf rate xtal)) (parts .2) }
+    let parts = none-given rate xtal (cond (ratioHolds (ratioOf rate xtal)) 0 13) e in
+    record { some = parts .0; referred = parts .1; ratio = last (ratioHolds (ratioOf rate xtal)) (parts .2) }
   where
     last : (b : Bool) → _≡_ {A = ℕ} (cond b 0 13) 0 → b ≡ true
     last true h = refl
@@ -152,20 +152,20 @@ true-least rate xtal e =
     no-more s r e = omega (arith, e)
 
 -- the ratios that are held, as two ranges
-pub held-low : (r : ℕ) → 4 ≤ r → r < 2 ^ 27 → holds r ≡ true
-unfolding holds
+pub held-low : (r : ℕ) → 4 ≤ r → r < 2 ^ 27 → ratioHolds r ≡ true
+unfolding ratioHolds
 held-low r h k =
     let alike : r / 2 ^ 27 % 2 ≡ r / 2 ^ 28 % 2 = omega arith in
     rw (le-leb 4 r h, lt-ltb r (2 ^ 29) (omega arith), eq-eqb _ _ alike)
 
-pub held-high : (r : ℕ) → 3 * 2 ^ 27 ≤ r → r < 2 ^ 29 → holds r ≡ true
-unfolding holds
+pub held-high : (r : ℕ) → 3 * 2 ^ 27 ≤ r → r < 2 ^ 29 → ratioHolds r ≡ true
+unfolding ratioHolds
 held-high r h k =
     let alike : r / 2 ^ 27 % 2 ≡ r / 2 ^ 28 % 2 = omega arith in
     rw (le-leb 4 r (omega arith), lt-ltb r (2 ^ 29) k, eq-eqb _ _ alike)
 
-pub between : (r : ℕ) → 2 ^ 27 ≤ r → r < 3 * 2 ^ 27 → holds r ≡ false
-unfolding holds
+pub between : (r : ℕ) → 2 ^ 27 ≤ r → r < 3 * 2 ^ 27 → ratioHolds r ≡ false
+unfolding ratioHolds
 between r h k =
     let least : 1 ≤ r / 2 ^ 27 = omega arith in
     let most : r / 2 ^ 27 ≤ 2 = omega arith in
@@ -178,8 +178,8 @@ between r h k =
     unlike (suc (suc zero)) h k e = omega (arith, e)
     unlike (suc (suc (suc q))) h k e = omega (arith, k)
 
-pub above : (r : ℕ) → 2 ^ 29 ≤ r → holds r ≡ false
-unfolding holds
+pub above : (r : ℕ) → 2 ^ 29 ≤ r → ratioHolds r ≡ false
+unfolding ratioHolds
 above r h = rw (le-leb 4 r (omega arith), le-ltb r (2 ^ 29) h)
 
 -- ---- a reference of 28,800,000 Hz
@@ -192,7 +192,7 @@ module _ (rate : ℕ) (small : rate < 2 ^ 32) (some : 0 < rate) where
   at-most k h = div-lt-iff-lt-mul some .1 h
 
   usual-ratio : (x y z : Bool) → leb 225_001 rate ≡ x → leb rate 300_000 ≡ y → leb 900_001 rate ≡ z
-      → holds (ratioOf rate 28_800_000) ≡ ((x && y) || z)
+      → ratioHolds (ratioOf rate 28_800_000) ≡ ((x && y) || z)
   usual-ratio true true true p q s = let one = leb-true rate 300_000 q in let two = leb-true 900_001 rate s in absurd (omega arith)
   usual-ratio true true false p q s =
       let one = leb-true 225_001 rate p in
@@ -216,7 +216,7 @@ unfolding rateNumber
 at-28800000 rate small = go (eqb rate 0) refl
   where
     go : (b : Bool) → eqb rate 0 ≡ b
-        → _≡_ {A = ℕ} (cond b 3 (cond (holds (ratioOf rate 28_800_000)) 0 13)) (cond b 3 (cond ((leb 225_001 rate && leb rate 300_000) || leb 900_001 rate) 0 13))
+        → _≡_ {A = ℕ} (cond b 3 (cond (ratioHolds (ratioOf rate 28_800_000)) 0 13)) (cond b 3 (cond ((leb 225_001 rate && leb rate 300_000) || leb 900_001 rate) 0 13))
     go true e = refl
     go false e =
         let none : rate ≡ 0 → ⊥ = eqb-false rate 0 e in

@@ -36,8 +36,8 @@ unfoldable pub sentOf : ℕ → ℕ
 sentOf ratio = bitOr (maskedOf ratio) (bitAnd (maskedOf ratio) 0x0800_0000 * 2)
 
 -- "a rate is taken only if r is at least 4, below 2^29, and its bits 27 and 28 are equal", r being "the ratio before any masking or cut to 32 bits"
-unfoldable pub holds : ℕ → Bool
-holds r = leb 4 r && ltb r (2 ^ 29) && eqb (r / 2 ^ 27 % 2) (r / 2 ^ 28 % 2)
+unfoldable pub ratioHolds : ℕ → Bool
+ratioHolds r = leb 4 r && ltb r (2 ^ 29) && eqb (r / 2 ^ 27 % 2) (r / 2 ^ 28 % 2)
 
 -- 4 for a reference of 0, before a later number
 abbrev pub xtalNumber : ℕ → ℕ → ℕ
@@ -49,7 +49,7 @@ zeroNumber rate xtal later = cond (eqb rate 0) 3 (xtalNumber xtal later)
 
 -- why a rate is not sent, 0 where it is: "new 13 ratio, after 3 and after 4 for a zero reference"
 unfoldable pub rateNumber : ℕ → ℕ → ℕ
-rateNumber rate xtal = zeroNumber rate xtal (cond (holds (ratioOf rate xtal)) 0 13)
+rateNumber rate xtal = zeroNumber rate xtal (cond (ratioHolds (ratioOf rate xtal)) 0 13)
 
 -- Document 02, #104: "the true rate, xtal·2^22 divided by the ratio as sent after masking and the copied bit, cut to a whole u64"
 unfoldable pub trueOf : ℕ → ℕ → ℕ
@@ -59,7 +59,7 @@ trueOf rate xtal = xtal * 2 ^ 22 / sentOf (ratioOf rate xtal)
 abbrev pub threeOf : ℕ → List ℕ
 threeOf x = x / 2 ^ 16 % 2 ^ 6 ∷ x / 2 ^ 8 % 2 ^ 8 ∷ x % 2 ^ 8 ∷ []
 
--- bytes, high first, as one number, behind a number
+-- bytes, high first, as the low end of a number whose high end is given
 abbrev pub numberFrom : ℕ → List ℕ → ℕ
 numberFrom x [] = x
 numberFrom x (b ∷ bs) = numberFrom (x * 2 ^ 8 + b) bs

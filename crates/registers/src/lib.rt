@@ -10,7 +10,7 @@ ghost use Rattle.registers.specs.Rates.{
   ifValueOf,
   ratioOf,
   sentOf,
-  holds,
+  ratioHolds,
   zeroNumber,
   rateNumber,
   trueOf,
@@ -149,8 +149,8 @@ pub fn sent(ratio: u64) -> u32
 }
 
 // Whether the resampler's register holds it: what is sent is then the ratio without its two low bits.
-fn held(ratio: u64) -> bool
-    ensures { λ r. ⌜ r ≡ holds ratio ⌝ }
+fn ratio_holds(ratio: u64) -> bool
+    ensures { λ r. ⌜ r ≡ ratioHolds ratio ⌝ }
 {
     (4 <= ratio) & (ratio < 536_870_912) & ((ratio >> 27) % 2 == (ratio >> 28) % 2)
 }
@@ -177,7 +177,7 @@ pub fn rate_number(rate: u32, xtal: u32) -> u8
         return zero;
     }
     let whole = ratio(rate, xtal);
-    if held(whole) {
+    if ratio_holds(whole) {
         return 0;
     }
     13

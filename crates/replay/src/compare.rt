@@ -3,7 +3,7 @@ ghost use mathlib.Core.Path.{_≡_};
 ghost use mathlib.Core.Bool.{true};
 ghost use Prim.Native.Nat.{ℕ, _<_};
 ghost use lib.ListN.{length, getD};
-ghost use Rattle.replay.specs.Agreement.{Told, Written, Valued, Agrees, unlessRefused};
+ghost use Rattle.replay.specs.Agreement.{NumbersAgree, Written, Valued, Agrees, unlessRefused};
 use crate::layout;
 
 pub enum Verdict {
@@ -31,7 +31,7 @@ pub fn decided(same: bool) -> Verdict
 }
 
 pub fn numbers(c: &[u8], a: Answer) -> bool
-    ensures { λ r. ⌜ (r ≡ true → Told (now (c .entry)) a) ⌝ }
+    ensures { λ r. ⌜ (r ≡ true → NumbersAgree (now (c .entry)) a) ⌝ }
 {
     if layout::one(c, layout::REFUSAL) != a.refusal {
         return false;

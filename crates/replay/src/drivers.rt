@@ -25,9 +25,9 @@ pub fn fresh(c: &[u8]) -> Verdict {
         layout::four(c, layout::E) as u32,
     );
     let answer = made.answer;
-    let driver = made.driver;
+    let made_driver = made.driver;
     let told = handed::numbers(answer, 0);
-    let next = handed::next_driver(told, driver);
+    let next = handed::next_driver(told, made_driver);
     compare::agrees(c, told, &[], &[], &next, &[])
 }
 
@@ -149,7 +149,7 @@ pub fn tune_board(c: &[u8]) -> Verdict {
     )
 }
 
-fn take_path(c: &[u8], t: Tuner, n: usize, space: &mut [u8]) -> r82xx::Told
+fn take_path(c: &[u8], t: Tuner, n: usize, space: &mut [u8]) -> r82xx::TunerResult
     requires { ⌜ n ≤ length (now space) ⌝ }
 {
     let path = layout::one(c, layout::A) as u8;

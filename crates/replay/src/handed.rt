@@ -6,8 +6,8 @@ use crate::layout;
 use chip::Answer;
 use compare::Verdict;
 use driver::Driver;
-use r82xx::Told;
 use r82xx::Tuner;
+use r82xx::TunerResult;
 
 pub fn numbers(answer: Answer, count: usize) -> compare::Answer {
     match answer {
@@ -63,7 +63,7 @@ pub fn answered(c: &[u8], answer: Answer, out: &[u8; 1088], n: usize) -> Verdict
 }
 
 // With what the call answered in bytes.
-pub fn judged_with(c: &[u8], told: Told, room: &[u8], answered: &[u8]) -> Verdict {
+pub fn judged_with(c: &[u8], told: TunerResult, room: &[u8], answered: &[u8]) -> Verdict {
     let answer = told.answer;
     let tuner = told.tuner;
     let told = numbers(answer, told.count);
@@ -71,11 +71,11 @@ pub fn judged_with(c: &[u8], told: Told, room: &[u8], answered: &[u8]) -> Verdic
     compare::agrees(c, told, room, &next, &[], answered)
 }
 
-pub fn judged(c: &[u8], told: Told, room: &[u8]) -> Verdict {
+pub fn judged(c: &[u8], told: TunerResult, room: &[u8]) -> Verdict {
     judged_with(c, told, room, &[])
 }
 
-// A given record that is none.
+// A given record that is not valid.
 pub fn refused(c: &[u8], room: &[u8]) -> Verdict {
     let told = compare::Answer {
         refusal: 1,

@@ -5,9 +5,9 @@ use crate::compare;
 use crate::handed;
 use crate::layout;
 use compare::Verdict;
-use r82xx::Told;
-use r82xx::TuneTold;
+use r82xx::TuneResult;
 use r82xx::Tuner;
+use r82xx::TunerResult;
 
 pub fn fresh(c: &[u8]) -> Verdict {
     let made = Tuner::new(
@@ -17,7 +17,7 @@ pub fn fresh(c: &[u8]) -> Verdict {
     );
     let answer = made.answer;
     let tuner = made.tuner;
-    let told = Told {
+    let told = TunerResult {
         tuner: tuner,
         answer: answer,
         count: 0,
@@ -26,7 +26,7 @@ pub fn fresh(c: &[u8]) -> Verdict {
 }
 
 // The calls of one or more steps.
-fn stepped(c: &[u8], t: Tuner, room: &mut [u8]) -> Told {
+fn stepped(c: &[u8], t: Tuner, room: &mut [u8]) -> TunerResult {
     let outcomes = layout::part(c, layout::OUTCOMES);
     let a = layout::eight(c, layout::A);
     match layout::one(c, layout::CALL) {
@@ -44,7 +44,7 @@ fn stepped(c: &[u8], t: Tuner, room: &mut [u8]) -> Told {
     }
 }
 
-fn asked(c: &[u8], t: Tuner, n: usize, space: &mut [u8]) -> Told
+fn asked(c: &[u8], t: Tuner, n: usize, space: &mut [u8]) -> TunerResult
     requires { ⌜ n ≤ length (now space) ⌝ }
 {
     if layout::one(c, layout::CALL) < 10 {
@@ -68,7 +68,7 @@ pub fn changed(c: &[u8]) -> Verdict {
     handed::judged(c, told, handed::room(&space, n))
 }
 
-fn tune(c: &[u8], t: Tuner, n: usize, space: &mut [u8]) -> TuneTold
+fn tune(c: &[u8], t: Tuner, n: usize, space: &mut [u8]) -> TuneResult
     requires { ⌜ n ≤ length (now space) ⌝ }
 {
     let outcomes = layout::part(c, layout::OUTCOMES);

@@ -14,7 +14,7 @@ use Rattle.attempts.specs.Attempts.{Last, Played, Regs, byteIn, done, doubtIn, 
 use Rattle.attempts.specs.Attempts.Last.{Never, Tried}
 use Rattle.attempts.proofs.Played.{last-done, last-never}
 use Rattle.attempts.proofs.Doubt.{sure-byte}
-use Rattle.restore.specs.Restore.{Run, heldIn, inRun, listOf, runs, slot, sureIn, times, within, writeOf}
+use Rattle.restore.specs.Restore.{Run, heldIn, inRun, listOf, runs, slot, sureIn, times, runsWith, writeOf}
 use Rattle.restore.proofs.Runs.{doubt-none, few, at-doubt, of-run, sure-one}
 
 module _ (address : ℕ) (held : ℕ → ℕ) where
@@ -54,12 +54,12 @@ module _ (address : ℕ) (held : ℕ → ℕ) where
   done-write w = refl
 
   -- the writes that do not name a register count for nothing
-  times-within : (ws : List Run) (r : ℕ) → times address (map (writeOf address held) ws) r ≡ length (within r ws)
+  times-within : (ws : List Run) (r : ℕ) → times address (map (writeOf address held) ws) r ≡ length (runsWith r ws)
   times-within [] r = refl
   times-within (w ∷ ws) r = go (inRun r w) refl (times-within ws r)
     where
-      go : (b : Bool) → inRun r w ≡ b → times address (map (writeOf address held) ws) r ≡ length (within r ws)
-          → times address (map (writeOf address held) (w ∷ ws)) r ≡ length (within r (w ∷ ws))
+      go : (b : Bool) → inRun r w ≡ b → times address (map (writeOf address held) ws) r ≡ length (runsWith r ws)
+          → times address (map (writeOf address held) (w ∷ ws)) r ≡ length (runsWith r (w ∷ ws))
       go true t h = rw (names-write w r, t, h)
       go false t h = rw (names-write w r, t) h
 
@@ -75,23 +75,23 @@ module _ (address : ℕ) (held : ℕ → ℕ) where
   abbrev after : ℕ → Last → List Run → Last
   after r l ws = lastFrom address l (map (writeOf address held) ws) r
 
-  last-within : (ws : List Run) (r : ℕ) (l : Last) → after r l ws ≡ after r l (within r ws)
+  last-within : (ws : List Run) (r : ℕ) (l : Last) → after r l ws ≡ after r l (runsWith r ws)
   last-within [] r l = refl
   last-within (w ∷ ws) r l =
       go (inRun r w) refl (last-within ws r (Tried (sentTo (writeOf address held w) r) (done (writeOf address held w)))) (last-within ws r l)
     where
       go : (b : Bool) → inRun r w ≡ b
-          → after r (Tried (sentTo (writeOf address held w) r) (done (writeOf address held w))) ws ≡ after r (Tried (sentTo (writeOf address held w) r) (done (writeOf address held w))) (within r ws)
-          → after r l ws ≡ after r l (within r ws) → after r l (w ∷ ws) ≡ after r l (within r (w ∷ ws))
+          → after r (Tried (sentTo (writeOf address held w) r) (done (writeOf address held w))) ws ≡ after r (Tried (sentTo (writeOf address held w) r) (done (writeOf address held w))) (runsWith r ws)
+          → after r l ws ≡ after r l (runsWith r ws) → after r l (w ∷ ws) ≡ after r l (runsWith r (w ∷ ws))
       go true t first second =
-          let kept : within r (w ∷ ws) ≡ w ∷ within r ws = rw t in
+          let kept : runsWith r (w ∷ ws) ≡ w ∷ runsWith r ws = rw t in
           let named = names-write w r ∙ t in
           one-named (writeOf address held w) (map (writeOf address held) ws) r l named
           ∙ first
-          ∙ sym (one-named (writeOf address held w) (map (writeOf address held) (within r ws)) r l named)
+          ∙ sym (one-named (writeOf address held w) (map (writeOf address held) (runsWith r ws)) r l named)
           ∙ ap (after r l) (sym kept)
       go false t first second =
-          let left : within r (w ∷ ws) ≡ within r ws = rw t in
+          let left : runsWith r (w ∷ ws) ≡ runsWith r ws = rw t in
           one-other (writeOf address held w) (map (writeOf address held) ws) r l (names-write w r ∙ t) ∙ second ∙ ap (after r l) (sym left)
 
 -- a sure register is one of 0x05..0x1f without doubt

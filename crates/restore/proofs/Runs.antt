@@ -9,7 +9,7 @@ use native.Mathlib.Omega.{arith}
 use borrow.Author.Tests.{leb-true, leb-false, ltb-true, ltb-false, le-leb, lt-leb, lt-ltb, le-ltb}
 use lib.Dec.{leb, ltb}
 use lib.ListN.{length}
-use Rattle.restore.specs.Restore.{Exactly, Run, Short, anyRun, inRun, run, runLen, runs, within}
+use Rattle.restore.specs.Restore.{Exactly, Run, Short, anyRun, inRun, runOf, runLen, runs, runsWith}
 
 in-run : (r : ℕ) (w : Run) → w .first ≤ r → r < w .first + w .size → inRun r w ≡ true
 in-run r w h k = rw (le-leb (w .first) r h, lt-ltb r (w .first + w .size) k)
@@ -84,7 +84,7 @@ module _ (sure : ℕ → Bool) where
 
   -- ---- one step of the list
 
-  pub at-sure : (n i : ℕ) → sure i ≡ true → runs sure (suc n) i ≡ run i (runLen sure 7 i) ∷ runs sure n (i + runLen sure 7 i)
+  pub at-sure : (n i : ℕ) → sure i ≡ true → runs sure (suc n) i ≡ runOf i (runLen sure 7 i) ∷ runs sure n (i + runLen sure 7 i)
   unfolding runs
   at-sure n i t = rw t
 
@@ -95,36 +95,36 @@ module _ (sure : ℕ → Bool) where
   -- ---- exactly these
 
   -- nothing below where it starts
-  none-below : (n i r : ℕ) → r < i → within r (runs sure n i) ≡ []
+  none-below : (n i r : ℕ) → r < i → runsWith r (runs sure n i) ≡ []
   unfolding runs
   none-below zero i r h = refl
   none-below (suc n) i r h = go (sure i) refl (none-below n (i + runLen sure 7 i) r (omega arith)) (none-below n (suc i) r (omega arith))
     where
-      go : (b : Bool) → sure i ≡ b → within r (runs sure n (i + runLen sure 7 i)) ≡ [] → within r (runs sure n (suc i)) ≡ []
-          → within r (runs sure (suc n) i) ≡ []
-      go true t first second = rw (t, under-run r (run i (runLen sure 7 i)) h) first
+      go : (b : Bool) → sure i ≡ b → runsWith r (runs sure n (i + runLen sure 7 i)) ≡ [] → runsWith r (runs sure n (suc i)) ≡ []
+          → runsWith r (runs sure (suc n) i) ≡ []
+      go true t first second = rw (t, under-run r (runOf i (runLen sure 7 i)) h) first
       go false t first second = rw t second
 
   -- a register that is not in the set is in no run
-  pub doubt-none : (n i r : ℕ) → sure r ≡ false → within r (runs sure n i) ≡ []
+  pub doubt-none : (n i r : ℕ) → sure r ≡ false → runsWith r (runs sure n i) ≡ []
   unfolding runs
   doubt-none zero i r d = refl
   doubt-none (suc n) i r d = go (sure i) refl (doubt-none n (i + runLen sure 7 i) r d) (doubt-none n (suc i) r d)
     where
-      out : (b : Bool) → inRun r (run i (runLen sure 7 i)) ≡ b → inRun r (run i (runLen sure 7 i)) ≡ false
+      out : (b : Bool) → inRun r (runOf i (runLen sure 7 i)) ≡ b → inRun r (runOf i (runLen sure 7 i)) ≡ false
       out true t =
-          let at = of-run r (run i (runLen sure 7 i)) t in
+          let at = of-run r (runOf i (runLen sure 7 i)) t in
           absurd (false≢true (sym d ∙ run-in 7 i r (at .0) (at .1)))
       out false t = t
 
-      go : (b : Bool) → sure i ≡ b → within r (runs sure n (i + runLen sure 7 i)) ≡ [] → within r (runs sure n (suc i)) ≡ []
-          → within r (runs sure (suc n) i) ≡ []
-      go true t first second = rw (t, out (inRun r (run i (runLen sure 7 i))) refl) first
+      go : (b : Bool) → sure i ≡ b → runsWith r (runs sure n (i + runLen sure 7 i)) ≡ [] → runsWith r (runs sure n (suc i)) ≡ []
+          → runsWith r (runs sure (suc n) i) ≡ []
+      go true t first second = rw (t, out (inRun r (runOf i (runLen sure 7 i))) refl) first
       go false t first second = rw t second
 
   -- and one of the set is in one, of at most seven
   abbrev pub One : ℕ → List Run → Type 0
-  One r ws = (w : Run) × (within r ws ≡ w ∷ []) × (inRun r w ≡ true) × (w .size ≤ 7)
+  One r ws = (w : Run) × (runsWith r ws ≡ w ∷ []) × (inRun r w ≡ true) × (w .size ≤ 7)
 
   pub sure-one : (n i r : ℕ) → i ≤ r → r < i + n → sure r ≡ true → One r (runs sure n i)
   unfolding runs
@@ -133,7 +133,7 @@ module _ (sure : ℕ → Bool) where
       go (sure i) refl (sure-one n (i + runLen sure 7 i) r) (sure-one n (suc i) r)
     where
       w : Run
-      w = run i (runLen sure 7 i)
+      w = runOf i (runLen sure 7 i)
 
       later : (b : Bool) → ltb r (i + runLen sure 7 i) ≡ b → sure i ≡ true
           → (i + runLen sure 7 i ≤ r → r < i + runLen sure 7 i + n → sure r ≡ true → One r (runs sure n (i + runLen sure 7 i)))

@@ -12,7 +12,7 @@ use Rattle.transcript.specs.Table.{addressMost, firstMost, nHigh, nLow, outcome
 use Rattle.transcript.specs.Entries.{entryFits, zeros}
 use Rattle.transcript.specs.Sections.{AllFit, Parted, sectionBytes}
 use Rattle.transcript.proofs.Exact.{written-then-read}
-use Rattle.restore.specs.Restore.{Exactly, Run, heldIn, listOf, run, runLen, runs, slot, sureIn, writeOf}
+use Rattle.restore.specs.Restore.{Exactly, Run, heldIn, listOf, runOf, runLen, runs, slot, sureIn, writeOf}
 use Rattle.restore.proofs.Runs.{minimal, run-most, run-some}
 use Rattle.restore.proofs.Listed.{most, sure-range}
 
@@ -26,7 +26,7 @@ fewest address es ws x =
 
 -- a write of a run of one to seven registers fits the table of kinds
 module _ (address : ℕ) (held : ℕ → ℕ) (chip : address ≤ 255) where
-  fits-size : (i k : ℕ) → i ≤ 255 → k < 7 → entryFits (writeOf address held (run i (suc k))) ≡ true
+  fits-size : (i k : ℕ) → i ≤ 255 → k < 7 → entryFits (writeOf address held (runOf i (suc k))) ≡ true
   unfolding entryFits rowFits writeOf zeros slot outcomeMost targetMost nLow nHigh addressMost firstMost
   fits-size i zero h l = rw (le-leb address 255 chip, le-leb i 255 h)
   fits-size i (suc zero) h l = rw (le-leb address 255 chip, le-leb i 255 h)
@@ -37,7 +37,7 @@ module _ (address : ℕ) (held : ℕ → ℕ) (chip : address ≤ 255) where
   fits-size i (suc (suc (suc (suc (suc (suc zero)))))) h l = rw (le-leb address 255 chip, le-leb i 255 h)
   fits-size i (suc (suc (suc (suc (suc (suc (suc k))))))) h l = absurd (omega arith)
 
-  fits-run : (i m : ℕ) → i ≤ 255 → 0 < m → m ≤ 7 → entryFits (writeOf address held (run i m)) ≡ true
+  fits-run : (i m : ℕ) → i ≤ 255 → 0 < m → m ≤ 7 → entryFits (writeOf address held (runOf i m)) ≡ true
   fits-run i zero h a b = absurd (omega arith)
   fits-run i (suc k) h a b = fits-size i k h (omega arith)
 

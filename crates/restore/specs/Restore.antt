@@ -24,8 +24,8 @@ pub record Run : Type 0 where
   pub first : ℕ
   pub size : ℕ
 
-abbrev pub run : ℕ → ℕ → Run
-run first size = record { first = first; size = size }
+abbrev pub runOf : ℕ → ℕ → Run
+runOf first size = record { first = first; size = size }
 
 -- how many sure registers follow one another from i on, up to k
 unfoldable pub runLen : (ℕ → Bool) → ℕ → ℕ → ℕ
@@ -35,7 +35,7 @@ runLen sure (suc k) i = cond (sure i) (suc (runLen sure k (suc i))) 0
 -- "in ascending runs of at most seven registers": long runs are filled from the left. In at most n steps from i on
 unfoldable pub runs : (ℕ → Bool) → ℕ → ℕ → List Run
 runs sure zero i = []
-runs sure (suc n) i = cond (sure i) (run i (runLen sure 7 i) ∷ runs sure n (i + runLen sure 7 i)) (runs sure n (suc i))
+runs sure (suc n) i = cond (sure i) (runOf i (runLen sure 7 i) ∷ runs sure n (i + runLen sure 7 i)) (runs sure n (suc i))
 
 -- the byte at a place of a run, and zeros after it
 unfoldable pub slot : (ℕ → ℕ) → ℕ → ℕ → ℕ → ℕ
@@ -83,9 +83,9 @@ anyRun r [] = false
 anyRun r (w ∷ ws) = cond (inRun r w) true (anyRun r ws)
 
 -- those of them that name a register
-abbrev pub within : ℕ → List Run → List Run
-within r [] = []
-within r (w ∷ ws) = cond (inRun r w) (w ∷ within r ws) (within r ws)
+abbrev pub runsWith : ℕ → List Run → List Run
+runsWith r [] = []
+runsWith r (w ∷ ws) = cond (inRun r w) (w ∷ runsWith r ws) (runsWith r ws)
 
 abbrev pub Short : List Run → Type 0
 Short [] = Unit {0}

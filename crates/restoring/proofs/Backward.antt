@@ -15,7 +15,7 @@ use Rattle.transcript.proofs.Exact.{entriesIn-take}
 use Rattle.sections.specs.Chain.{chain, chainEntries}
 use Rattle.sections.proofs.Walk.{chain-empty, chain-step, entries-empty, entries-step}
 use Rattle.restore.specs.Restore.{refusedBy}
-use Rattle.restoring.specs.Standing.{Told, over, tellsOf}
+use Rattle.restoring.specs.Standing.{Known, over, knownIn}
 use Rattle.restoring.proofs.Telling.{over-both, over-empty}
 
 -- what the reader refuses is no section
@@ -81,22 +81,22 @@ module _ (s p : List ℕ) (end : ℕ) (is : p ≡ take (end - 0) s) (some : 0 < 
         ∙ entries-step p (omega (arith, long))
         ∙ ap₂ (λ (l : List ℕ) (es : List Entry). chainEntries l ++ es) front (handed p good ∙ ap₂ (λ (k i : ℕ). entriesIn k (drop i p)) (sym count-is) (sym start-is))
 
-    pub told-on : (address : ℕ) (l next : List Told) → next ≡ over (tellsOf address (entriesIn count (drop start p))) 0 l
-        → over (tellsOf address (chainEntries (take start s))) 0 next ≡ over (tellsOf address (chainEntries (take end s))) 0 l
+    pub told-on : (address : ℕ) (l next : List Known) → next ≡ over (knownIn address (entriesIn count (drop start p))) 0 l
+        → over (knownIn address (chainEntries (take start s))) 0 next ≡ over (knownIn address (chainEntries (take end s))) 0 l
     told-on address l next was =
-        ap (over (tellsOf address (chainEntries (take start s))) 0) was
+        ap (over (knownIn address (chainEntries (take start s))) 0) was
         ∙ over-both address (chainEntries (take start s)) (entriesIn count (drop start p)) l
-        ∙ ap (λ (es : List Entry). over (tellsOf address es) 0 l) (sym entries-on)
+        ∙ ap (λ (es : List Entry). over (knownIn address es) 0 l) (sym entries-on)
 
 -- the start of the slice
 module _ (s : List ℕ) (end : ℕ) (none-left : end ≡ 0) (same : chain (take end s) ≡ chain s) where
   pub all-sections : 0 ≡ refusedBy s
   all-sections = rw (← same, none-left, chain-empty [] refl)
 
-  pub all-told : (address : ℕ) (l : List Told) → l ≡ over (tellsOf address (chainEntries (take end s))) 0 l
+  pub all-told : (address : ℕ) (l : List Known) → l ≡ over (knownIn address (chainEntries (take end s))) 0 l
   all-told address l =
       over-empty address l
-      ∙ ap (λ (es : List Entry). over (tellsOf address es) 0 l) (sym (ap (λ (k : ℕ). chainEntries (take k s)) none-left ∙ entries-empty [] refl))
+      ∙ ap (λ (es : List Entry). over (knownIn address es) 0 l) (sym (ap (λ (k : ℕ). chainEntries (take k s)) none-left ∙ entries-empty [] refl))
 
 pub refused : (s : List ℕ) → chain s ≡ false → 12 ≡ refusedBy s
 refused s h = rw h

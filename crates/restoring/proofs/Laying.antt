@@ -13,9 +13,9 @@ use Rattle.transcript.specs.declared.Entry.{Entry}
 use Rattle.transcript.specs.Entries.{Eight, Eights, entryBytes}
 use Rattle.transcript.specs.Sections.{entriesBytes, sectionBytes, trailerBytes}
 use Rattle.transcript.proofs.Laid.{length-entryBytes, section-laid}
-use Rattle.restore.specs.Restore.{Run, run, runLen, runs, slot, writeOf}
+use Rattle.restore.specs.Restore.{Run, runOf, runLen, runs, slot, writeOf}
 use Rattle.restore.proofs.Runs.{at-doubt, at-sure, run-most, run-some}
-use Rattle.restoring.specs.Standing.{heldOf, nextSure, sureOf, told}
+use Rattle.restoring.specs.Standing.{heldOf, nextSure, sureOf, knownAll}
 
 -- past the last register nothing is told
 pub none-past : (ms : List ℕ) (r : ℕ) → length ms ≤ r → false ≡ sureOf ms r
@@ -95,7 +95,7 @@ module _ (held : ℕ → ℕ) (i m j : ℕ) where
 
 pub write-told : (address : ℕ) (held : ℕ → ℕ) (i m : ℕ) {a b d e f g h : ℕ} → a ≡ slot held i m 0 → b ≡ slot held i m 1 → d ≡ slot held i m 2 → e ≡ slot held i m 3
     → f ≡ slot held i m 4 → g ≡ slot held i m 5 → h ≡ slot held i m 6
-    → record { kind = 2; outcome = 0; target = address; n = m + 1; address = 0; bytes = i ∷ a ∷ b ∷ d ∷ e ∷ f ∷ g ∷ h ∷ [] } ≡ writeOf address held (run i m)
+    → record { kind = 2; outcome = 0; target = address; n = m + 1; address = 0; bytes = i ∷ a ∷ b ∷ d ∷ e ∷ f ∷ g ∷ h ∷ [] } ≡ writeOf address held (runOf i m)
 unfolding writeOf
 write-told address held i m p q r s t u v =
     let size : m + 1 ≡ suc m = omega arith in
@@ -169,18 +169,18 @@ module _ (sure : ℕ → Bool) where
         go : (b : Bool) → sure i ≡ b → (0 < runLen sure 7 i → runs sure n (i + runLen sure 7 i) ≡ runs sure m (i + runLen sure 7 i)) → runs sure n (suc i) ≡ runs sure m (suc i)
             → runs sure (suc n) i ≡ runs sure (suc m) i
         go true t first second =
-            at-sure sure n i t ∙ ap (λ (ws : List Run). run i (runLen sure 7 i) ∷ ws) (first (run-some sure 6 i t)) ∙ sym (at-sure sure m i t)
+            at-sure sure n i t ∙ ap (λ (ws : List Run). runOf i (runLen sure 7 i) ∷ ws) (first (run-some sure 6 i t)) ∙ sym (at-sure sure m i t)
         go false t first second = at-doubt sure n i t ∙ second ∙ sym (at-doubt sure m i t)
 
     -- the first of the runs that are left
-    pub one-run : (i m j : ℕ) → i < 32 → sure i ≡ true → m ≡ runLen sure 7 i → j ≡ nextSure sure (32 - (i + m)) (i + m) → left sure i ≡ run i m ∷ left sure j
+    pub one-run : (i m j : ℕ) → i < 32 → sure i ≡ true → m ≡ runLen sure 7 i → j ≡ nextSure sure (32 - (i + m)) (i + m) → left sure i ≡ runOf i m ∷ left sure j
     one-run i m j h t size next =
         let more : 32 - i ≡ suc (31 - i) = omega arith in
         let some = run-some sure 6 i t in
         ap (λ (k : ℕ). runs sure k i) more
         ∙ at-sure sure (31 - i) i t
-        ∙ ap (λ (k : ℕ). run i k ∷ runs sure (31 - i) (i + k)) (sym size)
-        ∙ ap (λ (ws : List Run). run i m ∷ ws) (enough (31 - i) (32 - (i + m)) (i + m) (omega arith) (omega arith) ∙ sym (skipped (i + m) j next))
+        ∙ ap (λ (k : ℕ). runOf i k ∷ runs sure (31 - i) (i + k)) (sym size)
+        ∙ ap (λ (ws : List Run). runOf i m ∷ ws) (enough (31 - i) (32 - (i + m)) (i + m) (omega arith) (omega arith) ∙ sym (skipped (i + m) j next))
 
     pub run-size : (i m : ℕ) → sure i ≡ true → m ≡ runLen sure 7 i → (0 < m) × (m ≤ 7)
     run-size i m t size = (omega (arith, run-some sure 6 i t), omega (arith, run-most sure 7 i))

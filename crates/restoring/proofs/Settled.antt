@@ -20,71 +20,71 @@ use Rattle.attempts.specs.Attempts.Last.{Never, Tried}
 use Rattle.sections.specs.Chain.{chain, chainEntries}
 use Rattle.restore.specs.Restore.{heldIn, listBy, listBytes, listOf, refusedBy, runs, sureIn, writeOf}
 use Rattle.restore.proofs.Listed.{most}
-use Rattle.restoring.specs.Standing.{Told, counts, heldOf, newer, none, over, restoreInto, sureOf, tell, tellsOf, told, toldOf}
+use Rattle.restoring.specs.Standing.{Known, counts, heldOf, newer, none, over, restoreInto, sureOf, knownAs, knownIn, knownAll, knownOf}
 use Rattle.restoring.proofs.Overs.{fresh, over-at, quiet, told-at}
 use Rattle.restoring.proofs.Laying.{eights}
 
 abbrev pub blank : List ℕ
 blank = replicate 32 0
 
-some-told : (l : Last) → newer none (toldOf l) ≡ toldOf l
+some-told : (l : Last) → newer none (knownOf l) ≡ knownOf l
 some-told Never = quiet none none refl
-some-told (Tried byte true) = fresh none (tell 2 byte) refl (omega arith)
-some-told (Tried byte false) = fresh none (tell 1 byte) refl (omega arith)
+some-told (Tried byte true) = fresh none (knownAs 2 byte) refl (omega arith)
+some-told (Tried byte false) = fresh none (knownAs 1 byte) refl (omega arith)
 
-tells-alone : (address : ℕ) (es : List Entry) (r : ℕ) → newer none (tellsOf address es r) ≡ tellsOf address es r
-unfolding tellsOf
+tells-alone : (address : ℕ) (es : List Entry) (r : ℕ) → newer none (knownIn address es r) ≡ knownIn address es r
+unfolding knownIn
 tells-alone address es r = go (counts r) refl
   where
-    go : (b : Bool) → counts r ≡ b → newer none (cond (counts r) (toldOf (lastIn address es r)) none) ≡ cond (counts r) (toldOf (lastIn address es r)) none
+    go : (b : Bool) → counts r ≡ b → newer none (cond (counts r) (knownOf (lastIn address es r)) none) ≡ cond (counts r) (knownOf (lastIn address es r)) none
     go true e = rw e (some-told (lastIn address es r))
     go false e = rw e (quiet none none refl)
 
-tells-past : (address : ℕ) (es : List Entry) (r : ℕ) → 32 ≤ r → tellsOf address es r ≡ none
-unfolding tellsOf counts
+tells-past : (address : ℕ) (es : List Entry) (r : ℕ) → 32 ≤ r → knownIn address es r ≡ none
+unfolding knownIn counts
 tells-past address es r h = rw (le-ltb r 32 h, and-false (leb 5 r))
 
 module _ (address : ℕ) (es : List Entry) (ms bs : List ℕ) (lm : length ms ≡ 32) (lb : length bs ≡ 32)
-    (after : told ms bs ≡ over (tellsOf address es) 0 (told blank blank)) where
-  stands : (r : ℕ) → tell (getD ms r 0) (getD bs r 0) ≡ tellsOf address es r
+    (after : knownAll ms bs ≡ over (knownIn address es) 0 (knownAll blank blank)) where
+  stands : (r : ℕ) → knownAs (getD ms r 0) (getD bs r 0) ≡ knownIn address es r
   stands r = go (ltb r 32) refl
     where
-      go : (b : Bool) → ltb r 32 ≡ b → tell (getD ms r 0) (getD bs r 0) ≡ tellsOf address es r
+      go : (b : Bool) → ltb r 32 ≡ b → knownAs (getD ms r 0) (getD bs r 0) ≡ knownIn address es r
       go true e =
           let less = ltb-true r 32 e in
           let here : 0 + r ≡ r = omega arith in
-          let clear : getD (told blank blank) r none ≡ none =
-          told-at blank blank r refl ∙ ap₂ tell (getD-replicate 32 r 0 0 less) (getD-replicate 32 r 0 0 less) in
+          let clear : getD (knownAll blank blank) r none ≡ none =
+          told-at blank blank r refl ∙ ap₂ knownAs (getD-replicate 32 r 0 0 less) (getD-replicate 32 r 0 0 less) in
           sym (told-at ms bs r (omega arith))
-          ∙ ap (λ (l : List Told). getD l r none) after
-          ∙ over-at (tellsOf address es) 0 r (told blank blank) (omega arith)
-          ∙ ap₂ (λ (t : Told) (k : ℕ). newer t (tellsOf address es k)) clear here
+          ∙ ap (λ (l : List Known). getD l r none) after
+          ∙ over-at (knownIn address es) 0 r (knownAll blank blank) (omega arith)
+          ∙ ap₂ (λ (t : Known) (k : ℕ). newer t (knownIn address es k)) clear here
           ∙ tells-alone address es r
       go false e =
           let past = ltb-false r 32 e in
-          ap₂ tell (List·getD-eq-default ms 0 (omega arith)) (List·getD-eq-default bs 0 (omega arith)) ∙ sym (tells-past address es r past)
+          ap₂ knownAs (List·getD-eq-default ms 0 (omega arith)) (List·getD-eq-default bs 0 (omega arith)) ∙ sym (tells-past address es r past)
 
-  sure-mark : (l : Last) (b : Bool) → eqb (cond b (toldOf l) none .mark) 2 ≡ b && not (doubtIn l)
+  sure-mark : (l : Last) (b : Bool) → eqb (cond b (knownOf l) none .mark) 2 ≡ b && not (doubtIn l)
   sure-mark Never true = refl
   sure-mark (Tried byte true) true = refl
   sure-mark (Tried byte false) true = refl
   sure-mark l false = refl
 
   sures : (r : ℕ) → sureOf ms r ≡ sureIn address es r
-  unfolding sureOf sureIn tellsOf counts
-  sures r = ap (λ (t : Told). eqb (t .mark) 2) (stands r) ∙ sure-mark (lastIn address es r) (counts r)
+  unfolding sureOf sureIn knownIn counts
+  sures r = ap (λ (t : Known). eqb (t .mark) 2) (stands r) ∙ sure-mark (lastIn address es r) (counts r)
 
-  byte-told : (l : Last) (b : Bool) → b && not (doubtIn l) ≡ true → cond b (toldOf l) none .byte ≡ byteIn 0 l
+  byte-told : (l : Last) (b : Bool) → b && not (doubtIn l) ≡ true → cond b (knownOf l) none .byte ≡ byteIn 0 l
   byte-told Never true h = refl
   byte-told (Tried byte ok) true h = refl
   byte-told l false h = absurd (false≢true h)
 
   helds : (r : ℕ) → heldOf ms bs r ≡ heldIn address es r
-  unfolding heldOf sureIn tellsOf counts
+  unfolding heldOf sureIn knownIn counts
   helds r = go (sureIn address es r) refl
     where
       go : (b : Bool) → sureIn address es r ≡ b → cond (sureOf ms r) (getD bs r 0) 0 ≡ cond (sureIn address es r) (byteIn 0 (lastIn address es r)) 0
-      go true e = rw (sures r, e) (ap (λ (t : Told). t .byte) (stands r) ∙ byte-told (lastIn address es r) (counts r) e)
+      go true e = rw (sures r, e) (ap (λ (t : Known). t .byte) (stands r) ∙ byte-told (lastIn address es r) (counts r) e)
       go false e = rw (sures r, e)
 
   sure-same : sureOf ms ≡ sureIn address es
@@ -137,7 +137,7 @@ laid-then-taken room bytes size h k =
     ap₂ (λ (n : ℕ) (l : List ℕ). take n l) all (sets-eq bytes room 0 (omega arith)) ∙ take-at bytes (drop (0 + length bytes) room) size h
 
 module _ (s : List ℕ) (address : ℕ) (good : chain s ≡ true) (ms bs : List ℕ) (lm : length ms ≡ 32) (lb : length bs ≡ 32)
-    (after : told ms bs ≡ over (tellsOf address (chainEntries s)) 0 (told blank blank)) where
+    (after : knownAll ms bs ≡ over (knownIn address (chainEntries s)) 0 (knownAll blank blank)) where
   pub lends : (room image out : List ℕ) (size : ℕ) → 232 ≤ length room → size ≡ 16 * length (runs (sureOf ms) 32 0) + 8
       → image ≡ sets room 0 (sectionBytes (listBy address (sureOf ms) (heldOf ms bs)))
       → lentTo 0 size (take (size - 0) image) out ≡ restoreInto s address out

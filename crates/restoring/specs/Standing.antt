@@ -13,50 +13,50 @@ use Rattle.lending.specs.Lent.{Given, lentTo}
 use Rattle.restore.specs.Restore.{listBytes, refusedBy}
 
 -- what is told of a register: a mark, and the byte that was sent last
-pub record Told : Type 0 where
+pub record Known : Type 0 where
   pub mark : ℕ
   pub byte : ℕ
 
-abbrev pub tell : ℕ → ℕ → Told
-tell mark byte = record { mark = mark; byte = byte }
+abbrev pub knownAs : ℕ → ℕ → Known
+knownAs mark byte = record { mark = mark; byte = byte }
 
 -- nothing is told of a register that was never attempted; 1 is in vain, 2 done
-abbrev pub none : Told
-none = tell 0 0
+abbrev pub none : Known
+none = knownAs 0 0
 
 abbrev pub markOf : Bool → ℕ
 markOf ok = cond ok 2 1
 
-abbrev pub toldOf : Last → Told
-toldOf Never = none
-toldOf (Tried byte ok) = tell (markOf ok) byte
+abbrev pub knownOf : Last → Known
+knownOf Never = none
+knownOf (Tried byte ok) = knownAs (markOf ok) byte
 
 -- "bytes for registers outside 0x05..0x1f count for nothing"
 unfoldable pub counts : ℕ → Bool
 counts r = leb 5 r && ltb r 32
 
 -- what entries tell of a register
-unfoldable pub tellsOf : ℕ → List Entry → ℕ → Told
-tellsOf address es r = cond (counts r) (toldOf (lastIn address es r)) none
+unfoldable pub knownIn : ℕ → List Entry → ℕ → Known
+knownIn address es r = cond (counts r) (knownOf (lastIn address es r)) none
 
 -- what was told first stands: the walk goes from the newest to the oldest
-unfoldable pub newer : Told → Told → Told
+unfoldable pub newer : Known → Known → Known
 newer t u = cond (eqb (u .mark) 0) t (cond (eqb (t .mark) 0) u t)
 
 -- one register alone is told of
-unfoldable pub only : ℕ → Told → ℕ → Told
+unfoldable pub only : ℕ → Known → ℕ → Known
 only r t q = cond (counts q && eqb q r) t none
 
 -- what is told of registers from i on, where some is told already
-unfoldable pub over : (ℕ → Told) → ℕ → List Told → List Told
+unfoldable pub over : (ℕ → Known) → ℕ → List Known → List Known
 over f i [] = []
 over f i (t ∷ ts) = newer t (f i) ∷ over f (suc i) ts
 
 -- the marks and the bytes of registers, one by one
-abbrev pub told : List ℕ → List ℕ → List Told
-told (m ∷ ms) (b ∷ bs) = tell m b ∷ told ms bs
-told [] bs = []
-told (m ∷ ms) [] = []
+abbrev pub knownAll : List ℕ → List ℕ → List Known
+knownAll (m ∷ ms) (b ∷ bs) = knownAs m b ∷ knownAll ms bs
+knownAll [] bs = []
+knownAll (m ∷ ms) [] = []
 
 -- a register that is sure, and its byte
 unfoldable pub sureOf : List ℕ → ℕ → Bool

@@ -10,8 +10,8 @@ ghost use lib.Seq.{sets};
 ghost use Rattle.transcript.specs.Sections.{allFit, entriesIn, sectionBytes};
 ghost use Rattle.sections.specs.Chain.{chain, chainEntries};
 ghost use Rattle.lending.specs.Lent.{given};
-ghost use Rattle.restore.specs.Restore.{listBy, refusedBy, run, runLen, runs, slot, writeOf};
-ghost use Rattle.restoring.specs.Standing.{heldOf, markOf, nextSure, only, over, restoreInto, sureOf, tell, tellsOf, told};
+ghost use Rattle.restore.specs.Restore.{listBy, refusedBy, runOf, runLen, runs, slot, writeOf};
+ghost use Rattle.restoring.specs.Standing.{heldOf, markOf, nextSure, only, over, restoreInto, sureOf, knownAs, knownIn, knownAll};
 use chip::Answer;
 use transcript::Entry;
 use transcript::Section;
@@ -31,7 +31,7 @@ fn mark_of(ok: bool) -> u8
     if ok { 2 } else { 1 }
 }
 
-// The register that the j-th byte behind the first is for. Numbers past 0xff do not wrap: they are registers that no chip has.
+// The register that the j-th byte after the first is for. Numbers past 0xff do not wrap: they are registers that no chip has.
 fn upward(first: usize, j: usize) -> usize
     requires { ⌜ (first < 256) × (j < 8) ⌝ }
     ensures { λ r. ⌜ r ≡ first + j ⌝ }
@@ -42,7 +42,7 @@ fn upward(first: usize, j: usize) -> usize
 // One register more that a write named. What is told already is newer.
 fn marked(r: usize, mark: u8, byte: u8, marks: &mut [u8], sent: &mut [u8])
     requires { ⌜ (0 < mark) × (length (now marks) ≡ 32) × (length (now sent) ≡ 32) ⌝ }
-    ensures { λ _. ⌜ told (now (marks .exit)) (now (sent .exit)) ≡ over (only r (tell mark byte)) 0 (told (now (marks .entry)) (now (sent .entry))) ⌝ }
+    ensures { λ _. ⌜ knownAll (now (marks .exit)) (now (sent .exit)) ≡ over (only r (knownAs mark byte)) 0 (knownAll (now (marks .entry)) (now (sent .entry))) ⌝ }
 {
     if r < 5 {
         return;
@@ -60,7 +60,7 @@ fn marked(r: usize, mark: u8, byte: u8, marks: &mut [u8], sent: &mut [u8])
 // One entry more, older than those before it: the registers that it names upward from its first byte.
 fn noted(e: Entry, address: u8, marks: &mut [u8], sent: &mut [u8])
     requires { ⌜ (e .n ≤ 8) × (length (now marks) ≡ 32) × (length (now sent) ≡ 32) ⌝ }
-    ensures { λ _. ⌜ told (now (marks .exit)) (now (sent .exit)) ≡ over (tellsOf address (e ∷ [])) 0 (told (now (marks .entry)) (now (sent .entry))) ⌝ }
+    ensures { λ _. ⌜ knownAll (now (marks .exit)) (now (sent .exit)) ≡ over (knownIn address (e ∷ [])) 0 (knownAll (now (marks .entry)) (now (sent .entry))) ⌝ }
 {
     if e.kind != transcript::I2C_WRITE {
         return;
@@ -83,8 +83,8 @@ fn noted(e: Entry, address: u8, marks: &mut [u8], sent: &mut [u8])
 fn noted_all(s: &[u8], start: usize, count: usize, address: u8, marks: &mut [u8], sent: &mut [u8])
     requires { ⌜ (count ≤ 4096) × (start + 16 * count ≤ length (now s)) × (allFit count (drop start (now s)) ≡ true)
         × ((length (now marks) ≡ 32) × (length (now sent) ≡ 32)) ⌝ }
-    ensures { λ _. ⌜ told (now (marks .exit)) (now (sent .exit))
-        ≡ over (tellsOf address (entriesIn count (drop start (now (s .entry))))) 0 (told (now (marks .entry)) (now (sent .entry))) ⌝ }
+    ensures { λ _. ⌜ knownAll (now (marks .exit)) (now (sent .exit))
+        ≡ over (knownIn address (entriesIn count (drop start (now (s .entry))))) 0 (knownAll (now (marks .entry)) (now (sent .entry))) ⌝ }
 {
     let mut i = count;
     while 0 < i {
@@ -98,8 +98,8 @@ fn noted_all(s: &[u8], start: usize, count: usize, address: u8, marks: &mut [u8]
 // tell.
 fn walked(s: &[u8], address: u8, marks: &mut [u8], sent: &mut [u8]) -> u8
     requires { ⌜ (length (now marks) ≡ 32) × (length (now sent) ≡ 32) ⌝ }
-    ensures { λ r. ⌜ (r ≡ refusedBy (now (s .entry))) × (chain (now (s .entry)) ≡ true → told (now (marks .exit)) (now (sent .exit))
-        ≡ over (tellsOf address (chainEntries (now (s .entry)))) 0 (told (now (marks .entry)) (now (sent .entry)))) ⌝ }
+    ensures { λ r. ⌜ (r ≡ refusedBy (now (s .entry))) × (chain (now (s .entry)) ≡ true → knownAll (now (marks .exit)) (now (sent .exit))
+        ≡ over (knownIn address (chainEntries (now (s .entry)))) 0 (knownAll (now (marks .entry)) (now (sent .entry)))) ⌝ }
 {
     let mut end = s.len();
     while 0 < end {
@@ -153,7 +153,7 @@ fn run_len(marks: &[u8], i: usize) -> usize
 }
 
 // The byte that a sure register was left with; else 0.
-fn held<'a>(marks: &'a [u8], sent: &'a [u8], r: usize) -> u8
+fn byte_held<'a>(marks: &'a [u8], sent: &'a [u8], r: usize) -> u8
     ensures { λ b. ⌜ b ≡ heldOf (now (marks .entry)) (now (sent .entry)) r ⌝ }
 {
     if sent.len() <= r {
@@ -165,7 +165,7 @@ fn held<'a>(marks: &'a [u8], sent: &'a [u8], r: usize) -> u8
     0
 }
 
-// The byte at place j of a run of m from i on, and zeros behind the run.
+// The byte at place j of a run of m from i on, and zeros after the run.
 fn byte_at<'a>(marks: &'a [u8], sent: &'a [u8], i: usize, m: usize, j: usize) -> u8
     requires { ⌜ (i < 32) × (j < 7) ⌝ }
     ensures { λ r. ⌜ r ≡ slot (heldOf (now (marks .entry)) (now (sent .entry))) i m j ⌝ }
@@ -173,13 +173,13 @@ fn byte_at<'a>(marks: &'a [u8], sent: &'a [u8], i: usize, m: usize, j: usize) ->
     if m <= j {
         return 0;
     }
-    held(marks, sent, i + j)
+    byte_held(marks, sent, i + j)
 }
 
 // The write of a run: its first register, the run's bytes and zeros.
 fn write_of<'a>(address: u8, marks: &'a [u8], sent: &'a [u8], i: usize, m: usize) -> Entry
     requires { ⌜ (i < 32) × (m ≤ 7) ⌝ }
-    ensures { λ r. ⌜ r ≡ writeOf address (heldOf (now (marks .entry)) (now (sent .entry))) (run i m) ⌝ }
+    ensures { λ r. ⌜ r ≡ writeOf address (heldOf (now (marks .entry)) (now (sent .entry))) (runOf i m) ⌝ }
 {
     Entry {
         kind: transcript::I2C_WRITE,

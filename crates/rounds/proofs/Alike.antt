@@ -12,9 +12,9 @@ use Rattle.transcript.specs.declared.Entry.{Entry}
 use Rattle.transcript.specs.Entries.{bare, zeros8}
 use Rattle.transcript.specs.Table.{isRead}
 use Rattle.chip.specs.declared.Chip.{Chip}
-use Rattle.chip.specs.declared.Went.the-variants.{Going}
-use Rattle.chip.specs.Entries.{repeater, settled}
-use Rattle.chip.specs.Steps.{Step, Trace, acts, emit, every, goes, inList, inner, line, okFor, run, step, taken, toldOf, trace}
+use Rattle.chip.specs.declared.Progress.the-variants.{Going}
+use Rattle.chip.specs.Entries.{repeater, withOutcome}
+use Rattle.chip.specs.Steps.{Step, Trace, acts, emit, every, goes, inList, inner, line, okFor, run, step, taken, progressOf, trace}
 use Rattle.chip.specs.Steps.Step.{Open, Close, Send, Mask, Plain}
 use Rattle.chip.proofs.Laws.{active, and-left, and-right, idle}
 use Rattle.history.proofs.Cuts.{emit-bare, ok-same}
@@ -119,20 +119,20 @@ zeros-failed true xs = refl
 zeros-failed false xs = refl
 
 -- how a step went is not part of it
-bare-settled : (e : Entry) (ok : Bool) → bare (settled e ok) ≡ bare e
+bare-settled : (e : Entry) (ok : Bool) → bare (withOutcome e ok) ≡ bare e
 bare-settled e ok = ap (withData e 0) (zeros-once (isRead (e .kind)) (not ok) (e .bytes))
 
 -- nor is its data part of a read that failed
-bare-failed : (e : Entry) → settled e false ≡ withData (bare e) 1 (bare e .bytes)
+bare-failed : (e : Entry) → withOutcome e false ≡ withData (bare e) 1 (bare e .bytes)
 bare-failed e = ap (withData e 1) (zeros-failed (isRead (e .kind)) (e .bytes))
 
-same-failed : (d e : Entry) → bare d ≡ bare e → settled d false ≡ settled e false
+same-failed : (d e : Entry) → bare d ≡ bare e → withOutcome d false ≡ withOutcome e false
 same-failed d e h = bare-failed d ∙ ap (λ (x : Entry). withData x 1 (x .bytes)) h ∙ sym (bare-failed e)
 
 -- a done read takes its n
-pub took-read : (es : List Entry) (e : Entry) → isRead (e .kind) ≡ true → took (es ++ (settled e true ∷ [])) ≡ took es + e .n
+pub took-read : (es : List Entry) (e : Entry) → isRead (e .kind) ≡ true → took (es ++ (withOutcome e true ∷ [])) ≡ took es + e .n
 unfolding took
-took-read es e r = took-append es (settled e true ∷ []) ∙ rw r (omega arith)
+took-read es e r = took-append es (withOutcome e true ∷ []) ∙ rw r (omega arith)
 
 bare-any : (s : Step) (c : Chip) (a b : Bool) → bare (emit s c a) ≡ bare (emit s c b)
 bare-any s c true true = refl
@@ -153,22 +153,22 @@ module _ (os : List ℕ) where
   abbrev pub shutting : Trace → List Entry
   shutting t = repeater 0 (okFor os (t .count) Close) ∷ []
 
-  held-log : (ss : List Step) (t : Trace) → goes (t .went) ≡ false → t .held ≡ true → run inList os ss t .log ≡ t .log ++ cond (shuts ss) (shutting t) []
+  opened-log : (ss : List Step) (t : Trace) → goes (t .progress) ≡ false → t .opened ≡ true → run inList os ss t .log ≡ t .log ++ cond (shuts ss) (shutting t) []
   unfolding run shuts
-  held-log [] t g h = sym (append-nil (t .log))
-  held-log (Open ∷ ss) t g h = ap (λ (u : Trace). run inList os ss u .log) (sym (idle inList os Open t g)) ∙ held-log ss t g h
-  held-log (Close ∷ ss) t g h =
+  opened-log [] t g h = sym (append-nil (t .log))
+  opened-log (Open ∷ ss) t g h = ap (λ (u : Trace). run inList os ss u .log) (sym (idle inList os Open t g)) ∙ opened-log ss t g h
+  opened-log (Close ∷ ss) t g h =
       ap (λ (u : Trace). run inList os ss u .log) (sym (active inList os Close t h))
       ∙ sym (ap (λ (u : Trace). u .log) (shut-run os ss (taken inList os (okFor os (t .count) Close) Close t) g refl))
-  held-log (Send n bytes ∷ ss) t g h = ap (λ (u : Trace). run inList os ss u .log) (sym (idle inList os (Send n bytes) t g)) ∙ held-log ss t g h
-  held-log (Mask r v m ∷ ss) t g h = ap (λ (u : Trace). run inList os ss u .log) (sym (idle inList os (Mask r v m) t g)) ∙ held-log ss t g h
-  held-log (Plain e ∷ ss) t g h = ap (λ (u : Trace). run inList os ss u .log) (sym (idle inList os (Plain e) t g)) ∙ held-log ss t g h
+  opened-log (Send n bytes ∷ ss) t g h = ap (λ (u : Trace). run inList os ss u .log) (sym (idle inList os (Send n bytes) t g)) ∙ opened-log ss t g h
+  opened-log (Mask r v m ∷ ss) t g h = ap (λ (u : Trace). run inList os ss u .log) (sym (idle inList os (Mask r v m) t g)) ∙ opened-log ss t g h
+  opened-log (Plain e ∷ ss) t g h = ap (λ (u : Trace). run inList os ss u .log) (sym (idle inList os (Plain e) t g)) ∙ opened-log ss t g h
 
-  pub stopped-log : (ss : List Step) (t : Trace) → goes (t .went) ≡ false → run inList os ss t .log ≡ t .log ++ cond (t .held && shuts ss) (shutting t) []
-  stopped-log ss t g = go (t .held) refl
+  pub stopped-log : (ss : List Step) (t : Trace) → goes (t .progress) ≡ false → run inList os ss t .log ≡ t .log ++ cond (t .opened && shuts ss) (shutting t) []
+  stopped-log ss t g = go (t .opened) refl
     where
-      go : (b : Bool) → t .held ≡ b → run inList os ss t .log ≡ t .log ++ cond (t .held && shuts ss) (shutting t) []
-      go true h = held-log ss t g h ∙ ap (λ (c : Bool). t .log ++ cond (c && shuts ss) (shutting t) []) (sym h)
+      go : (b : Bool) → t .opened ≡ b → run inList os ss t .log ≡ t .log ++ cond (t .opened && shuts ss) (shutting t) []
+      go true h = opened-log ss t g h ∙ ap (λ (c : Bool). t .log ++ cond (c && shuts ss) (shutting t) []) (sym h)
       go false h =
           sym (ap (λ (u : Trace). u .log) (shut-run os ss t g h))
           ∙ sym (append-nil (t .log))
@@ -189,7 +189,7 @@ module _ (os us : List ℕ) (i k : ℕ) (agree : take i os ≡ take i us) where
 
   -- entry i, or a later one, is made: whatever follows, and whatever the outcome
   parted : (s z : Step) (ss ts : List Step) (t : Trace) → t .count ≡ length (t .log) → i ≤ t .count
-      → acts s (t .went) (t .held) ≡ true → acts z (t .went) (t .held) ≡ true
+      → acts s (t .progress) (t .opened) ≡ true → acts z (t .progress) (t .opened) ≡ true
       → ((b c : Bool) → bare (emit s (t .chip) b) ≡ bare (emit z (t .chip) c))
       → Both ss ts (step inList os s t) (step inList us z t)
   parted s z ss ts t n h a b e =
@@ -210,17 +210,17 @@ module _ (os us : List ℕ) (i k : ℕ) (agree : take i os ≡ take i us) where
           subst (λ (j : ℕ). Same j (t .log ++ (x ∷ xs)) (t .log ++ (y ∷ ys))) is (same-here (t .log) x y xs ys f)
 
   -- a step that both take, with the same outcome
-  passed : (s : Step) (ss ts : List Step) (t : Trace) (b : Bool) → okFor os (t .count) s ≡ b → t .count < i → acts s (t .went) (t .held) ≡ true
+  passed : (s : Step) (ss ts : List Step) (t : Trace) (b : Bool) → okFor os (t .count) s ≡ b → t .count < i → acts s (t .progress) (t .opened) ≡ true
       → Both ss ts (taken inList os b s t) (taken inList us b s t) → Both ss ts (step inList os s t) (step inList us s t)
   passed s ss ts t b o l a h =
       both-moved ss ts _ _ _ _ (ap (λ (c : Bool). taken inList os c s t) (sym o) ∙ active inList os s t a)
       (ap (λ (c : Bool). taken inList us c s t) (sym (sym (ok-same os us (t .count) s (told (t .count) l)) ∙ o)) ∙ active inList us s t a) h
 
   -- after a failed step
-  stopped : (ss ts : List Step) (t : Trace) → t .count ≡ length (t .log) → goes (t .went) ≡ false → shuts ss ≡ shuts ts → Both ss ts t t
+  stopped : (ss ts : List Step) (t : Trace) → t .count ≡ length (t .log) → goes (t .progress) ≡ false → shuts ss ≡ shuts ts → Both ss ts t t
   stopped ss ts t n g h =
-      same-moved i _ _ _ _ (sym (stopped-log os ss t g)) (ap (λ (b : Bool). t .log ++ cond (t .held && b) (shutting us t) []) h ∙ sym (stopped-log us ts t g))
-      (go (t .held && shuts ss) (ltb i (t .count)) refl (ltb (t .count) i) refl)
+      same-moved i _ _ _ _ (sym (stopped-log os ss t g)) (ap (λ (b : Bool). t .log ++ cond (t .opened && b) (shutting us t) []) h ∙ sym (stopped-log us ts t g))
+      (go (t .opened && shuts ss) (ltb i (t .count)) refl (ltb (t .count) i) refl)
     where
       go : (b c : Bool) → ltb i (t .count) ≡ c → (d : Bool) → ltb (t .count) i ≡ d
           → Same i (t .log ++ cond b (shutting os t) []) (t .log ++ cond b (shutting us t) [])
@@ -240,9 +240,9 @@ module _ (os us : List ℕ) (i k : ℕ) (agree : take i os ≡ take i us) where
     Rest = (v : Trace) → v .count ≡ length (v .log) → took (t .log) ≤ took (v .log) → took (take i (run inList os ss v .log)) ≤ k → Both ss ts v v
 
     same-step : Rest → took (take i (run inList os ss (step inList os s t) .log)) ≤ k → Both ss ts (step inList os s t) (step inList us s t)
-    same-step rest h = go (acts s (t .went) (t .held)) refl (ltb (t .count) i) refl
+    same-step rest h = go (acts s (t .progress) (t .opened)) refl (ltb (t .count) i) refl
       where
-        go : (b : Bool) → acts s (t .went) (t .held) ≡ b → (c : Bool) → ltb (t .count) i ≡ c → Both ss ts (step inList os s t) (step inList us s t)
+        go : (b : Bool) → acts s (t .progress) (t .opened) ≡ b → (c : Bool) → ltb (t .count) i ≡ c → Both ss ts (step inList os s t) (step inList us s t)
         go false a c l =
             both-moved ss ts t _ t _ (idle inList os s t a) (idle inList us s t a)
             (rest t n (omega arith) (subst (λ (u : Trace). took (take i (run inList os ss u .log)) ≤ k) (sym (idle inList os s t a)) h))
@@ -260,26 +260,26 @@ module _ (os us : List ℕ) (i k : ℕ) (agree : take i os ≡ take i us) where
     read-step : (at : ℕ) → at ≤ took (t .log) → (at + d .n ≤ k → d ≡ e)
         → (at + d .n ≤ k → (v : Trace) → v .count ≡ length (v .log) → at + d .n ≤ took (v .log) → took (take i (run inList os ss v .log)) ≤ k → Both ss ts v v)
         → took (take i (run inList os ss (step inList os (Plain d) t) .log)) ≤ k → Both ss ts (step inList os (Plain d) t) (step inList us (Plain e) t)
-    read-step at m one rest h = go (goes (t .went)) refl (ltb (t .count) i) refl (okFor os (t .count) (Plain d)) refl
+    read-step at m one rest h = go (goes (t .progress)) refl (ltb (t .count) i) refl (okFor os (t .count) (Plain d)) refl
       where
-        here : goes (t .went) ≡ true → (ok : Bool) → okFor os (t .count) (Plain d) ≡ ok → taken inList os ok (Plain d) t ≡ step inList os (Plain d) t
+        here : goes (t .progress) ≡ true → (ok : Bool) → okFor os (t .count) (Plain d) ≡ ok → taken inList os ok (Plain d) t ≡ step inList os (Plain d) t
         here a ok o = ap (λ (c : Bool). taken inList os c (Plain d) t) (sym o) ∙ active inList os (Plain d) t a
 
-        there : goes (t .went) ≡ true → ltb (t .count) i ≡ true → (ok : Bool) → okFor os (t .count) (Plain d) ≡ ok
+        there : goes (t .progress) ≡ true → ltb (t .count) i ≡ true → (ok : Bool) → okFor os (t .count) (Plain d) ≡ ok
             → taken inList us ok (Plain e) t ≡ step inList us (Plain e) t
         there a l ok o =
             let kinds : okFor us (t .count) (Plain d) ≡ okFor us (t .count) (Plain e) = ap (λ (x : Entry). eqb (getD us (t .count) 0) 0 || eqb (x .kind) 9) b in
             let told-so : ok ≡ okFor us (t .count) (Plain e) = sym o ∙ ok-same os us (t .count) (Plain d) (told (t .count) (ltb-true (t .count) i l)) ∙ kinds in
             ap (λ (c : Bool). taken inList us c (Plain e) t) told-so ∙ active inList us (Plain e) t a
 
-        go : (g : Bool) → goes (t .went) ≡ g → (c : Bool) → ltb (t .count) i ≡ c → (ok : Bool) → okFor os (t .count) (Plain d) ≡ ok
+        go : (g : Bool) → goes (t .progress) ≡ g → (c : Bool) → ltb (t .count) i ≡ c → (ok : Bool) → okFor os (t .count) (Plain d) ≡ ok
             → Both ss ts (step inList os (Plain d) t) (step inList us (Plain e) t)
         go false a c l ok o = both-moved ss ts t _ t _ (idle inList os (Plain d) t a) (idle inList us (Plain e) t a) (stopped ss ts t n a q)
         go true a false l ok o =
             parted (Plain d) (Plain e) ss ts t n (ltb-false (t .count) i l) a a (λ x y. bare-settled d x ∙ b ∙ sym (bare-settled e y))
         go true a true l false o =
             let v : Trace = taken inList os false (Plain d) t in
-            let alike : v ≡ taken inList us false (Plain e) t = ap (λ (x : Entry). line (t .chip) (t .log ++ (x ∷ [])) (t .count + 1) (toldOf false (t .count)) (t .held)) (same-failed d e b) in
+            let alike : v ≡ taken inList us false (Plain e) t = ap (λ (x : Entry). line (t .chip) (t .log ++ (x ∷ [])) (t .count + 1) (progressOf false (t .count)) (t .opened)) (same-failed d e b) in
             both-moved ss ts v _ v _ (here a false o) (alike ∙ there a l false o) (stopped ss ts v (counted-taken os (Plain d) t false n) refl q)
         go true a true l true o =
             let v : Trace = taken inList os true (Plain d) t in

@@ -13,7 +13,7 @@ use Rattle.transcript.specs.Entries.{bare, zeros8}
 use Rattle.transcript.specs.Table.{isRead}
 use Rattle.attempts.specs.Attempts.{done}
 use Rattle.chip.specs.declared.Chip.{Chip}
-use Rattle.chip.specs.declared.Went.the-variants.{Going}
+use Rattle.chip.specs.declared.Progress.the-variants.{Going}
 use Rattle.chip.specs.Entries.{flagOf}
 use Rattle.chip.specs.Courses.{Asked, entriesBy}
 use Rattle.chip.specs.Steps.{Step, Trace, emit, every, line, okFor, trace}
@@ -26,12 +26,12 @@ use Rattle.history.proofs.Tracked.{done-flag}
 use Rattle.r82xx.specs.declared.Tuner.{Tuner}
 use Rattle.sequences.specs.Asides.{Other, aside, asideAsked, asideGiven, asideMost}
 use Rattle.sequences.specs.Asides.Other.{Pin, Demod}
-use Rattle.sequences.specs.Calls.{Call, Order, after, asked, call, given, isByte}
+use Rattle.sequences.specs.Calls.{Call, Order, tunerAfter, asked, call, given, isByte}
 use Rattle.sequences.specs.Sequences.{Sequence}
 use Rattle.sequences.specs.Sequences.Sequence.{next, between}
 use Rattle.sequences.proofs.Most.{most-aside, most-entries}
 use Rattle.sequences.proofs.Views.{row-few}
-use Rattle.rounds.specs.Driven.{Knows, Rounds, Told, ended}
+use Rattle.rounds.specs.Driven.{Knows, Rounds, Continued, ended}
 use Rattle.rounds.specs.Driven.Rounds.{begun, round}
 use Rattle.rounds.specs.Scripts.{Agree, Ask, By, Fills, InOrder, Same, Script, made, orderWith, otherWith, stepAt, takes, took}
 use Rattle.rounds.specs.Scripts.Ask.{On, Beside}
@@ -207,7 +207,7 @@ same-ended x e o bs b by h =
 -- ---- rounds
 
 module _ (a : Ask) where
-  module _ (os rs : List ℕ) (es : List Entry) (s : Script) (known : Knows a os rs s) (told-s : Told a os rs es s) where
+  module _ (os rs : List ℕ) (es : List Entry) (s : Script) (known : Knows a os rs s) (told-s : Continued a os rs es s) where
     -- another script with what is known
     known-alike : (u : Script) → Knows a os rs u → Same (length os) (made a s) (made a u)
     known-alike u k =
@@ -216,8 +216,8 @@ module _ (a : Ask) where
 
     -- one round more
     told-round : (e : Entry) → stepAt (length os) (made a s) ≡ e ∷ [] → (o : ℕ) (bs : List ℕ) → length bs ≡ cond (isRead (e .kind) && eqb o 0) (e .n) 0
-        → every isByte bs ≡ true → (u : Script) → Knows a (os ++ (o ∷ [])) (rs ++ bs) u → Told a os rs es u
-        → Told a (os ++ (o ∷ [])) (rs ++ bs) (es ++ (ended e o bs ∷ [])) u
+        → every isByte bs ≡ true → (u : Script) → Knows a (os ++ (o ∷ [])) (rs ++ bs) u → Continued a os rs es u
+        → Continued a (os ++ (o ∷ [])) (rs ++ bs) (es ++ (ended e o bs ∷ [])) u
     unfolding took
     told-round e here o bs b small u k told-u =
         let i : ℕ = length os in
@@ -253,7 +253,7 @@ module _ (a : Ask) where
         }
 
   -- "call with what is known so far": after i rounds the first i entries of every script with what is known are what was done
-  pub told : (os rs : List ℕ) (es : List Entry) → Rounds a os rs es → (s : Script) → Knows a os rs s → Told a os rs es s
+  pub told : (os rs : List ℕ) (es : List Entry) → Rounds a os rs es → (s : Script) → Knows a os rs s → Continued a os rs es s
   unfolding took
   told os rs es begun u k = record { entries = refl; replies = refl }
   told xs ys zs (round os rs es r s known e here o bs b small) u k =
@@ -284,10 +284,10 @@ module _ (a : Ask) where
 
 module _ (t : Tuner) (es : List Entry) (q : Sequence t es) (os rs : List ℕ) (ds : List Entry) (s : Script) where
   pub driven-next : (o : Order) → Rounds (On o t) os rs ds → Knows (On o t) os rs s → stepAt (length os) (made (On o t) s) ≡ []
-      → given (orderWith (s .replies) o) t ≡ true → Sequence (after (call (orderWith (s .replies) o) (s .outcomes) (s .room)) t) (es ++ ds)
+      → given (orderWith (s .replies) o) t ≡ true → Sequence (tunerAfter (call (orderWith (s .replies) o) (s .outcomes) (s .room)) t) (es ++ ds)
   driven-next o r k h g =
       let last : Call = call (orderWith (s .replies) o) (s .outcomes) (s .room) in
-      subst (λ (l : List Entry). Sequence (after last t) (es ++ l)) (all-taken (On o t) os rs ds r s s k k h .0) (next t es q last g)
+      subst (λ (l : List Entry). Sequence (tunerAfter last t) (es ++ l)) (all-taken (On o t) os rs ds r s s k k h .0) (next t es q last g)
 
   pub driven-between : (o : Other) → Rounds (Beside o) os rs ds → Knows (Beside o) os rs s → stepAt (length os) (made (Beside o) s) ≡ []
       → asideGiven (otherWith (s .replies) o) ≡ true → Sequence t (es ++ ds)

@@ -8,10 +8,10 @@ use borrow.Author.Tests.{not-true}
 use Rattle.transcript.specs.declared.Entry.{Entry}
 use Rattle.transcript.specs.Table.{isRead}
 use Rattle.chip.specs.declared.Chip.{Chip}
-use Rattle.chip.specs.declared.Went.{Went}
-use Rattle.chip.specs.declared.Went.the-variants.{Going}
-use Rattle.chip.specs.Entries.{repeater, settled}
-use Rattle.chip.specs.Steps.{Step, Trace, acts, emit, goes, inList, line, okFor, run, step, taken, trace, wentFor}
+use Rattle.chip.specs.declared.Progress.{Progress}
+use Rattle.chip.specs.declared.Progress.the-variants.{Going}
+use Rattle.chip.specs.Entries.{repeater, withOutcome}
+use Rattle.chip.specs.Steps.{Step, Trace, acts, emit, goes, inList, line, okFor, run, step, taken, trace, progressFor}
 use Rattle.chip.specs.Steps.Step.{Open, Close, Send, Mask, Plain}
 use Rattle.chip.proofs.Laws.{active, idle}
 use Rattle.history.proofs.Runs.{run-log}
@@ -27,12 +27,12 @@ mute-emit (Send n bytes) c ok m = refl
 mute-emit (Mask r v x) c ok m = refl
 mute-emit (Plain e) c ok m = not-true (isRead (e .kind)) m
 
-was-going : (s : Step) (ok : Bool) (k : ℕ) (went : Went) (held : Bool) → acts s went held ≡ true → goes (wentFor s ok k went) ≡ true → goes went ≡ true
-was-going Open ok k went held a h = a
-was-going Close ok k went held a h = h
-was-going (Send n bytes) ok k went held a h = a
-was-going (Mask r v m) ok k went held a h = a
-was-going (Plain e) ok k went held a h = a
+was-going : (s : Step) (ok : Bool) (k : ℕ) (progress : Progress) (opened : Bool) → acts s progress opened ≡ true → goes (progressFor s ok k progress) ≡ true → goes progress ≡ true
+was-going Open ok k progress opened a h = a
+was-going Close ok k progress opened a h = h
+was-going (Send n bytes) ok k progress opened a h = a
+was-going (Mask r v m) ok k progress opened a h = a
+was-going (Plain e) ok k progress opened a h = a
 
 took-past : (es : List Entry) (e : Entry) → isRead (e .kind) ≡ false → took (es ++ (e ∷ [])) ≡ took es
 unfolding took
@@ -54,16 +54,16 @@ module _ (qs : List ℕ) where
   order-past es e o h = order-next 0 es e o (λ r. absurd (false≢true (sym h ∙ r)))
 
   -- a failed read has zeros, and a done one its replies
-  failed-fills : (at : ℕ) (d : Entry) → isRead (d .kind) ≡ true → Fills qs at (takes (settled d false)) (settled d false .bytes)
+  failed-fills : (at : ℕ) (d : Entry) → isRead (d .kind) ≡ true → Fills qs at (takes (withOutcome d false)) (withOutcome d false .bytes)
   failed-fills at d r = rw r (λ h. refl)
 
-  done-fills : (at : ℕ) (d : Entry) → isRead (d .kind) ≡ true → Fills qs at (d .n) (d .bytes) → Fills qs at (takes (settled d true)) (settled d true .bytes)
+  done-fills : (at : ℕ) (d : Entry) → isRead (d .kind) ≡ true → Fills qs at (d .n) (d .bytes) → Fills qs at (takes (withOutcome d true)) (withOutcome d true .bytes)
   done-fills at d r f = rw r f
 
   module _ (os : List ℕ) (k : ℕ) where
     -- after a failed step
-    order-stopped : (ss : List Step) (t : Trace) → goes (t .went) ≡ false → InOrder qs 0 (t .log) → InOrder qs 0 (run inList os ss t .log)
-    order-stopped ss t g o = subst (InOrder qs 0) (sym (stopped-log os ss t g)) (go (t .held && shuts ss))
+    order-stopped : (ss : List Step) (t : Trace) → goes (t .progress) ≡ false → InOrder qs 0 (t .log) → InOrder qs 0 (run inList os ss t .log)
+    order-stopped ss t g o = subst (InOrder qs 0) (sym (stopped-log os ss t g)) (go (t .opened && shuts ss))
       where
         go : (b : Bool) → InOrder qs 0 (t .log ++ cond b (shutting os t) [])
         go true = order-past (t .log) (repeater 0 (okFor os (t .count) Close)) o refl
@@ -71,7 +71,7 @@ module _ (qs : List ℕ) where
 
     -- `at` replies were taken, as long as no step failed
     abbrev Counts : ℕ → Trace → Type 0
-    Counts at t = goes (t .went) ≡ true → at ≡ took (t .log)
+    Counts at t = goes (t .progress) ≡ true → at ≡ took (t .log)
 
     -- what is left of a program, from where `at` replies were taken
     abbrev Rest : ℕ → List Step → Type 0
@@ -79,7 +79,7 @@ module _ (qs : List ℕ) where
 
     order-same : (at : ℕ) (s : Step) (ss : List Step) → mute s ≡ true → Rest at ss
         → (t : Trace) → Counts at t → took (run inList os ss (step inList os s t) .log) ≤ k → InOrder qs 0 (t .log) → InOrder qs 0 (run inList os ss (step inList os s t) .log)
-    order-same at s ss m rest t c h o = go (acts s (t .went) (t .held)) refl
+    order-same at s ss m rest t c h o = go (acts s (t .progress) (t .opened)) refl
       where
         ok : Bool
         ok = okFor os (t .count) s
@@ -87,29 +87,29 @@ module _ (qs : List ℕ) where
         quiet : isRead (emit s (t .chip) ok .kind) ≡ false
         quiet = mute-emit s (t .chip) ok m
 
-        go : (b : Bool) → acts s (t .went) (t .held) ≡ b → InOrder qs 0 (run inList os ss (step inList os s t) .log)
+        go : (b : Bool) → acts s (t .progress) (t .opened) ≡ b → InOrder qs 0 (run inList os ss (step inList os s t) .log)
         go false a =
             subst (λ (u : Trace). InOrder qs 0 (run inList os ss u .log)) (idle inList os s t a)
             (rest t c (subst (λ (u : Trace). took (run inList os ss u .log) ≤ k) (sym (idle inList os s t a)) h) o)
         go true a =
             subst (λ (u : Trace). InOrder qs 0 (run inList os ss u .log)) (active inList os s t a)
-            (rest (taken inList os ok s t) (λ g. c (was-going s ok (t .count) (t .went) (t .held) a g) ∙ sym (took-past (t .log) (emit s (t .chip) ok) quiet))
+            (rest (taken inList os ok s t) (λ g. c (was-going s ok (t .count) (t .progress) (t .opened) a g) ∙ sym (took-past (t .log) (emit s (t .chip) ok) quiet))
             (subst (λ (u : Trace). took (run inList os ss u .log) ≤ k) (sym (active inList os s t a)) h)
             (order-past (t .log) (emit s (t .chip) ok) o quiet))
 
     order-read : (at : ℕ) (d : Entry) (ss : List Step) → isRead (d .kind) ≡ true → Fills qs at (d .n) (d .bytes) → (at + d .n ≤ k → Rest (at + d .n) ss)
         → (t : Trace) → Counts at t → took (run inList os ss (step inList os (Plain d) t) .log) ≤ k → InOrder qs 0 (t .log)
         → InOrder qs 0 (run inList os ss (step inList os (Plain d) t) .log)
-    order-read at d ss r f rest t c h o = go (goes (t .went)) refl (okFor os (t .count) (Plain d)) refl
+    order-read at d ss r f rest t c h o = go (goes (t .progress)) refl (okFor os (t .count) (Plain d)) refl
       where
-        here : goes (t .went) ≡ true → (ok : Bool) → okFor os (t .count) (Plain d) ≡ ok → taken inList os ok (Plain d) t ≡ step inList os (Plain d) t
+        here : goes (t .progress) ≡ true → (ok : Bool) → okFor os (t .count) (Plain d) ≡ ok → taken inList os ok (Plain d) t ≡ step inList os (Plain d) t
         here a ok e = ap (λ (b : Bool). taken inList os b (Plain d) t) (sym e) ∙ active inList os (Plain d) t a
 
-        go : (b : Bool) → goes (t .went) ≡ b → (ok : Bool) → okFor os (t .count) (Plain d) ≡ ok → InOrder qs 0 (run inList os ss (step inList os (Plain d) t) .log)
+        go : (b : Bool) → goes (t .progress) ≡ b → (ok : Bool) → okFor os (t .count) (Plain d) ≡ ok → InOrder qs 0 (run inList os ss (step inList os (Plain d) t) .log)
         go false a ok e = subst (λ (u : Trace). InOrder qs 0 (run inList os ss u .log)) (idle inList os (Plain d) t a) (order-stopped ss t a o)
         go true a false e =
             subst (λ (u : Trace). InOrder qs 0 (run inList os ss u .log)) (here a false e)
-            (order-stopped ss (taken inList os false (Plain d) t) refl (order-next 0 (t .log) (settled d false) o (λ x. failed-fills (0 + took (t .log)) d r)))
+            (order-stopped ss (taken inList os false (Plain d) t) refl (order-next 0 (t .log) (withOutcome d false) o (λ x. failed-fills (0 + took (t .log)) d r)))
         go true a true e =
             let v : Trace = taken inList os true (Plain d) t in
             let more : took (v .log) ≡ took (t .log) + d .n = took-read (t .log) d r in
@@ -120,7 +120,7 @@ module _ (qs : List ℕ) where
             let place : at ≡ 0 + took (t .log) = omega arith in
             subst (λ (u : Trace). InOrder qs 0 (run inList os ss u .log)) (here a true e)
             (rest known v (λ g. omega arith) all
-            (order-next 0 (t .log) (settled d true) o (λ x. done-fills (0 + took (t .log)) d r (subst (λ (j : ℕ). Fills qs j (d .n) (d .bytes)) place f))))
+            (order-next 0 (t .log) (withOutcome d true) o (λ x. done-fills (0 + took (t .log)) d r (subst (λ (j : ℕ). Fills qs j (d .n) (d .bytes)) place f))))
 
     order-run : {at : ℕ} {ss ts : List Step} → Alike k qs at ss ts → Rest at ss
     unfolding run

@@ -17,7 +17,7 @@ use Rattle.board.specs.declared.Route.the-variants.{By, Direct}
 use Rattle.boards.specs.Hops.{ddcPart, hopSteps, pathPart, pathReplies}
 use Rattle.chip.specs.declared.Update.{Update}
 use Rattle.chip.specs.Entries.{pointer, readEntry, wait}
-use Rattle.chip.specs.Steps.{Step, behind, every, updates}
+use Rattle.chip.specs.Steps.{Step, whileOpen, every, updates}
 use Rattle.chip.specs.Steps.Step.{Open, Close, Plain}
 use Rattle.chip.proofs.Laws.{and-left}
 use Rattle.demod.specs.Programs.{ddcSteps}
@@ -73,7 +73,7 @@ mute-after : (i : ℕ) → every mute (afterTry i) ≡ true
 unfolding every
 mute-after i = every-app mute (updates (again i)) (Plain (wait 1) ∷ []) (mute-updates (again i)) refl
 
-pub mute-bracket : (us : List Update) → every mute (behind (updates us)) ≡ true
+pub mute-bracket : (us : List Update) → every mute (whileOpen (updates us)) ≡ true
 unfolding every
 mute-bracket us = every-app mute (updates us) (Close ∷ []) (mute-updates us) refl
 

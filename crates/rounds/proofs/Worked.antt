@@ -4,7 +4,7 @@ use mathlib.Core.Path.{_≡_, refl}
 use mathlib.Core.List.{List, [], _∷_}
 use lib.ListN.{replicate}
 use Rattle.transcript.specs.declared.Entry.{Entry}
-use Rattle.chip.specs.Calls.{lentOf}
+use Rattle.chip.specs.Calls.{tooShort}
 use Rattle.chip.specs.Steps.{every, run, step, trace}
 use Rattle.device.specs.Accesses.{accessStep, blockWrite}
 use Rattle.device.specs.Gpio.{bitSteps, withBit}
@@ -28,7 +28,7 @@ reading = record { kind = 8; outcome = 0; target = 2; n = 1; address = 0x3001; b
 
 -- entry 0 is the read, whatever the script says: nothing stands before it
 pub first-step : (o p a : ℕ) → reading ∷ [] ≡ stepAt 0 (made bit (lent (o ∷ p ∷ []) (a ∷ [])))
-unfolding took trace run step lentOf accessStep bitSteps
+unfolding took trace run step tooShort accessStep bitSteps
 first-step o p a =
     depends-on-before bit 0 (lent (0 ∷ 0 ∷ []) (0 ∷ [])) (lent (o ∷ p ∷ []) (a ∷ []))
     (record { outcomes = refl; replies = refl; refused = refl })
@@ -36,17 +36,17 @@ first-step o p a =
 
 -- entry 1 is what the reply says, however it ends
 pub reply-decides : (p a : ℕ) → stepAt 1 (made bit (lent (0 ∷ p ∷ []) (a ∷ []))) ≡ blockWrite 2 0x3001 (withBit a 5) ∷ []
-unfolding trace run step lentOf accessStep bitSteps
+unfolding trace run step tooShort accessStep bitSteps
 reply-decides p a = refl
 
 -- and there is none where the read failed
 pub outcome-decides : (p a : ℕ) → stepAt 1 (made bit (lent (1 ∷ p ∷ []) (a ∷ []))) ≡ []
-unfolding trace run step lentOf accessStep bitSteps
+unfolding trace run step tooShort accessStep bitSteps
 outcome-decides p a = refl
 
 -- a receiver whose register holds 2 and whose write fails
 pub bit-driven : Rounds bit (0 ∷ 1 ∷ []) (2 ∷ []) (ended reading 0 (2 ∷ []) ∷ ended (blockWrite 2 0x3001 0x22) 1 [] ∷ [])
-unfolding every trace run step lentOf accessStep bitSteps
+unfolding every trace run step tooShort accessStep bitSteps
 bit-driven =
     round (0 ∷ []) (2 ∷ []) (ended reading 0 (2 ∷ []) ∷ [])
     (round [] [] [] begun (lent (0 ∷ 0 ∷ []) (0 ∷ [])) (record { outcomes = refl; replies = refl; taken = refl }) reading refl 0 (2 ∷ []) refl refl)

@@ -44,6 +44,6 @@ pub data Rounds (a : Ask) : List ℕ → List ℕ → List Entry → Type 0 wher
       → Rounds a (os ++ (o ∷ [])) (rs ++ bs) (es ++ (ended e o bs ∷ []))
 
 -- what a script gives after them: the entries so far are what was done, and their reads took the replies so far
-pub record Told (a : Ask) (os rs : List ℕ) (es : List Entry) (s : Script) : Type 0 where
+pub record Continued (a : Ask) (os rs : List ℕ) (es : List Entry) (s : Script) : Type 0 where
   pub entries : take (length os) (made a s) ≡ es
   pub replies : took es ≡ length rs

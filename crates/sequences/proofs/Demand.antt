@@ -3,7 +3,7 @@
 --
 -- In plain words: `Sequence t es` is such a sequence, of any calls that take or hand back a tuner record (refused ones too), with GPIO and demodulator
 -- calls between them; t is the record at its end and es its entries end to end, the very ones that the reader finds in the rooms that the
--- contracts hand back (`section-read`). `Played address es before after` says that a chip that held `before` may hold `after` once es were played
+-- contracts hand back (`section-read`). `Played address es before after` says that a chip that held `before` may hold `tunerAfter` once es were played
 -- on it, by those premises and nothing more. Registers are 5 + i for the record's 27 places. That entries reach a chip over USB, and that no
 -- other host writes it, is premise. Assumes nothing.
 use Prim.Native.Nat.{ℕ, _+_, _*_, _≤_, _<_}
@@ -22,8 +22,8 @@ use Rattle.attempts.proofs.Doubt.{InVain}
 use Rattle.chip.specs.declared.Answer.{Answer}
 use Rattle.chip.specs.declared.Answer.the-variants.{Done, Refused, Stopped}
 use Rattle.chip.specs.declared.Chip.{Chip}
-use Rattle.chip.specs.declared.Went.{Went}
-use Rattle.chip.specs.declared.Went.the-variants.{Going, Refused11}
+use Rattle.chip.specs.declared.Progress.{Progress}
+use Rattle.chip.specs.declared.Progress.the-variants.{Going, Refused11}
 use Rattle.chip.specs.Calls.{Called, answerOf}
 use Rattle.chip.specs.Chips.{maskOf, maskedByte}
 use Rattle.chip.specs.Steps.{Trace, trace}
@@ -35,12 +35,12 @@ use Rattle.r82xx.specs.Record.{freshChip, madeOf, withChip}
 use Rattle.r82xx.specs.Calls.{refusalOf}
 use Rattle.r82xx.specs.Orders as tuner
 use Rattle.r82xx.specs.Orders.Order.{Reload}
-use Rattle.history.specs.Histories.{Cut, Fresh, History, Restored, wentIn}
+use Rattle.history.specs.Histories.{Cut, Fresh, History, Restored, progressIn}
 use Rattle.history.specs.Histories.History.{made}
 use Rattle.history.proofs.Calls.{call-performed, call-refused}
 use Rattle.history.proofs.Demand as demand
 use Rattle.chip.specs.Courses.{Asked, leftBy}
-use Rattle.sequences.specs.Calls.{Call, after, asked, call, entries, given, result, uncut}
+use Rattle.sequences.specs.Calls.{Call, tunerAfter, asked, call, entries, given, result, uncut}
 use Rattle.sequences.specs.Calls.Order.{Tuned}
 use Rattle.sequences.specs.Asides.{Aside, asideAsked, asideEntries, asideGiven, asideResult, asideUncut}
 use Rattle.sequences.specs.Sequences.{Sequence}
@@ -145,7 +145,7 @@ module _ (t : Tuner) (es : List Entry) (s : Sequence t es) where
     count-told = view-count t (result k t) (asked k t) (k .outcomes) (k .room) seen
 
     -- (e) "11 also gives the failing entry's index": the first that failed and is no closing
-    pub index-told : (i : ℕ) → result k t .answer ≡ Stopped i → wentIn (entries k t) ≡ Refused11 i
+    pub index-told : (i : ℕ) → result k t .answer ≡ Stopped i → progressIn (entries k t) ≡ Refused11 i
     index-told = view-index t (result k t) (asked k t) (k .outcomes) (k .room) seen
 
 -- ---- (d) reload
@@ -169,21 +169,21 @@ module _ (t : Tuner) (es : List Entry) (s : Sequence t es) (os room : List ℕ) 
   keep u = withChip t (u .chip)
 
   -- answered done, it was not refused, and no step failed
-  performed : result k t .answer ≡ Done 0 → (eqb number 0 ≡ true) × (tr .went ≡ Going)
+  performed : result k t .answer ≡ Done 0 → (eqb number 0 ≡ true) × (tr .progress ≡ Going)
   unfolding tuner.resultOf leftBy
   performed h = go (eqb number 0) refl
     where
-      by-went : (w : Went) → tr .went ≡ w → answerOf (Done 0) w ≡ Done 0 → tr .went ≡ Going
-      by-went Going e q = e
-      by-went (Refused11 j) e q = absurd (false≢true (ap isDone q))
+      by-progress : (w : Progress) → tr .progress ≡ w → answerOf (Done 0) w ≡ Done 0 → tr .progress ≡ Going
+      by-progress Going e q = e
+      by-progress (Refused11 j) e q = absurd (false≢true (ap isDone q))
 
-      go : (b : Bool) → eqb number 0 ≡ b → (eqb number 0 ≡ true) × (tr .went ≡ Going)
+      go : (b : Bool) → eqb number 0 ≡ b → (eqb number 0 ≡ true) × (tr .progress ≡ Going)
       go false e =
           absurd (false≢true (ap isDone (sym (ap (λ (d : Called Tuner). d .answer) (call-refused number (Done 0) os (sendAll (t .chip .shadow)) (t .chip) keep t room e)) ∙ h)))
       go true e =
-          (e, by-went (tr .went) refl (sym (ap (λ (d : Called Tuner). d .answer) (call-performed number (Done 0) os (sendAll (t .chip .shadow)) (t .chip) keep t room e)) ∙ h))
+          (e, by-progress (tr .progress) refl (sym (ap (λ (d : Called Tuner). d .answer) (call-performed number (Done 0) os (sendAll (t .chip .shadow)) (t .chip) keep t room e)) ∙ h))
 
-  left : eqb number 0 ≡ true → after k t .chip ≡ tr .chip
+  left : eqb number 0 ≡ true → tunerAfter k t .chip ≡ tr .chip
   unfolding tuner.resultOf leftBy
   left e =
       ap (λ (d : Called Tuner). d .next .chip) (call-performed number (Done 0) os (sendAll (t .chip .shadow)) (t .chip) keep t room e)
@@ -194,7 +194,7 @@ module _ (t : Tuner) (es : List Entry) (s : Sequence t es) (os room : List ℕ) 
   -- "A reload answered done leaves all 27 registers and the shadow at the last attempted bytes, or the initial ones where none was attempted": the bytes
   -- are read off the entries before it. And no doubt is left
   pub reload-done : result k t .answer ≡ Done 0 → (before now : Regs) → Played (t .chip .address) (es ++ entries k t) before now → (i : ℕ) → i < 27
-      → Restored (byteIn (getD initArray i 0) (lastIn (t .chip .address) es (5 + i))) i (after k t .chip) now
+      → Restored (byteIn (getD initArray i 0) (lastIn (t .chip .address) es (5 + i))) i (tunerAfter k t .chip) now
   reload-done h before now played i l =
       let p = performed h in
       subst (λ (c : Chip). Restored (byteIn (getD initArray i 0) (lastIn (t .chip .address) es (5 + i))) i c now) (sym (left (p .0)))
@@ -213,7 +213,7 @@ module _ (a : Aside) (g : asideGiven (a .other) ≡ true) where
   pub aside-read : 0 < asideResult a .count → Parted (take (16 * asideResult a .count + 8) (asideResult a .room)) [] (asideEntries a)
   aside-read = step-read (Unit {0}) noChip tt (asideResult a) (asideAsked a) (a .outcomes) (a .room) stepped (omega arith)
 
-  pub aside-index : (i : ℕ) → asideResult a .answer ≡ Stopped i → wentIn (asideEntries a) ≡ Refused11 i
+  pub aside-index : (i : ℕ) → asideResult a .answer ≡ Stopped i → progressIn (asideEntries a) ≡ Refused11 i
   aside-index = step-index (Unit {0}) noChip tt (asideResult a) (asideAsked a) (a .outcomes) (a .room) stepped
 
   pub aside-cut : (i : ℕ) → asideResult a .answer ≡ Stopped i → Cut i (asideEntries a) (asideEntries (asideUncut i a))

@@ -7,16 +7,16 @@ use lib.Dec.{eqb}
 use Rattle.transcript.specs.declared.Entry.{Entry}
 use Rattle.chip.specs.declared.Answer.{Answer}
 use Rattle.chip.specs.declared.Chip.{Chip}
-use Rattle.chip.specs.declared.Went.{Went}
-use Rattle.chip.specs.declared.Went.the-variants.{Going, Refused11}
+use Rattle.chip.specs.declared.Progress.{Progress}
+use Rattle.chip.specs.declared.Progress.the-variants.{Going, Refused11}
 use Rattle.chip.specs.Calls.{Called, answerOf, callEntries}
 use Rattle.chip.specs.Courses.{Asked}
 use Rattle.chip.specs.Steps.{every, goes, trace}
 use Rattle.device.specs.Calls.{noChip}
 use Rattle.r82xx.specs.declared.Tuner.{Tuner}
-use Rattle.history.specs.Histories.{passable, stops, wentFrom}
+use Rattle.history.specs.Histories.{passable, stops, progressFrom}
 use Rattle.history.proofs.Calls.{call-performed, call-refused}
-use Rattle.history.proofs.Told.{told-trace}
+use Rattle.history.proofs.Progressed.{told-trace}
 use Rattle.sequences.specs.Asides.{Aside, asideAsked, asideEntries, asideGiven, asideResult}
 use Rattle.sequences.specs.Calls.{Call, asked, entries, given, result}
 use Rattle.sequences.specs.Sequences.{Sequence}
@@ -27,19 +27,19 @@ use Rattle.sequences.proofs.Asides.{aside-stepping}
 use Rattle.sequences.proofs.Demand.{small}
 
 -- a call goes on as long as each entry was done or is a closing
-went-every : (k : ℕ) (es : List Entry) → goes (wentFrom k es) ≡ every passable es
-unfolding wentFrom every
-went-every k [] = refl
-went-every k (e ∷ es) = go (passable e) (went-every (k + 1) es)
+progress-every : (k : ℕ) (es : List Entry) → goes (progressFrom k es) ≡ every passable es
+unfolding progressFrom every
+progress-every k [] = refl
+progress-every k (e ∷ es) = go (passable e) (progress-every (k + 1) es)
   where
-    go : (b : Bool) → goes (wentFrom (k + 1) es) ≡ every passable es
-        → goes (cond b (wentFrom (k + 1) es) (Refused11 k)) ≡ (b && every passable es)
+    go : (b : Bool) → goes (progressFrom (k + 1) es) ≡ every passable es
+        → goes (cond b (progressFrom (k + 1) es) (Refused11 k)) ≡ (b && every passable es)
     go true h = h
     go false h = refl
 
-stops-went : (whole : Answer) (w : Went) → stops whole ≡ false → stops (answerOf whole w) ≡ not (goes w)
-stops-went whole Going h = h
-stops-went whole (Refused11 k) h = refl
+stops-progress : (whole : Answer) (w : Progress) → stops whole ≡ false → stops (answerOf whole w) ≡ not (goes w)
+stops-progress whole Going h = h
+stops-progress whole (Refused11 k) h = refl
 
 pub nothing-failed : every passable [] ≡ true
 unfolding every
@@ -53,8 +53,8 @@ step-eleven R c old x a os room s = go (eqb (a .number) 0) refl
     go : (b : Bool) → eqb (a .number) 0 ≡ b → stops (x .answer) ≡ not (every passable (callEntries (a .number) os (a .steps) c))
     go true e =
         rw (s .same, call-performed (a .number) (s .whole) os (a .steps) c (s .keep) old room e, e)
-        (stops-went (s .whole) (trace os (a .steps) c .went) (s .named)
-        ∙ ap not (ap goes (told-trace os (a .steps) c (s .good)) ∙ went-every 0 (trace os (a .steps) c .log)))
+        (stops-progress (s .whole) (trace os (a .steps) c .progress) (s .named)
+        ∙ ap not (ap goes (told-trace os (a .steps) c (s .good)) ∙ progress-every 0 (trace os (a .steps) c .log)))
     go false e = rw (s .same, call-refused (a .number) (s .whole) os (a .steps) c (s .keep) old room e, e, nothing-failed)
 
 -- every call on a record that a sequence ends with: both directions at once

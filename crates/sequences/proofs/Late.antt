@@ -10,13 +10,13 @@ use lib.ListN.{length, replicate}
 use Rattle.transcript.specs.declared.Entry.{Entry}
 use Rattle.chip.specs.declared.Answer.the-variants.{Refused}
 use Rattle.chip.specs.declared.Chip.{Chip}
-use Rattle.chip.specs.declared.Went.the-variants.{Going}
-use Rattle.chip.specs.Calls.{Called, answerOf, lentOf, lockedIn, performed, seenIn, triesIn}
+use Rattle.chip.specs.declared.Progress.the-variants.{Going}
+use Rattle.chip.specs.Calls.{Called, answerOf, tooShort, lockedIn, performed, lockTriesIn, triesIn}
 use Rattle.chip.specs.Entries.{repeater}
 use Rattle.chip.specs.Steps.{Trace, run, step, trace}
 use Rattle.pll.specs.declared.Kind.{Kind}
 use Rattle.pll.specs.declared.Kind.the-variants.{R828D}
-use Rattle.pll.specs.Divide.{firstOf, inVco}
+use Rattle.pll.specs.Divide.{firstMixer, inVco}
 use Rattle.pll.specs.Plan.{planOf, planWith}
 use Rattle.pll.specs.declared.Pll.the-variants as pll-variants
 use Rattle.tuning.specs.Mux.{muxUpdates, rangeOf}
@@ -27,10 +27,10 @@ use Rattle.r82xx.specs.Calls.{hzRefusal, planFor, refusalOf}
 use Rattle.r82xx.specs.Record.{freshTuner, withChip, withLock}
 use Rattle.r82xx.specs.Orders.{lockKept, tuneOf}
 use Rattle.r82xx.specs.Orders.Order.{Tune}
-use Rattle.sequences.specs.Calls.{after, call, entries, result}
+use Rattle.sequences.specs.Calls.{tunerAfter, call, entries, result}
 use Rattle.sequences.specs.Calls.Order.{Tuned}
 use Rattle.sequences.specs.Written.{chipBehind, entriesFor}
-use Rattle.sequences.proofs.Most.{byPlan, tune-by-plan, went-on}
+use Rattle.sequences.proofs.Most.{byPlan, tune-by-plan, progress-on}
 
 -- the opening, the mux's eleven writes, and a closing that may have failed
 abbrev pub muxEntries : Tuner → ℕ → Bool → List Entry
@@ -48,12 +48,12 @@ module _ (address hz z : ℕ) (kind : Kind) (notch : Bool) (rs os : List ℕ) (c
   unfolding trace run step innerSteps chipBehind
   left-chip = refl
 
-  left-went : tr .went ≡ Going
+  left-progress : tr .progress ≡ Going
   unfolding trace run step innerSteps
-  left-went = refl
+  left-progress = refl
 
 -- none of them is a try, so the lock stays
-no-tries : (t : Tuner) (hz : ℕ) (ok : Bool) → lockBy (seenIn (muxEntries t hz ok)) (t .lock) ≡ t .lock
+no-tries : (t : Tuner) (hz : ℕ) (ok : Bool) → lockBy (lockTriesIn (muxEntries t hz ok)) (t .lock) ≡ t .lock
 unfolding triesIn lockedIn entriesFor
 no-tries t hz ok = refl
 
@@ -68,11 +68,11 @@ module _ (t : Tuner) (hz z : ℕ) (rs os room : List ℕ) where
     run-of = trace outcomes (tuneOf t pll-variants.Refused hz rs) (t .chip)
 
     left : result (call (Tuned (Tune hz rs)) outcomes room) t ≡ performed (Refused 2) (lockKept t) room run-of
-    left = tune-by-plan t hz outcomes rs room ∙ ap (byPlan t hz outcomes rs room) p ∙ went-on _ _ _ _ _ _ _ _ e
+    left = tune-by-plan t hz outcomes rs room ∙ ap (byPlan t hz outcomes rs room) p ∙ progress-on _ _ _ _ _ _ _ _ e
 
     pub late-answer : result (call (Tuned (Tune hz rs)) outcomes room) t .answer ≡ Refused 2
     late-answer =
-        ap (λ (c : Called Tuner). c .answer) left ∙ ap (answerOf (Refused 2)) (left-went (t .chip .address) hz z (t .kind) (t .notch) rs os (t .chip))
+        ap (λ (c : Called Tuner). c .answer) left ∙ ap (answerOf (Refused 2)) (left-progress (t .chip .address) hz z (t .kind) (t .notch) rs os (t .chip))
 
     -- open, 11 writes, close
     pub late-entries : entries (call (Tuned (Tune hz rs)) outcomes room) t ≡ muxEntries t hz (eqb z 0)
@@ -81,10 +81,10 @@ module _ (t : Tuner) (hz z : ℕ) (rs os room : List ℕ) where
         rw (go, p) (left-log (t .chip .address) hz z (t .kind) (t .notch) rs os (t .chip))
 
     -- "and the mux's shadow": the record is the given one, with the chip's part as the mux's writes leave it
-    pub late-record : after (call (Tuned (Tune hz rs)) outcomes room) t ≡ withChip t (chipBehind (muxUpdates (t .notch) (rangeOf hz)) (t .chip))
+    pub late-record : tunerAfter (call (Tuned (Tune hz rs)) outcomes room) t ≡ withChip t (chipBehind (muxUpdates (t .notch) (rangeOf hz)) (t .chip))
     late-record =
         ap (λ (c : Called Tuner). c .next) left
-        ∙ ap (λ (l : List Entry). withLock (withChip t (run-of .chip)) (lockBy (seenIn l) (t .lock))) (left-log (t .chip .address) hz z (t .kind) (t .notch) rs os (t .chip))
+        ∙ ap (λ (l : List Entry). withLock (withChip t (run-of .chip)) (lockBy (lockTriesIn l) (t .lock))) (left-log (t .chip .address) hz z (t .kind) (t .notch) rs os (t .chip))
         ∙ ap (withLock (withChip t (run-of .chip))) (no-tries t hz (eqb z 0))
         ∙ ap (withChip t) (left-chip (t .chip .address) hz z (t .kind) (t .notch) rs os (t .chip))
 
@@ -94,5 +94,5 @@ high = freshTuner R828D 0x74 28_800_000
 
 pub late-there : (planFor high 2_000_000_000 ≡ pll-variants.Refused)
     × (refusalOf high (hzRefusal 2_000_000_000 (high .ifreq)) 53 35 856 (length (outcomes high 2_000_000_000 1 [] (replicate 40 0) [])) 35 ≡ 0)
-unfolding planOf planWith firstOf inVco lentOf
+unfolding planOf planWith firstMixer inVco tooShort
 late-there = (refl, refl)

@@ -16,21 +16,21 @@ use Rattle.board.specs.Numbers.{pathOf}
 use Rattle.chip.specs.declared.Answer.{Answer}
 use Rattle.chip.specs.declared.Answer.the-variants.{Refused}
 use Rattle.chip.specs.declared.Chip.{Chip}
-use Rattle.chip.specs.declared.Went.the-variants.{Going}
-use Rattle.chip.specs.Calls.{Called, answerOf, callEntries, callOf, lentOf, performed}
+use Rattle.chip.specs.declared.Progress.the-variants.{Going}
+use Rattle.chip.specs.Calls.{Called, answerOf, callEntries, callOf, tooShort, performed}
 use Rattle.chip.specs.Steps.{Step, Trace, run, step, trace}
 use Rattle.pll.specs.declared.Kind.{Kind}
 use Rattle.pll.specs.declared.Kind.the-variants.{R820T, R828D}
 use Rattle.pll.specs.declared.Pll.{Pll}
 use Rattle.pll.specs.declared.Pll.the-variants as pll-variants
-use Rattle.pll.specs.Divide.{firstOf, inVco}
+use Rattle.pll.specs.Divide.{firstMixer, inVco}
 use Rattle.pll.specs.Fraction.{turnOf, turnsOf}
 use Rattle.pll.specs.Plan.{planOf as pllOf, planWith}
 use Rattle.pll.specs.Setting.{settingOf}
 use Rattle.status.specs.Reversal.{reversed}
-use Rattle.tuning.specs.Program.{innerSteps, tuneSteps, wholeOf}
+use Rattle.tuning.specs.Program.{innerSteps, tuneSteps, tuneAnswer}
 use Rattle.tuning.specs.Tries.{repairUpdates, triesFrom}
-use Rattle.registers.specs.Rates.{holds, rateNumber}
+use Rattle.registers.specs.Rates.{ratioHolds, rateNumber}
 use Rattle.r82xx.specs.declared.Tuner.{Tuner}
 use Rattle.r82xx.specs.Record.{freshTuner, sound}
 use Rattle.r82xx.specs.Calls.{hzRefusal, planFor, refusalOf}
@@ -88,44 +88,44 @@ abbrev pub lent : Order → Call
 lent o = call o (replicate (most o fresh) 0) (replicate (16 * most o fresh + 8) 0)
 
 pub initialise-reached : length (entries (lent (Tuned Initialize)) fresh) ≡ most (Tuned Initialize) fresh
-unfolding trace run step lentOf
+unfolding trace run step tooShort
 initialise-reached = refl
 
 pub reload-reached : length (entries (lent (Tuned Reload)) fresh) ≡ most (Tuned Reload) fresh
-unfolding trace run step lentOf
+unfolding trace run step tooShort
 reload-reached = refl
 
 pub bandwidth-reached : length (entries (lent (Tuned (Bandwidth 2_048_000))) fresh) ≡ most (Tuned (Bandwidth 2_048_000)) fresh
-unfolding trace run step lentOf bracket gainRow
+unfolding trace run step tooShort bracket gainRow
 bandwidth-reached = refl
 
 pub if-reached : length (entries (lent (Tuned (IfFreq 3_570_000))) fresh) ≡ most (Tuned (IfFreq 3_570_000)) fresh
-unfolding trace run step lentOf bracket gainRow
+unfolding trace run step tooShort bracket gainRow
 if-reached = refl
 
 pub gain-reached : length (entries (lent (Tuned (Gain (ofBits binary32 0)))) fresh) ≡ most (Tuned (Gain (ofBits binary32 0))) fresh
-unfolding trace run step lentOf bracket gainRow
+unfolding trace run step tooShort bracket gainRow
 gain-reached = refl
 
 pub index-reached : length (entries (lent (Tuned (GainIndex 28))) fresh) ≡ most (Tuned (GainIndex 28)) fresh
-unfolding trace run step lentOf bracket gainRow
+unfolding trace run step tooShort bracket gainRow
 index-reached = refl
 
 pub path-reached : length (entries (lent (Tuned (InputPath 0))) fresh) ≡ most (Tuned (InputPath 0)) fresh
-unfolding trace run step lentOf bracket gainRow
+unfolding trace run step tooShort bracket gainRow
 path-reached = refl
 
 -- no lock in ten tries, and the divider repaired: all replies are zero
 pub tune-reached : length (entries (lent (Tuned (Tune 100_000_000 (replicate 35 0)))) fresh) ≡ most (Tuned (Tune 100_000_000 (replicate 35 0))) fresh
-unfolding trace run step lentOf inVco firstOf settingOf turnOf turnsOf planWith pllOf innerSteps repairUpdates triesFrom reversed
+unfolding trace run step tooShort inVco firstMixer settingOf turnOf turnsOf planWith pllOf innerSteps repairUpdates triesFrom reversed
 tune-reached = refl
 
 pub rate-reached : length (entries (lent (SampleRate 2_048_000 [] (driver Generic 28_800_000 (pos 0) 0 0 0))) fresh) ≡ most (SampleRate 2_048_000 [] (driver Generic 28_800_000 (pos 0) 0 0 0)) fresh
-unfolding trace run step lentOf accessStep xtalBy correctedOf holds rateNumber resetSteps rateSteps ifSteps ddcSteps planBy tableOk ascending bandsIn planIn
+unfolding trace run step tooShort accessStep xtalBy correctedOf ratioHolds rateNumber resetSteps rateSteps ifSteps ddcSteps planBy tableOk ascending bandsIn planIn
 rate-reached = refl
 
 pub board-reached : length (entries (lent (BoardPath 0 (replicate 3 0))) fresh) ≡ most (BoardPath 0 (replicate 3 0)) fresh
-unfolding trace run step lentOf accessStep outputSteps bitSteps
+unfolding trace run step tooShort accessStep outputSteps bitSteps
 board-reached = refl
 
 -- #113: "of at most 64 entries and 38 replies": one band with a path for all frequencies; all replies are zero, and there are just the 38
@@ -133,7 +133,7 @@ abbrev pub hop : Order
 hop = BoardTune 100_000_000 (replicate 8 0 ++ (replicate 8 255 ++ (replicate 8 0 ++ (0 ∷ 1 ∷ 0 ∷ [])))) (replicate 38 0) (driver Generic 28_800_000 (pos 0) 0 0 0)
 
 pub hop-reached : length (entries (lent hop) fresh) ≡ most hop fresh
-unfolding trace run step lentOf accessStep outputSteps bitSteps xtalBy correctedOf ddcSteps inVco firstOf settingOf turnOf turnsOf planWith pllOf innerSteps repairUpdates triesFrom reversed planBy tableOk ascending bandsIn bandOf planIn planAt leValue
+unfolding trace run step tooShort accessStep outputSteps bitSteps xtalBy correctedOf ddcSteps inVco firstMixer settingOf turnOf turnsOf planWith pllOf innerSteps repairUpdates triesFrom reversed planBy tableOk ascending bandsIn bandOf planIn planAt leValue
 hop-reached = refl
 
 -- and of those that touch no record
@@ -141,15 +141,15 @@ abbrev lentAside : Other → Aside
 lentAside o = aside o (replicate (asideMost o) 0) (replicate (16 * asideMost o + 8) 0)
 
 pub baseband-reached : length (asideEntries (lentAside (Demod Baseband))) ≡ asideMost (Demod Baseband)
-unfolding trace run step lentOf initSteps powerSteps upward firSteps packOf modeSteps
+unfolding trace run step tooShort initSteps powerSteps upward firSteps packOf modeSteps
 baseband-reached = refl
 
 pub direction-reached : length (asideEntries (lentAside (Pin (Output 5 (replicate 2 0))))) ≡ asideMost (Pin (Output 5 (replicate 2 0)))
-unfolding trace run step lentOf accessStep outputSteps
+unfolding trace run step tooShort accessStep outputSteps
 direction-reached = refl
 
 pub bit-reached : length (asideEntries (lentAside (Pin (Bit 5 1 (replicate 1 0))))) ≡ asideMost (Pin (Bit 5 1 (replicate 1 0)))
-unfolding trace run step lentOf accessStep bitSteps
+unfolding trace run step tooShort accessStep bitSteps
 bit-reached = refl
 
 -- ---- "A PLL refusal comes after the mux: all done, it leaves 13 entries (open, 11 writes, close)"
@@ -159,23 +159,23 @@ thirteen : (address hz : ℕ) (kind : Kind) (notch : Bool) (rs os : List ℕ) (c
 unfolding trace run step innerSteps
 thirteen address hz kind notch rs os c = refl
 
-none-failed : (address hz : ℕ) (kind : Kind) (notch : Bool) (rs os : List ℕ) (c : Chip) → trace (replicate 13 0 ++ os) (tuneSteps address kind notch pll-variants.Refused hz rs) c .went ≡ Going
+none-failed : (address hz : ℕ) (kind : Kind) (notch : Bool) (rs os : List ℕ) (c : Chip) → trace (replicate 13 0 ++ os) (tuneSteps address kind notch pll-variants.Refused hz rs) c .progress ≡ Going
 unfolding trace run step innerSteps
 none-failed address hz kind notch rs os c = refl
 
 -- a tuning by its plan
 abbrev pub byPlan : Tuner → ℕ → List ℕ → List ℕ → List ℕ → Pll → Called Tuner
 byPlan t hz os rs room plan =
-    callOf (refusalOf t (hzRefusal hz (t .ifreq)) 53 35 (length room) (length os) (length rs)) (wholeOf plan hz) os
+    callOf (refusalOf t (hzRefusal hz (t .ifreq)) 53 35 (length room) (length os) (length rs)) (tuneAnswer plan hz) os
     (tuneOf t plan hz rs) (t .chip) (lockKept t) t room
 
 pub tune-by-plan : (t : Tuner) (hz : ℕ) (os rs room : List ℕ) → resultOf (Tune hz rs) os t room ≡ byPlan t hz os rs room (planFor t hz)
 unfolding resultOf leftBy
 tune-by-plan t hz os rs room = refl
 
-pub went-on : {R : Type 0} (number : ℕ) (whole : Answer) (os : List ℕ) (ss : List Step) (c : Chip) (keep : Trace → R) (old : R) (room : List ℕ) → number ≡ 0 → callOf number whole os ss c keep old room ≡ performed whole keep room (trace os ss c)
+pub progress-on : {R : Type 0} (number : ℕ) (whole : Answer) (os : List ℕ) (ss : List Step) (c : Chip) (keep : Trace → R) (old : R) (room : List ℕ) → number ≡ 0 → callOf number whole os ss c keep old room ≡ performed whole keep room (trace os ss c)
 unfolding callOf
-went-on number whole os ss c keep old room e = rw (eq-eqb number 0 e)
+progress-on number whole os ss c keep old room e = rw (eq-eqb number 0 e)
 
 -- a tuning that is not refused before its steps, and whose plan is: its answer, and how many entries it made
 pub refused-in-the-pll : (t : Tuner) (hz : ℕ) (rs os room : List ℕ)
@@ -183,7 +183,7 @@ pub refused-in-the-pll : (t : Tuner) (hz : ℕ) (rs os room : List ℕ)
     → planFor t hz ≡ pll-variants.Refused
     → (resultOf (Tune hz rs) (replicate 13 0 ++ os) t room .answer ≡ Refused 2) × (resultOf (Tune hz rs) (replicate 13 0 ++ os) t room .count ≡ 13)
 refused-in-the-pll t hz rs os room e p =
-    let is : _ = tune-by-plan t hz (replicate 13 0 ++ os) rs room ∙ ap (byPlan t hz (replicate 13 0 ++ os) rs room) p ∙ went-on _ _ _ _ _ _ _ _ e in (
+    let is : _ = tune-by-plan t hz (replicate 13 0 ++ os) rs room ∙ ap (byPlan t hz (replicate 13 0 ++ os) rs room) p ∙ progress-on _ _ _ _ _ _ _ _ e in (
       ap (λ (c : Called Tuner). c .answer) is ∙ ap (answerOf (Refused 2)) (none-failed (t .chip .address) hz (t .kind) (t .notch) rs os (t .chip)),
       ap (λ (c : Called Tuner). c .count) is ∙ thirteen (t .chip .address) hz (t .kind) (t .notch) rs os (t .chip),
     )

@@ -13,7 +13,7 @@ use Rattle.board.specs.declared.Path.{Path}
 use Rattle.board.specs.declared.Path.the-variants.{Hf, Vhf, Uhf}
 use Rattle.chip.specs.declared.Update.{Update}
 use Rattle.chip.specs.Entries.{wait}
-use Rattle.chip.specs.Steps.{Step, allIn, behind, every, inRange, masked, updateStep, updates}
+use Rattle.chip.specs.Steps.{Step, allIn, whileOpen, every, inRange, masked, updateStep, updates}
 use Rattle.chip.specs.Steps.Step.{Close, Plain}
 use Rattle.chip.proofs.Laws.{and-left}
 use Rattle.pll.specs.declared.Kind.{Kind}
@@ -34,7 +34,7 @@ use Rattle.board.specs.declared.Route.{Route}
 use Rattle.board.specs.declared.Route.the-variants.{By, Direct}
 use Rattle.boards.specs.Hops.{ddcPart, hopSteps, pathPart, pathReplies}
 use Rattle.demod.specs.Programs.{ddcSteps, ifSteps, rateSteps, resetSteps}
-use Rattle.driver.specs.Programs.{anewSteps, boardPathSteps, filterSteps, levelFor, sampleRateSteps, tunerPath}
+use Rattle.driver.specs.Programs.{demodSetup, boardPathSteps, filterSteps, levelFor, sampleRateSteps, tunerPath}
 use Rattle.driver.proofs.Lengths.{path-length-r820t, path-length-r828d}
 use Rattle.history.specs.Programs.{fine}
 use Rattle.history.proofs.Fine.{every-append, every-drop, fine-behind, fine-pointer, fine-read, fine-reload, fine-updates, fine-wait}
@@ -43,15 +43,15 @@ use Rattle.sequences.proofs.Beside.{beside-bit, beside-ddc, beside-if, 
 
 -- ---- masked writes, behind an open repeater
 
-pub fine-bracket : (us : List Update) → allIn us ≡ true → every fine (behind (updates us)) ≡ true
+pub fine-bracket : (us : List Update) → allIn us ≡ true → every fine (whileOpen (updates us)) ≡ true
 fine-bracket us h = fine-behind (updates us) (fine-updates us h)
 
 -- ---- initialise
 
 pub fine-init : every fine initSteps ≡ true
 fine-init =
-    every-append fine (sendAll initArray) (behind (updates initUpdates) ++ behind (updates (ifUpdates 2_300_000))) (fine-reload initArray)
-    (every-append fine (behind (updates initUpdates)) (behind (updates (ifUpdates 2_300_000))) (fine-bracket initUpdates init-in)
+    every-append fine (sendAll initArray) (whileOpen (updates initUpdates) ++ whileOpen (updates (ifUpdates 2_300_000))) (fine-reload initArray)
+    (every-append fine (whileOpen (updates initUpdates)) (whileOpen (updates (ifUpdates 2_300_000))) (fine-bracket initUpdates init-in)
     (fine-bracket (ifUpdates 2_300_000) (if-in 2_300_000)))
 
 -- ---- a tuning
@@ -148,10 +148,10 @@ module _ (address : ℕ) (rs : List ℕ) (small : address ≤ 255) (bytes : ever
 
 pub fine-rate : (hz rate xtal : ℕ) (inverted : Bool) → every fine (sampleRateSteps hz rate xtal inverted) ≡ true
 fine-rate hz rate xtal inverted =
-    every-append fine (filterSteps hz rate) (anewSteps hz rate xtal ++ ddcSteps inverted)
-    (every-append fine (behind (updates (ifUpdates hz))) (behind (updates (bandwidthUpdates rate))) (fine-bracket (ifUpdates hz) (if-in hz))
+    every-append fine (filterSteps hz rate) (demodSetup hz rate xtal ++ ddcSteps inverted)
+    (every-append fine (whileOpen (updates (ifUpdates hz))) (whileOpen (updates (bandwidthUpdates rate))) (fine-bracket (ifUpdates hz) (if-in hz))
     (fine-bracket (bandwidthUpdates rate) (bandwidth-in rate)))
-    (every-append fine (anewSteps hz rate xtal) (ddcSteps inverted)
+    (every-append fine (demodSetup hz rate xtal) (ddcSteps inverted)
     (every-append fine resetSteps (rateSteps rate xtal ++ ifSteps hz xtal) (fines resetSteps beside-reset)
     (every-append fine (rateSteps rate xtal) (ifSteps hz xtal) (fines (rateSteps rate xtal) (beside-rate rate xtal)) (fines (ifSteps hz xtal) (beside-if hz xtal))))
     (fines (ddcSteps inverted) (beside-ddc inverted)))
@@ -228,7 +228,7 @@ pub tune-length : (address : ℕ) (kind : Kind) (notch : Bool) (plan : Pll) (hz 
 tune-length address kind notch plan hz rs =
     omega (arith, length-append (innerSteps address kind notch plan hz rs) (Close ∷ []), inner-length address kind notch plan hz rs)
 
-pub path-length : (path : Path) → length (behind (updates (pathUpdates path))) ≡ 4
+pub path-length : (path : Path) → length (whileOpen (updates (pathUpdates path))) ≡ 4
 path-length Hf = refl
 path-length Vhf = refl
 path-length Uhf = refl

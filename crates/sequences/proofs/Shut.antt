@@ -22,12 +22,12 @@ use Rattle.boards.specs.Hops.{ddcPart, hopSteps, pathPart, pathReplies}
 use Rattle.chip.specs.declared.Answer.{Answer}
 use Rattle.chip.specs.declared.Chip.{Chip}
 use Rattle.chip.specs.declared.Update.{Update}
-use Rattle.chip.specs.declared.Went.the-variants.{Going}
+use Rattle.chip.specs.declared.Progress.the-variants.{Going}
 use Rattle.chip.specs.Calls.{callEntries}
 use Rattle.chip.specs.Courses.{Course, stepsOf}
 use Rattle.chip.specs.Courses.Course.{Still}
 use Rattle.chip.specs.Entries.{repeater, wait}
-use Rattle.chip.specs.Steps.{Step, Trace, acts, behind, chunkStep, chunkTable, emit, every, inList, line, okFor, run, step, taken, trace, tunerWrite, updateStep, updates}
+use Rattle.chip.specs.Steps.{Step, Trace, acts, whileOpen, chunkStep, chunkTable, emit, every, inList, line, okFor, run, step, taken, trace, tunerWrite, updateStep, updates}
 use Rattle.chip.specs.Steps.Step.{Open, Close, Send, Mask, Plain}
 use Rattle.chip.proofs.Laws.{active, and-right, idle}
 use Rattle.history.specs.Programs.{fine}
@@ -47,7 +47,7 @@ use Rattle.sequences.specs.Asides.{Aside, Other, asideAsked, asideEntrie
 use Rattle.sequences.specs.Asides.Other.{Pin, Demod}
 use Rattle.sequences.proofs.Asides.{aside-stepping}
 use Rattle.driver.specs.Calls.{Both, boardRow}
-use Rattle.driver.specs.Programs.{anewSteps, boardPathSteps, filterSteps, ifFor, sampleRateSteps}
+use Rattle.driver.specs.Programs.{demodSetup, boardPathSteps, filterSteps, ifFor, sampleRateSteps}
 use Rattle.driver.specs.Record.{xtalBy, xtalOf}
 use Rattle.gain.specs.Steps.{chosenOf, clamped}
 use Rattle.pll.specs.declared.Kind.{Kind}
@@ -69,50 +69,50 @@ use Rattle.sequences.specs.Sequences.{Sequence}
 use Rattle.sequences.proofs.Views.{Proper, asked-steps, proper}
 use Rattle.sequences.proofs.Views.Proper.{resting, stepping}
 use Rattle.sequences.proofs.Demand.{small}
-use Rattle.sequences.specs.Repeater.{closesOpen, heldBy, heldFrom, heldIn}
+use Rattle.sequences.specs.Repeater.{closesOpen, openedBy, openedFrom, openedIn}
 
 -- ---- entries
 
-held-snoc : (held : Bool) (es : List Entry) (e : Entry) → heldFrom held (es ++ (e ∷ [])) ≡ heldBy e (heldFrom held es)
-unfolding heldFrom
-held-snoc held [] e = refl
-held-snoc held (x ∷ es) e = held-snoc (heldBy x held) es e
+opened-snoc : (opened : Bool) (es : List Entry) (e : Entry) → openedFrom opened (es ++ (e ∷ [])) ≡ openedBy e (openedFrom opened es)
+unfolding openedFrom
+opened-snoc opened [] e = refl
+opened-snoc opened (x ∷ es) e = opened-snoc (openedBy x opened) es e
 
 -- the run's own state is what its entries tell
 module _ (os : List ℕ) where
-  told-taken : (s : Step) (t : Trace) → fine s ≡ true → acts s (t .went) (t .held) ≡ true → t .held ≡ heldIn (t .log)
-      → taken inList os (okFor os (t .count) s) s t .held ≡ heldIn (taken inList os (okFor os (t .count) s) s t .log)
-  told-taken Open t f a h = opened (okFor os (t .count) Open) ∙ sym (held-snoc false (t .log) (repeater 1 (okFor os (t .count) Open)))
+  told-taken : (s : Step) (t : Trace) → fine s ≡ true → acts s (t .progress) (t .opened) ≡ true → t .opened ≡ openedIn (t .log)
+      → taken inList os (okFor os (t .count) s) s t .opened ≡ openedIn (taken inList os (okFor os (t .count) s) s t .log)
+  told-taken Open t f a h = opened (okFor os (t .count) Open) ∙ sym (opened-snoc false (t .log) (repeater 1 (okFor os (t .count) Open)))
     where
-      opened : (ok : Bool) → ok ≡ heldBy (repeater 1 ok) (heldIn (t .log))
+      opened : (ok : Bool) → ok ≡ openedBy (repeater 1 ok) (openedIn (t .log))
       opened true = refl
       opened false = refl
-  told-taken Close t f a h = sym (held-snoc false (t .log) (repeater 0 (okFor os (t .count) Close)))
-  told-taken (Send n bytes) t f a h = h ∙ sym (held-snoc false (t .log) (emit (Send n bytes) (t .chip) (okFor os (t .count) (Send n bytes))))
-  told-taken (Mask r v m) t f a h = h ∙ sym (held-snoc false (t .log) (emit (Mask r v m) (t .chip) (okFor os (t .count) (Mask r v m))))
+  told-taken Close t f a h = sym (opened-snoc false (t .log) (repeater 0 (okFor os (t .count) Close)))
+  told-taken (Send n bytes) t f a h = h ∙ sym (opened-snoc false (t .log) (emit (Send n bytes) (t .chip) (okFor os (t .count) (Send n bytes))))
+  told-taken (Mask r v m) t f a h = h ∙ sym (opened-snoc false (t .log) (emit (Mask r v m) (t .chip) (okFor os (t .count) (Mask r v m))))
   told-taken (Plain e) t f a h =
       let ok : Bool = okFor os (t .count) (Plain e) in
       let other : eqb (e .kind) 1 ≡ false = aside-of e f .kind in
-      h ∙ sym (held-snoc false (t .log) (emit (Plain e) (t .chip) ok) ∙ ap (λ (b : Bool). cond b (eqb (firstOf (emit (Plain e) (t .chip) ok)) 1 && done (emit (Plain e) (t .chip) ok)) (heldIn (t .log))) other)
+      h ∙ sym (opened-snoc false (t .log) (emit (Plain e) (t .chip) ok) ∙ ap (λ (b : Bool). cond b (eqb (firstOf (emit (Plain e) (t .chip) ok)) 1 && done (emit (Plain e) (t .chip) ok)) (openedIn (t .log))) other)
 
-pub held-trace : (os : List ℕ) (ss : List Step) (c : Chip) → every fine ss ≡ true → trace os ss c .held ≡ heldIn (trace os ss c .log)
-unfolding trace heldFrom
-held-trace os ss c f = run-keeps os (λ (u : Trace). u .held ≡ heldIn (u .log)) fine (told-taken os) ss (line c [] 0 Going false) f refl
+pub opened-trace : (os : List ℕ) (ss : List Step) (c : Chip) → every fine ss ≡ true → trace os ss c .opened ≡ openedIn (trace os ss c .log)
+unfolding trace openedFrom
+opened-trace os ss c f = run-keeps os (λ (u : Trace). u .opened ≡ openedIn (u .log)) fine (told-taken os) ss (line c [] 0 Going false) f refl
 
 -- a list of entries behind another
-closes-append : (held : Bool) (xs ys : List Entry) → closesOpen held (xs ++ ys) ≡ (closesOpen held xs && closesOpen (heldFrom held xs) ys)
-unfolding closesOpen heldFrom
-closes-append held [] ys = refl
-closes-append held (x ∷ xs) ys = go (not (isClosing x) || held) (closes-append (heldBy x held) xs ys)
+closes-append : (opened : Bool) (xs ys : List Entry) → closesOpen opened (xs ++ ys) ≡ (closesOpen opened xs && closesOpen (openedFrom opened xs) ys)
+unfolding closesOpen openedFrom
+closes-append opened [] ys = refl
+closes-append opened (x ∷ xs) ys = go (not (isClosing x) || opened) (closes-append (openedBy x opened) xs ys)
   where
-    go : (b : Bool) → closesOpen (heldBy x held) (xs ++ ys) ≡ (closesOpen (heldBy x held) xs && closesOpen (heldFrom (heldBy x held) xs) ys)
-        → (b && closesOpen (heldBy x held) (xs ++ ys)) ≡ ((b && closesOpen (heldBy x held) xs) && closesOpen (heldFrom (heldBy x held) xs) ys)
+    go : (b : Bool) → closesOpen (openedBy x opened) (xs ++ ys) ≡ (closesOpen (openedBy x opened) xs && closesOpen (openedFrom (openedBy x opened) xs) ys)
+        → (b && closesOpen (openedBy x opened) (xs ++ ys)) ≡ ((b && closesOpen (openedBy x opened) xs) && closesOpen (openedFrom (openedBy x opened) xs) ys)
     go true h = h
     go false h = refl
 
 -- a run closes an open repeater alone
 record Opened (t : Trace) : Type 0 where
-  told : t .held ≡ heldIn (t .log)
+  told : t .opened ≡ openedIn (t .log)
   only : closesOpen false (t .log) ≡ true
 
 module _ (os : List ℕ) where
@@ -120,7 +120,7 @@ module _ (os : List ℕ) where
   unfolding closesOpen
   no-more t e n h = closes-append false (t .log) (e ∷ []) ∙ rw (h, n)
 
-  one-more : (t : Trace) (e : Entry) → heldIn (t .log) ≡ true → closesOpen false (t .log) ≡ true → closesOpen false (t .log ++ (e ∷ [])) ≡ true
+  one-more : (t : Trace) (e : Entry) → openedIn (t .log) ≡ true → closesOpen false (t .log) ≡ true → closesOpen false (t .log ++ (e ∷ [])) ≡ true
   unfolding closesOpen
   one-more t e n h = closes-append false (t .log) (e ∷ []) ∙ rw (h, n) (go (not (isClosing e)))
     where
@@ -128,10 +128,10 @@ module _ (os : List ℕ) where
       go true = refl
       go false = refl
 
-  opened-taken : (s : Step) (t : Trace) → fine s ≡ true → acts s (t .went) (t .held) ≡ true → Opened t → Opened (taken inList os (okFor os (t .count) s) s t)
+  opened-taken : (s : Step) (t : Trace) → fine s ≡ true → acts s (t .progress) (t .opened) ≡ true → Opened t → Opened (taken inList os (okFor os (t .count) s) s t)
   opened-taken s t f a o = record { told = told-taken os s t f a (o .told); only = by s f a }
     where
-      by : (s : Step) → fine s ≡ true → acts s (t .went) (t .held) ≡ true → closesOpen false (t .log ++ (emit s (t .chip) (okFor os (t .count) s) ∷ [])) ≡ true
+      by : (s : Step) → fine s ≡ true → acts s (t .progress) (t .opened) ≡ true → closesOpen false (t .log ++ (emit s (t .chip) (okFor os (t .count) s) ∷ [])) ≡ true
       by Open g b = no-more t (emit Open (t .chip) (okFor os (t .count) Open)) refl (o .only)
       by Close g b = one-more t (emit Close (t .chip) (okFor os (t .count) Close)) (sym (o .told) ∙ b) (o .only)
       by (Send n bytes) g b = no-more t (emit (Send n bytes) (t .chip) (okFor os (t .count) (Send n bytes))) refl (o .only)
@@ -140,69 +140,69 @@ module _ (os : List ℕ) where
           no-more t (emit (Plain e) (t .chip) (okFor os (t .count) (Plain e))) (ap (λ (c : Bool). c && eqb (firstOf (emit (Plain e) (t .chip) (okFor os (t .count) (Plain e)))) 0) (aside-of e g .kind)) (o .only)
 
 pub only-trace : (os : List ℕ) (ss : List Step) (c : Chip) → every fine ss ≡ true → closesOpen false (trace os ss c .log) ≡ true
-unfolding trace heldFrom closesOpen
+unfolding trace openedFrom closesOpen
 only-trace os ss c f = run-keeps os Opened fine (opened-taken os) ss (line c [] 0 Going false) f (record { told = refl; only = refl }) .only
 
 -- ---- programs
 
 -- a program closes what it opens: by whether the repeater may be open before it
 unfoldable pub shuts : Bool → List Step → Bool
-shuts held [] = not held
-shuts held (Open ∷ ss) = shuts true ss
-shuts held (Close ∷ ss) = shuts false ss
-shuts held (Send n bytes ∷ ss) = shuts held ss
-shuts held (Mask r v m ∷ ss) = shuts held ss
-shuts held (Plain e ∷ ss) = shuts held ss
+shuts opened [] = not opened
+shuts opened (Open ∷ ss) = shuts true ss
+shuts opened (Close ∷ ss) = shuts false ss
+shuts opened (Send n bytes ∷ ss) = shuts opened ss
+shuts opened (Mask r v m ∷ ss) = shuts opened ss
+shuts opened (Plain e ∷ ss) = shuts opened ss
 
 -- then it ends shut, whatever fails: an open repeater is closed by the closing that stands ahead
 module _ (os : List ℕ) where
-  kept-step : (s : Step) (ss : List Step) (held : Bool) (t : Trace) → ((u : Trace) → (u .held ≡ true → held ≡ true) → run inList os ss u .held ≡ false)
-      → (taken inList os (okFor os (t .count) s) s t .held ≡ t .held) → (t .held ≡ true → held ≡ true) → run inList os ss (step inList os s t) .held ≡ false
-  kept-step s ss held t rest same h = go (acts s (t .went) (t .held)) refl
+  kept-step : (s : Step) (ss : List Step) (opened : Bool) (t : Trace) → ((u : Trace) → (u .opened ≡ true → opened ≡ true) → run inList os ss u .opened ≡ false)
+      → (taken inList os (okFor os (t .count) s) s t .opened ≡ t .opened) → (t .opened ≡ true → opened ≡ true) → run inList os ss (step inList os s t) .opened ≡ false
+  kept-step s ss opened t rest same h = go (acts s (t .progress) (t .opened)) refl
     where
-      go : (a : Bool) → acts s (t .went) (t .held) ≡ a → run inList os ss (step inList os s t) .held ≡ false
+      go : (a : Bool) → acts s (t .progress) (t .opened) ≡ a → run inList os ss (step inList os s t) .opened ≡ false
       go true e =
-          subst (λ (u : Trace). run inList os ss u .held ≡ false) (active inList os s t e) (rest (taken inList os (okFor os (t .count) s) s t) (λ q. h (sym same ∙ q)))
-      go false e = subst (λ (u : Trace). run inList os ss u .held ≡ false) (idle inList os s t e) (rest t h)
+          subst (λ (u : Trace). run inList os ss u .opened ≡ false) (active inList os s t e) (rest (taken inList os (okFor os (t .count) s) s t) (λ q. h (sym same ∙ q)))
+      go false e = subst (λ (u : Trace). run inList os ss u .opened ≡ false) (idle inList os s t e) (rest t h)
 
-  close-step : (ss : List Step) (t : Trace) → ((u : Trace) → (u .held ≡ true → false ≡ true) → run inList os ss u .held ≡ false)
-      → run inList os ss (step inList os Close t) .held ≡ false
-  close-step ss t rest = go (t .held) refl
+  close-step : (ss : List Step) (t : Trace) → ((u : Trace) → (u .opened ≡ true → false ≡ true) → run inList os ss u .opened ≡ false)
+      → run inList os ss (step inList os Close t) .opened ≡ false
+  close-step ss t rest = go (t .opened) refl
     where
-      go : (b : Bool) → t .held ≡ b → run inList os ss (step inList os Close t) .held ≡ false
+      go : (b : Bool) → t .opened ≡ b → run inList os ss (step inList os Close t) .opened ≡ false
       go true e =
-          subst (λ (u : Trace). run inList os ss u .held ≡ false) (active inList os Close t e) (rest (taken inList os (okFor os (t .count) Close) Close t) (λ q. q))
-      go false e = subst (λ (u : Trace). run inList os ss u .held ≡ false) (idle inList os Close t e) (rest t (λ q. sym e ∙ q))
+          subst (λ (u : Trace). run inList os ss u .opened ≡ false) (active inList os Close t e) (rest (taken inList os (okFor os (t .count) Close) Close t) (λ q. q))
+      go false e = subst (λ (u : Trace). run inList os ss u .opened ≡ false) (idle inList os Close t e) (rest t (λ q. sym e ∙ q))
 
-  shut-run : (ss : List Step) (held : Bool) (t : Trace) → shuts held ss ≡ true → (t .held ≡ true → held ≡ true) → run inList os ss t .held ≡ false
+  shut-run : (ss : List Step) (opened : Bool) (t : Trace) → shuts opened ss ≡ true → (t .opened ≡ true → opened ≡ true) → run inList os ss t .opened ≡ false
   unfolding run shuts
   shut-run [] true t p h = absurd (false≢true p)
-  shut-run [] false t p h = go (t .held) h
+  shut-run [] false t p h = go (t .opened) h
     where
       go : (b : Bool) → (b ≡ true → false ≡ true) → b ≡ false
       go true g = absurd (false≢true (g refl))
       go false g = refl
-  shut-run (Open ∷ ss) held t p h = shut-run ss true (step inList os Open t) p (λ q. refl)
-  shut-run (Close ∷ ss) held t p h = close-step ss t (λ u. shut-run ss false u p)
-  shut-run (Send n bytes ∷ ss) held t p h = kept-step (Send n bytes) ss held t (λ u. shut-run ss held u p) refl h
-  shut-run (Mask r v m ∷ ss) held t p h = kept-step (Mask r v m) ss held t (λ u. shut-run ss held u p) refl h
-  shut-run (Plain e ∷ ss) held t p h = kept-step (Plain e) ss held t (λ u. shut-run ss held u p) refl h
+  shut-run (Open ∷ ss) opened t p h = shut-run ss true (step inList os Open t) p (λ q. refl)
+  shut-run (Close ∷ ss) opened t p h = close-step ss t (λ u. shut-run ss false u p)
+  shut-run (Send n bytes ∷ ss) opened t p h = kept-step (Send n bytes) ss opened t (λ u. shut-run ss opened u p) refl h
+  shut-run (Mask r v m ∷ ss) opened t p h = kept-step (Mask r v m) ss opened t (λ u. shut-run ss opened u p) refl h
+  shut-run (Plain e ∷ ss) opened t p h = kept-step (Plain e) ss opened t (λ u. shut-run ss opened u p) refl h
 
-pub shut-trace : (os : List ℕ) (ss : List Step) (c : Chip) → shuts false ss ≡ true → trace os ss c .held ≡ false
+pub shut-trace : (os : List ℕ) (ss : List Step) (c : Chip) → shuts false ss ≡ true → trace os ss c .opened ≡ false
 unfolding trace
 shut-trace os ss c p = shut-run os ss false (line c [] 0 Going false) p (λ q. q)
 
 -- ---- programs put together
 
-pub shuts-append : (held : Bool) (xs ys : List Step) → shuts held xs ≡ true → shuts false ys ≡ true → shuts held (xs ++ ys) ≡ true
+pub shuts-append : (opened : Bool) (xs ys : List Step) → shuts opened xs ≡ true → shuts false ys ≡ true → shuts opened (xs ++ ys) ≡ true
 unfolding shuts
 shuts-append true [] ys p q = absurd (false≢true p)
 shuts-append false [] ys p q = q
-shuts-append held (Open ∷ xs) ys p q = shuts-append true xs ys p q
-shuts-append held (Close ∷ xs) ys p q = shuts-append false xs ys p q
-shuts-append held (Send n bytes ∷ xs) ys p q = shuts-append held xs ys p q
-shuts-append held (Mask r v m ∷ xs) ys p q = shuts-append held xs ys p q
-shuts-append held (Plain e ∷ xs) ys p q = shuts-append held xs ys p q
+shuts-append opened (Open ∷ xs) ys p q = shuts-append true xs ys p q
+shuts-append opened (Close ∷ xs) ys p q = shuts-append false xs ys p q
+shuts-append opened (Send n bytes ∷ xs) ys p q = shuts-append opened xs ys p q
+shuts-append opened (Mask r v m ∷ xs) ys p q = shuts-append opened xs ys p q
+shuts-append opened (Plain e ∷ xs) ys p q = shuts-append opened xs ys p q
 
 -- a step that is no repeater's
 abbrev level : Step → Bool
@@ -212,16 +212,16 @@ level (Send n bytes) = true
 level (Mask r v m) = true
 level (Plain e) = true
 
-level-run : (held : Bool) (xs ys : List Step) → every level xs ≡ true → shuts held ys ≡ true → shuts held (xs ++ ys) ≡ true
+level-run : (opened : Bool) (xs ys : List Step) → every level xs ≡ true → shuts opened ys ≡ true → shuts opened (xs ++ ys) ≡ true
 unfolding shuts every
-level-run held [] ys p q = q
-level-run held (Open ∷ xs) ys p q = absurd (false≢true p)
-level-run held (Close ∷ xs) ys p q = absurd (false≢true p)
-level-run held (Send n bytes ∷ xs) ys p q = level-run held xs ys p q
-level-run held (Mask r v m ∷ xs) ys p q = level-run held xs ys p q
-level-run held (Plain e ∷ xs) ys p q = level-run held xs ys p q
+level-run opened [] ys p q = q
+level-run opened (Open ∷ xs) ys p q = absurd (false≢true p)
+level-run opened (Close ∷ xs) ys p q = absurd (false≢true p)
+level-run opened (Send n bytes ∷ xs) ys p q = level-run opened xs ys p q
+level-run opened (Mask r v m ∷ xs) ys p q = level-run opened xs ys p q
+level-run opened (Plain e ∷ xs) ys p q = level-run opened xs ys p q
 
-shuts-behind : (ss : List Step) → every level ss ≡ true → shuts false (behind ss) ≡ true
+shuts-behind : (ss : List Step) → every level ss ≡ true → shuts false (whileOpen ss) ≡ true
 unfolding shuts
 shuts-behind ss p = level-run true ss (Close ∷ []) p refl
 
@@ -233,7 +233,7 @@ level-map f h (a ∷ l) = rw (h a) (level-map f h l)
 level-updates : (us : List Update) → every level (updates us) ≡ true
 level-updates us = level-map updateStep (λ u. refl) us
 
-shuts-bracket : (us : List Update) → shuts false (behind (updates us)) ≡ true
+shuts-bracket : (us : List Update) → shuts false (whileOpen (updates us)) ≡ true
 shuts-bracket us = shuts-behind (updates us) (level-updates us)
 
 shuts-chunks : (bs : List ℕ) (from to : ℕ) → shuts false (tunerWrite bs from to) ≡ true
@@ -245,8 +245,8 @@ shuts-all bs = shuts-append false (tunerWrite bs 0 3) (tunerWrite bs 3 5) (shuts
 
 shuts-init : shuts false initSteps ≡ true
 shuts-init =
-    shuts-append false (sendAll initArray) (behind (updates initUpdates) ++ behind (updates (ifUpdates 2_300_000))) (shuts-all initArray)
-    (shuts-append false (behind (updates initUpdates)) (behind (updates (ifUpdates 2_300_000))) (shuts-bracket initUpdates) (shuts-bracket (ifUpdates 2_300_000)))
+    shuts-append false (sendAll initArray) (whileOpen (updates initUpdates) ++ whileOpen (updates (ifUpdates 2_300_000))) (shuts-all initArray)
+    (shuts-append false (whileOpen (updates initUpdates)) (whileOpen (updates (ifUpdates 2_300_000))) (shuts-bracket initUpdates) (shuts-bracket (ifUpdates 2_300_000)))
 
 -- ---- a tuning
 
@@ -302,8 +302,8 @@ shuts-board R828D path rs = shuts-bracket (pathUpdates path)
 shuts-rate : (hz rate xtal : ℕ) (inverted : Bool) → shuts false (sampleRateSteps hz rate xtal inverted) ≡ true
 unfolding resetSteps rateSteps ifSteps ddcSteps accessStep shuts
 shuts-rate hz rate xtal inverted =
-    shuts-append false (filterSteps hz rate) (anewSteps hz rate xtal ++ ddcSteps inverted)
-    (shuts-append false (behind (updates (ifUpdates hz))) (behind (updates (bandwidthUpdates rate))) (shuts-bracket (ifUpdates hz)) (shuts-bracket (bandwidthUpdates rate)))
+    shuts-append false (filterSteps hz rate) (demodSetup hz rate xtal ++ ddcSteps inverted)
+    (shuts-append false (whileOpen (updates (ifUpdates hz))) (whileOpen (updates (bandwidthUpdates rate))) (shuts-bracket (ifUpdates hz)) (shuts-bracket (bandwidthUpdates rate)))
     refl
 
 shuts-path-part : (kind : Kind) (r : Route) (rs : List ℕ) → shuts false (pathPart kind r rs) ≡ true
@@ -365,12 +365,12 @@ row-shuts (BoardTune hz table rs d) t = shuts-hop (t .kind) (t .chip .address) (
 -- ---- every call
 
 -- an entry list of a program that is refused before any step is empty
-call-shut : (number : ℕ) (os : List ℕ) (ss : List Step) (c : Chip) → every fine ss ≡ true → shuts false ss ≡ true → heldIn (callEntries number os ss c) ≡ false
-unfolding heldFrom
+call-shut : (number : ℕ) (os : List ℕ) (ss : List Step) (c : Chip) → every fine ss ≡ true → shuts false ss ≡ true → openedIn (callEntries number os ss c) ≡ false
+unfolding openedFrom
 call-shut number os ss c f p = go (eqb number 0)
   where
-    go : (b : Bool) → heldIn (cond b (trace os ss c .log) []) ≡ false
-    go true = sym (held-trace os ss c f) ∙ shut-trace os ss c p
+    go : (b : Bool) → openedIn (cond b (trace os ss c .log) []) ≡ false
+    go true = sym (opened-trace os ss c f) ∙ shut-trace os ss c p
     go false = refl
 
 no-fine : every fine [] ≡ true
@@ -401,7 +401,7 @@ module _ (t : Tuner) (es : List Entry) (s : Sequence t es) (k : Call) (g : given
   fine-steps = subst (λ (ss : List Step). every fine ss ≡ true) same-steps (proper-fine t (proper t (k .order) g (small t es s)))
 
   -- no call leaves the repeater open, whatever the outcomes
-  pub shut : heldIn (entries k t) ≡ false
+  pub shut : openedIn (entries k t) ≡ false
   shut =
       call-shut (asked k t .number) (k .outcomes) (asked k t .steps) (t .chip) fine-steps
       (subst (λ (ss : List Step). shuts false ss ≡ true) same-steps (row-shuts (k .order) t))
@@ -413,24 +413,24 @@ module _ (t : Tuner) (es : List Entry) (s : Sequence t es) (k : Call) (g : given
   -- "Where a step fails the rest of the call is not taken, but an open repeater (its opening done) is closed (one entry)": told open by the entries up to the
   -- failing one, it is closed by the entry behind it
   module _ (i : ℕ) (c : Cut i (entries k t) (entries (uncut i k) t)) where
-    pub closing-there : heldIn (c .earlier ++ (c .last ∷ [])) ≡ true → (ok : Bool) × (c .closing ≡ repeater 0 ok ∷ [])
+    pub closing-there : openedIn (c .earlier ++ (c .last ∷ [])) ≡ true → (ok : Bool) × (c .closing ≡ repeater 0 ok ∷ [])
     closing-there h = go (c .closing) (c .closes) refl
       where
         go : (l : List Entry) → Closing l → c .closing ≡ l → (ok : Bool) × (c .closing ≡ repeater 0 ok ∷ [])
         go l nothing e =
-            absurd (true≢false (sym h ∙ ap (λ (x : List Entry). heldIn (c .earlier ++ (c .last ∷ x))) (sym e) ∙ ap heldIn (sym (c .cuts)) ∙ shut))
+            absurd (true≢false (sym h ∙ ap (λ (x : List Entry). openedIn (c .earlier ++ (c .last ∷ x))) (sym e) ∙ ap openedIn (sym (c .cuts)) ∙ shut))
         go l (closed ok) e = (ok, e)
 
     -- told shut, there is none
-    pub closing-not-there : heldIn (c .earlier ++ (c .last ∷ [])) ≡ false → c .closing ≡ []
+    pub closing-not-there : openedIn (c .earlier ++ (c .last ∷ [])) ≡ false → c .closing ≡ []
     closing-not-there h = go (c .closing) (c .closes) refl
       where
         early : List Entry
         early = c .earlier ++ (c .last ∷ [])
 
-        behind-it : closesOpen (heldIn early) (c .closing) ≡ true
+        behind-it : closesOpen (openedIn early) (c .closing) ≡ true
         behind-it =
-            and-right (closesOpen false early) (closesOpen (heldIn early) (c .closing))
+            and-right (closesOpen false early) (closesOpen (openedIn early) (c .closing))
             (sym (closes-append false early (c .closing)) ∙ ap (closesOpen false) (append-snoc (c .earlier) (c .last) (c .closing) ∙ sym (c .cuts)) ∙ only-open)
 
         go : (l : List Entry) → Closing l → c .closing ≡ l → c .closing ≡ []
@@ -453,7 +453,7 @@ aside-shuts (Demod Stop) = refl
 aside-shuts (Demod (IfXtal hz xtal)) = refl
 aside-shuts (Demod (RateXtal rate xtal)) = refl
 
-pub aside-shut : (a : Aside) → asideGiven (a .other) ≡ true → heldIn (asideEntries a) ≡ false
+pub aside-shut : (a : Aside) → asideGiven (a .other) ≡ true → openedIn (asideEntries a) ≡ false
 aside-shut a g =
     let same : asideAsked a .steps ≡ stepsOf (asideRow (a .other)) = asked-steps true (asideRow (a .other)) (length (a .outcomes)) (length (a .room)) in
     call-shut (asideAsked a .number) (a .outcomes) (asideAsked a .steps) noChip (aside-stepping a g .good) (subst (λ (ss : List Step). shuts false ss ≡ true) (sym same) (aside-shuts (a .other)))

@@ -15,12 +15,12 @@ use Rattle.chip.specs.declared.Answer.{Answer}
 use Rattle.chip.specs.declared.Answer.the-variants.{Done, Refused}
 use Rattle.chip.specs.declared.Chip.{Chip}
 use Rattle.chip.specs.declared.Update.{Update}
-use Rattle.chip.specs.declared.Went.{Went}
-use Rattle.chip.specs.declared.Went.the-variants.{Going, Refused11}
+use Rattle.chip.specs.declared.Progress.{Progress}
+use Rattle.chip.specs.declared.Progress.the-variants.{Going, Refused11}
 use Rattle.chip.specs.Calls.{Called, callOf, called, performed, refusalWith}
 use Rattle.chip.specs.Courses.{Course, leftBy, stepsOf}
 use Rattle.chip.specs.Courses.Course.{Still, Taken}
-use Rattle.chip.specs.Steps.{Step, Trace, behind, trace, updates}
+use Rattle.chip.specs.Steps.{Step, Trace, whileOpen, trace, updates}
 use Rattle.driver.specs.declared.Driver.{Driver}
 use Rattle.driver.specs.Calls.{boardRow, both, retuned}
 use Rattle.driver.specs.Programs.{boardPathSteps, ifFor, sampleRateSteps}
@@ -35,7 +35,7 @@ use Rattle.r82xx.specs.Orders as tuner
 use Rattle.r82xx.specs.Orders.{bracket, gainRow, pathRow}
 use Rattle.r82xx.specs.Orders.Order.{Initialize, Reload, Bandwidth, IfFreq, Gain, GainIndex, InputPath, Tune, Notch, GainTold, IfTold, TableTold}
 use Rattle.writes.specs.Lists.{bandwidthUpdates, gainUpdates, ifUpdates, pathUpdates}
-use Rattle.sequences.specs.Calls.{Order, after, call, resultOf, result, rowOf, soundFor, tunerPart}
+use Rattle.sequences.specs.Calls.{Order, tunerAfter, call, resultOf, result, rowOf, soundFor, tunerPart}
 use Rattle.sequences.specs.Calls.Order.{Tuned, SampleRate, Correction, BoardPath, BoardTune}
 use Rattle.sequences.specs.Since.{Since, setsIf}
 use Rattle.sequences.specs.Since.Since.{start, later}
@@ -63,13 +63,13 @@ module _ (t : Tuner) (z : t .ifreq ≡ 0) where
   row-zero s os room row (stepping argument n m rs whole ss keep h) =
       steps-zero (eqb (refusalWith s argument n m (length room) (length os) (length rs)) 0) (refusalWith s argument n m (length room) (length os) (length rs)) whole os ss keep room h
 
-  ended-zero : (u : Tuner) → u .ifreq ≡ 0 → (w : Went) (c : Chip) → endedBy t u w c .ifreq ≡ 0
+  ended-zero : (u : Tuner) → u .ifreq ≡ 0 → (w : Progress) (c : Chip) → endedBy t u w c .ifreq ≡ 0
   ended-zero u h Going c = h
   ended-zero u h (Refused11 k) c = z
 
   bracket-zero : (n : ℕ) (us : List Update) (answer : Answer) (u : Tuner) → u .ifreq ≡ 0 → Zero (bracket n us answer t u)
   unfolding bracket
-  bracket-zero n us answer u h = stepping 0 (n + 2) 0 [] answer (behind (updates us)) _ (λ tr. ended-zero u h (tr .went) (tr .chip))
+  bracket-zero n us answer u h = stepping 0 (n + 2) 0 [] answer (whileOpen (updates us)) _ (λ tr. ended-zero u h (tr .progress) (tr .chip))
 
   gain-zero : (k : ℕ) → Zero (gainRow k t)
   unfolding gainRow
@@ -125,17 +125,17 @@ zero-sent t u s z rate table d =
     ap (λ (hz : ℕ). sampleRateSteps hz rate (xtalOf d) (planBy table (d .frequency) .plan .inverted)) (rate-zero u (zero-stays t u s z) rate)
 
 -- "until an IF is set": a call that sets one and has taken a step has set it, whatever failed: "IF changes before its writes are tried"
-pub if-set : (t : Tuner) (hz : ℕ) (os room : List ℕ) → 0 < result (call (Tuned (IfFreq hz)) os room) t .count → after (call (Tuned (IfFreq hz)) os room) t .ifreq ≡ hz
+pub if-set : (t : Tuner) (hz : ℕ) (os room : List ℕ) → 0 < result (call (Tuned (IfFreq hz)) os room) t .count → tunerAfter (call (Tuned (IfFreq hz)) os room) t .ifreq ≡ hz
 unfolding tuner.resultOf leftBy bracket callOf
 if-set t hz os room = go (eqb (refusalWith (sound t) 0 4 0 (length room) (length os) 0) 0)
   where
-    ended : (w : Went) (c : Chip) → endedBy (withIf t hz) (withIf t hz) w c .ifreq ≡ hz
+    ended : (w : Progress) (c : Chip) → endedBy (withIf t hz) (withIf t hz) w c .ifreq ≡ hz
     ended Going c = refl
     ended (Refused11 k) c = refl
 
     go : (b : Bool)
-        → 0 < cond b (performed (Done 0) (λ tr. endedBy (withIf t hz) (withIf t hz) (tr .went) (tr .chip)) room (trace os (behind (updates (ifUpdates hz))) (t .chip))) (called t room 0 (Refused (refusalWith (sound t) 0 4 0 (length room) (length os) 0))) .count
-        → cond b (performed (Done 0) (λ tr. endedBy (withIf t hz) (withIf t hz) (tr .went) (tr .chip)) room (trace os (behind (updates (ifUpdates hz))) (t .chip))) (called t room 0 (Refused (refusalWith (sound t) 0 4 0 (length room) (length os) 0))) .next .ifreq
+        → 0 < cond b (performed (Done 0) (λ tr. endedBy (withIf t hz) (withIf t hz) (tr .progress) (tr .chip)) room (trace os (whileOpen (updates (ifUpdates hz))) (t .chip))) (called t room 0 (Refused (refusalWith (sound t) 0 4 0 (length room) (length os) 0))) .count
+        → cond b (performed (Done 0) (λ tr. endedBy (withIf t hz) (withIf t hz) (tr .progress) (tr .chip)) room (trace os (whileOpen (updates (ifUpdates hz))) (t .chip))) (called t room 0 (Refused (refusalWith (sound t) 0 4 0 (length room) (length os) 0))) .next .ifreq
         ≡ hz
-    go true h = ended (trace os (behind (updates (ifUpdates hz))) (t .chip) .went) (trace os (behind (updates (ifUpdates hz))) (t .chip) .chip)
+    go true h = ended (trace os (whileOpen (updates (ifUpdates hz))) (t .chip) .progress) (trace os (whileOpen (updates (ifUpdates hz))) (t .chip) .chip)
     go false h = absurd (omega arith)

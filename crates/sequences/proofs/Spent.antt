@@ -19,12 +19,12 @@ use Rattle.boards.specs.Hops.{ddcPart, hopSteps, pathPart, pathReplies}
 use Rattle.chip.specs.declared.Answer.{Answer}
 use Rattle.chip.specs.declared.Chip.{Chip}
 use Rattle.chip.specs.declared.Update.{Update}
-use Rattle.chip.specs.declared.Went.the-variants.{Going}
-use Rattle.chip.specs.Calls.{callEntries, lentOf}
+use Rattle.chip.specs.declared.Progress.the-variants.{Going}
+use Rattle.chip.specs.Calls.{callEntries, tooShort}
 use Rattle.chip.specs.Courses.{stepsOf}
 use Rattle.chip.specs.Courses.Course.{Still}
 use Rattle.chip.specs.Entries.{wait}
-use Rattle.chip.specs.Steps.{Step, Trace, acts, behind, chunkStep, chunkTable, emit, inList, line, okFor, run, step, trace, tunerWrite, updateStep, updates}
+use Rattle.chip.specs.Steps.{Step, Trace, acts, whileOpen, chunkStep, chunkTable, emit, inList, line, okFor, run, step, trace, tunerWrite, updateStep, updates}
 use Rattle.chip.specs.Steps.Step.{Open, Close, Send, Mask, Plain}
 use Rattle.chip.proofs.Laws.{active, idle}
 use Rattle.demod.specs.Calls.Order.{Baseband, LowIf, ZeroIf, Reset, Direct as DirectWrite, Start, Stop, IfXtal, RateXtal}
@@ -34,7 +34,7 @@ use Rattle.device.specs.Calls.{noChip}
 use Rattle.device.specs.Gpio.{bitSteps, outputSteps}
 use Rattle.device.specs.Gpio.Order.{Output, Bit}
 use Rattle.driver.specs.Calls.{Both, boardRow}
-use Rattle.driver.specs.Programs.{anewSteps, boardPathSteps, filterSteps, ifFor, levelFor, sampleRateSteps, tunerPath}
+use Rattle.driver.specs.Programs.{demodSetup, boardPathSteps, filterSteps, ifFor, levelFor, sampleRateSteps, tunerPath}
 use Rattle.driver.specs.Record.{xtalBy, xtalOf}
 use Rattle.fir.specs.Packing.{packOf}
 use Rattle.gain.specs.Steps.{chosenOf, clamped}
@@ -42,7 +42,7 @@ use Rattle.pll.specs.declared.Kind.{Kind}
 use Rattle.pll.specs.declared.Kind.the-variants.{R820T, R828D}
 use Rattle.pll.specs.declared.Pll.{Pll}
 use Rattle.pll.specs.declared.Pll.the-variants as pll-variants
-use Rattle.pll.specs.Divide.{firstOf, inVco}
+use Rattle.pll.specs.Divide.{firstMixer, inVco}
 use Rattle.pll.specs.Fraction.{turnOf, turnsOf}
 use Rattle.pll.specs.Plan.{planOf as pllOf, planWith}
 use Rattle.pll.specs.Setting.{settingOf}
@@ -95,12 +95,12 @@ emit-spent (Plain e) c ok = refl
 module _ (os : List ℕ) where
   step-spent : (s : Step) (t : Trace) → spentIn (step inList os s t .log) ≤ spentIn (t .log) + ofStep s
   unfolding spentIn
-  step-spent s t = go (acts s (t .went) (t .held)) refl
+  step-spent s t = go (acts s (t .progress) (t .opened)) refl
     where
       one : Entry
       one = emit s (t .chip) (okFor os (t .count) s)
 
-      go : (a : Bool) → acts s (t .went) (t .held) ≡ a → spentIn (step inList os s t .log) ≤ spentIn (t .log) + ofStep s
+      go : (a : Bool) → acts s (t .progress) (t .opened) ≡ a → spentIn (step inList os s t .log) ≤ spentIn (t .log) + ofStep s
       go true e =
           subst (λ (u : Trace). spentIn (u .log) ≤ spentIn (t .log) + ofStep s) (active inList os s t e)
           (omega (arith, spent-append (t .log) (one ∷ []), emit-spent s (t .chip) (okFor os (t .count) s)))
@@ -134,11 +134,11 @@ needed-map f h (a ∷ l) = omega (arith, h a, needed-map f h l)
 needed-updates : (us : List Update) → needed (updates us) ≡ 0
 needed-updates us = needed-map updateStep (λ u. refl) us
 
-needed-behind : (ss : List Step) → needed (behind ss) ≡ needed ss
+needed-behind : (ss : List Step) → needed (whileOpen ss) ≡ needed ss
 unfolding needed
 needed-behind ss = omega (arith, needed-append ss (Close ∷ []))
 
-needed-bracket : (us : List Update) → needed (behind (updates us)) ≡ 0
+needed-bracket : (us : List Update) → needed (whileOpen (updates us)) ≡ 0
 needed-bracket us = needed-behind (updates us) ∙ needed-updates us
 
 needed-chunks : (bs : List ℕ) (from to : ℕ) → needed (tunerWrite bs from to) ≡ 0
@@ -150,7 +150,7 @@ needed-all bs = omega (arith, needed-append (tunerWrite bs 0 3) (tunerWrite bs 3
 
 needed-init : needed initSteps ≡ 0
 needed-init =
-    omega (arith, needed-append (sendAll initArray) (behind (updates initUpdates) ++ behind (updates (ifUpdates 2_300_000))), needed-append (behind (updates initUpdates)) (behind (updates (ifUpdates 2_300_000))), needed-all initArray, needed-bracket initUpdates, needed-bracket (ifUpdates 2_300_000))
+    omega (arith, needed-append (sendAll initArray) (whileOpen (updates initUpdates) ++ whileOpen (updates (ifUpdates 2_300_000))), needed-append (whileOpen (updates initUpdates)) (whileOpen (updates (ifUpdates 2_300_000))), needed-all initArray, needed-bracket initUpdates, needed-bracket (ifUpdates 2_300_000))
 
 -- ---- a tuning: five, then three per try
 
@@ -205,13 +205,13 @@ needed-board : (kind : Kind) (path : Path) (rs : List ℕ) → needed (boardPath
 needed-board kind path rs =
     omega (arith, needed-append (outputSteps 5 (getD rs 0 0) (getD rs 1 0)) (bitSteps 5 (levelFor path) (getD rs 2 0) ++ tunerPath kind path), needed-append (bitSteps 5 (levelFor path) (getD rs 2 0)) (tunerPath kind path), needed-gpio 5 (levelFor path) (getD rs 0 0) (getD rs 1 0) (getD rs 2 0), needed-own kind path)
 
-needed-anew : (hz rate xtal : ℕ) (inverted : Bool) → needed (anewSteps hz rate xtal ++ ddcSteps inverted) ≡ 0
+needed-demod-setup : (hz rate xtal : ℕ) (inverted : Bool) → needed (demodSetup hz rate xtal ++ ddcSteps inverted) ≡ 0
 unfolding needed resetSteps rateSteps ifSteps ddcSteps accessStep
-needed-anew hz rate xtal inverted = refl
+needed-demod-setup hz rate xtal inverted = refl
 
 needed-rate : (hz rate xtal : ℕ) (inverted : Bool) → needed (sampleRateSteps hz rate xtal inverted) ≡ 0
 needed-rate hz rate xtal inverted =
-    omega (arith, needed-append (filterSteps hz rate) (anewSteps hz rate xtal ++ ddcSteps inverted), needed-append (behind (updates (ifUpdates hz))) (behind (updates (bandwidthUpdates rate))), needed-bracket (ifUpdates hz), needed-bracket (bandwidthUpdates rate), needed-anew hz rate xtal inverted)
+    omega (arith, needed-append (filterSteps hz rate) (demodSetup hz rate xtal ++ ddcSteps inverted), needed-append (whileOpen (updates (ifUpdates hz))) (whileOpen (updates (bandwidthUpdates rate))), needed-bracket (ifUpdates hz), needed-bracket (bandwidthUpdates rate), needed-demod-setup hz rate xtal inverted)
 
 needed-path-part : (kind : Kind) (r : Route) (rs : List ℕ) → needed (pathPart kind r rs) ≤ 3
 unfolding needed
@@ -299,9 +299,9 @@ replies-aside a =
 -- ---- and some runs take as many: no lock in ten tries
 
 pub tune-spends : spentIn (entries (lent (Tuned (Tune 100_000_000 (replicate 35 0)))) fresh) ≡ 35
-unfolding spentIn trace run step lentOf inVco firstOf settingOf turnOf turnsOf planWith pllOf innerSteps repairUpdates triesFrom reversed
+unfolding spentIn trace run step tooShort inVco firstMixer settingOf turnOf turnsOf planWith pllOf innerSteps repairUpdates triesFrom reversed
 tune-spends = refl
 
 pub hop-spends : spentIn (entries (lent hop) fresh) ≡ 38
-unfolding spentIn trace run step lentOf accessStep outputSteps bitSteps xtalBy correctedOf ddcSteps inVco firstOf settingOf turnOf turnsOf planWith pllOf innerSteps repairUpdates triesFrom reversed planBy tableOk ascending bandsIn bandOf planIn planAt leValue
+unfolding spentIn trace run step tooShort accessStep outputSteps bitSteps xtalBy correctedOf ddcSteps inVco firstMixer settingOf turnOf turnsOf planWith pllOf innerSteps repairUpdates triesFrom reversed planBy tableOk ascending bandsIn bandOf planIn planAt leValue
 hop-spends = refl

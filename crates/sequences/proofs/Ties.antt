@@ -13,12 +13,12 @@ use Rattle.transcript.specs.declared.Entry.{Entry}
 use Rattle.transcript.specs.Sections.{Parted}
 use Rattle.chip.specs.declared.Answer.the-variants.{Refused, Stopped}
 use Rattle.chip.specs.declared.Chip.{Chip}
-use Rattle.chip.specs.declared.Went.the-variants.{Refused11}
+use Rattle.chip.specs.declared.Progress.the-variants.{Refused11}
 use Rattle.chip.specs.Calls.{Called, callEntries}
 use Rattle.chip.specs.Courses.{Asked, askedBy}
 use Rattle.chip.specs.Steps.{run, trace}
 use Rattle.r82xx.specs.declared.Tuner.{Tuner}
-use Rattle.history.specs.Histories.{Cut, History, stops, wentIn}
+use Rattle.history.specs.Histories.{Cut, History, stops, progressIn}
 use Rattle.history.proofs.Fitted.{most-trace}
 use Rattle.history.proofs.Calls.{call-count, call-cut, call-history, call-index, call-read, call-refused}
 use Rattle.sequences.specs.Calls.{Call, asked, entries, rowOf, soundFor, uncut}
@@ -51,7 +51,7 @@ module _ (R : Type 0) (c : Chip) (old : R) (x : Called R) (a : Asked) (os room :
           ap (λ (d : Called R). d .count) (s .same ∙ call-refused (a .number) (s .whole) os (a .steps) c (s .keep) old room e) in
           absurd (omega (arith, zero))
 
-  pub step-index : (i : ℕ) → x .answer ≡ Stopped i → wentIn made ≡ Refused11 i
+  pub step-index : (i : ℕ) → x .answer ≡ Stopped i → progressIn made ≡ Refused11 i
   step-index i h =
       call-index (a .number) (s .whole) os (a .steps) c (s .keep) old room i (s .named) (s .good)
       (sym (ap (λ (d : Called R). d .answer) (s .same)) ∙ h)
@@ -81,7 +81,7 @@ module _ (t : Tuner) (x : Called Tuner) (a : Asked) (os room : List ℕ) where
   view-read (silent s) small some = absurd (omega (arith, s .count))
 
   -- (e) "an invented .. step index" is shut out
-  pub view-index : View t x a os room → (i : ℕ) → x .answer ≡ Stopped i → wentIn es ≡ Refused11 i
+  pub view-index : View t x a os room → (i : ℕ) → x .answer ≡ Stopped i → progressIn es ≡ Refused11 i
   view-index (moving m) i h = step-index Tuner (t .chip) t x a os room (m .steps) i h
   view-index (silent s) i h = absurd (false≢true (sym (s .named) ∙ ap stops h))
 

@@ -14,16 +14,16 @@ use Rattle.transcript.specs.Entries.{zeros8}
 use Rattle.chip.specs.declared.Answer.{Answer}
 use Rattle.chip.specs.declared.Answer.the-variants.{Done, Refused, Stopped}
 use Rattle.chip.specs.declared.Chip.{Chip}
-use Rattle.chip.specs.declared.Seen.{Seen}
+use Rattle.chip.specs.declared.LockTries.{LockTries}
 use Rattle.chip.specs.declared.Update.{Update}
-use Rattle.chip.specs.declared.Went.{Went}
-use Rattle.chip.specs.declared.Went.the-variants.{Going, Refused11}
-use Rattle.chip.specs.Calls.{answerOf, callEntries, callOf, called, lentOf, lockedIn, performed, seenIn, triesIn}
+use Rattle.chip.specs.declared.Progress.{Progress}
+use Rattle.chip.specs.declared.Progress.the-variants.{Going, Refused11}
+use Rattle.chip.specs.Calls.{answerOf, callEntries, callOf, called, tooShort, lockedIn, performed, lockTriesIn, triesIn}
 use Rattle.chip.specs.Chips.{pair}
 use Rattle.chip.specs.Courses.{leftBy}
-use Rattle.chip.specs.Entries.{flagOf, isTry, lockBit, pointer, readEntry, saw, unseen, wait}
+use Rattle.chip.specs.Entries.{flagOf, isTry, lockBit, pointer, readEntry, lockTries, noTries, wait}
 use Rattle.status.specs.Reversal.{lockedBy}
-use Rattle.chip.specs.Steps.{Step, Trace, emit, every, goes, inList, line, okFor, run, step, toldOf, trace, updates}
+use Rattle.chip.specs.Steps.{Step, Trace, emit, every, goes, inList, line, okFor, run, step, progressOf, trace, updates}
 use Rattle.chip.specs.Steps.Step.{Open, Close, Send, Mask, Plain}
 use Rattle.chip.proofs.Laws.{active, run-app}
 use Rattle.chip.proofs.Taken.{untried}
@@ -32,18 +32,18 @@ use Rattle.pll.specs.declared.Kind.the-variants.{R828D}
 use Rattle.pll.specs.declared.Plan.{Plan}
 use Rattle.pll.specs.declared.Pll.{Pll}
 use Rattle.pll.specs.declared.Pll.the-variants as pll-variants
-use Rattle.pll.specs.Divide.{firstOf, inVco}
+use Rattle.pll.specs.Divide.{firstMixer, inVco}
 use Rattle.pll.specs.Fraction.{turnOf, turnsOf}
 use Rattle.pll.specs.Plan.{planOf as pllOf, planWith}
 use Rattle.pll.specs.Setting.{settingOf}
 use Rattle.status.specs.Reversal.{reversed}
 use Rattle.tuning.specs.Mux.{muxUpdates, pllUpdates, rangeOf}
-use Rattle.tuning.specs.Program.{innerSteps, tuneSteps, wholeOf}
+use Rattle.tuning.specs.Program.{innerSteps, tuneSteps, tuneAnswer}
 use Rattle.tuning.specs.Tries.{afterTry, again, locked, locksAt, repairUpdates, replyBytes, statusSteps, triesFrom, tryRead}
 use Rattle.tuning.proofs.Programs.{every-app}
 use Rattle.r82xx.specs.declared.Tuner.{Tuner}
 use Rattle.r82xx.specs.Calls.{hzRefusal, planFor, refusalOf}
-use Rattle.r82xx.specs.Orders.{lockKept, resultOf, seenOf, tuneOf}
+use Rattle.r82xx.specs.Orders.{lockKept, resultOf, lockTriesOf, tuneOf}
 use Rattle.r82xx.specs.Orders.Order.{Tune}
 use Rattle.r82xx.specs.Record.{freshTuner}
 use Rattle.history.proofs.Runs.{run-keeps, stopped-run}
@@ -52,16 +52,16 @@ use Rattle.sequences.specs.Calls.Order.{Tuned}
 use Rattle.sequences.specs.Waited.{waitedFrom}
 
 -- "Tries equal the three-byte reads in the transcript that were done": of the very entries that the reader finds in the room
-pub told-by-entries : (hz : ℕ) (rs os room : List ℕ) (t : Tuner) → seenOf (Tune hz rs) os t room ≡ seenIn (entries (call (Tuned (Tune hz rs)) os room) t)
-unfolding seenOf
+pub told-by-entries : (hz : ℕ) (rs os room : List ℕ) (t : Tuner) → lockTriesOf (Tune hz rs) os t room ≡ lockTriesIn (entries (call (Tuned (Tune hz rs)) os room) t)
+unfolding lockTriesOf
 told-by-entries hz rs os room t = refl
 
 -- ---- a refusal tells of no try
 
 -- before any step, whatever its number
 pub refused-before : (hz : ℕ) (rs os room : List ℕ) (t : Tuner) → (refusalOf t (hzRefusal hz (t .ifreq)) 53 35 (length room) (length os) (length rs) ≡ 0 → ⊥)
-    → seenOf (Tune hz rs) os t room ≡ unseen
-unfolding seenOf
+    → lockTriesOf (Tune hz rs) os t room ≡ noTries
+unfolding lockTriesOf
 refused-before hz rs os room t h = sym (untried _ os _ (t .chip) h)
 
 -- a step whose entry is no try, however it goes
@@ -98,21 +98,21 @@ locked-next (x ∷ es) e =
     ap (λ (b : Bool). (isTry x && lockBit x) || b) (locked-next es e) ∙ sym (or-assoc (isTry x && lockBit x) (lockedIn es) (isTry e && lockBit e))
 
 -- one that is no try says nothing
-seen-past : (es : List Entry) (e : Entry) → isTry e ≡ false → seenIn (es ++ (e ∷ [])) ≡ seenIn es
+seen-past : (es : List Entry) (e : Entry) → isTry e ≡ false → lockTriesIn (es ++ (e ∷ [])) ≡ lockTriesIn es
 seen-past es e h =
-    (λ i. saw ((tries-next es e ∙ ap (λ (b : Bool). triesIn es + cond b 1 0) h) i) ((locked-next es e ∙ ap (λ (b : Bool). lockedIn es || (b && lockBit e)) h) i))
-    ∙ (λ i. saw (more i) (or-false (lockedIn es) i))
+    (λ i. lockTries ((tries-next es e ∙ ap (λ (b : Bool). triesIn es + cond b 1 0) h) i) ((locked-next es e ∙ ap (λ (b : Bool). lockedIn es || (b && lockBit e)) h) i))
+    ∙ (λ i. lockTries (more i) (or-false (lockedIn es) i))
   where
     more : triesIn es + 0 ≡ triesIn es
     more = omega arith
 
 module _ (os : List ℕ) where
-  quiet-run : (ss : List Step) (t : Trace) → every quiet ss ≡ true → seenIn (run inList os ss t .log) ≡ seenIn (t .log)
+  quiet-run : (ss : List Step) (t : Trace) → every quiet ss ≡ true → lockTriesIn (run inList os ss t .log) ≡ lockTriesIn (t .log)
   quiet-run ss t h =
-      run-keeps os (λ (u : Trace). seenIn (u .log) ≡ seenIn (t .log)) quiet
+      run-keeps os (λ (u : Trace). lockTriesIn (u .log) ≡ lockTriesIn (t .log)) quiet
       (λ s u g a q. seen-past (u .log) (emit s (u .chip) (okFor os (u .count) s)) (no-try s (u .chip) (okFor os (u .count) s) g) ∙ q) ss t h refl
 
-  quiet-trace : (ss : List Step) (c : Chip) → every quiet ss ≡ true → seenIn (trace os ss c .log) ≡ unseen
+  quiet-trace : (ss : List Step) (c : Chip) → every quiet ss ≡ true → lockTriesIn (trace os ss c .log) ≡ noTries
   unfolding trace triesIn lockedIn
   quiet-trace ss c h = quiet-run ss (line c [] 0 Going false) h
 
@@ -121,19 +121,19 @@ mux-writes : (address hz : ℕ) (kind : Kind) (notch : Bool) (rs : List ℕ) →
 unfolding every innerSteps
 mux-writes address hz kind notch rs = refl
 
-none-said : (number : ℕ) (os : List ℕ) (ss : List Step) (c : Chip) → every quiet ss ≡ true → seenIn (callEntries number os ss c) ≡ unseen
+none-said : (number : ℕ) (os : List ℕ) (ss : List Step) (c : Chip) → every quiet ss ≡ true → lockTriesIn (callEntries number os ss c) ≡ noTries
 none-said number os ss c h = go (eqb number 0) refl
   where
-    go : (b : Bool) → eqb number 0 ≡ b → seenIn (callEntries number os ss c) ≡ unseen
+    go : (b : Bool) → eqb number 0 ≡ b → lockTriesIn (callEntries number os ss c) ≡ noTries
     go true e = rw e (quiet-trace os ss c h)
     go false e = sym (untried number os ss c (eqb-false number 0 e))
 
 -- 2 in the PLL, whatever the outcomes: 0 tries, not locked
-pub refused-in-the-pll-untried : (hz : ℕ) (rs os room : List ℕ) (t : Tuner) → planFor t hz ≡ pll-variants.Refused → seenOf (Tune hz rs) os t room ≡ unseen
-unfolding seenOf
+pub refused-in-the-pll-untried : (hz : ℕ) (rs os room : List ℕ) (t : Tuner) → planFor t hz ≡ pll-variants.Refused → lockTriesOf (Tune hz rs) os t room ≡ noTries
+unfolding lockTriesOf
 refused-in-the-pll-untried hz rs os room t p =
     let number : ℕ = refusalOf t (hzRefusal hz (t .ifreq)) 53 35 (length room) (length os) (length rs) in
-    ap (λ (q : Pll). seenIn (callEntries number os (tuneOf t q hz rs) (t .chip))) p
+    ap (λ (q : Pll). lockTriesIn (callEntries number os (tuneOf t q hz rs) (t .chip))) p
     ∙ none-said number os (tuneOf t pll-variants.Refused hz rs) (t .chip) (mux-writes (t .chip .address) hz (t .kind) (t .notch) rs)
 
 -- ---- where no step failed: the tries by the replies
@@ -152,7 +152,7 @@ reply-bit rs i =
     ap lockedBy (third-of (drop (5 + 3 * i) rs) ∙ getD-drop (5 + 3 * i) rs 2 0 ∙ ap (λ (k : ℕ). getD rs k 0) place)
 
 -- a step that was done, by how it went on
-done-by : (ok : Bool) (k : ℕ) → toldOf ok k ≡ Going → ok ≡ true
+done-by : (ok : Bool) (k : ℕ) → progressOf ok k ≡ Going → ok ≡ true
 done-by true k h = refl
 done-by false k h = absurd (false≢true (ap goes h))
 
@@ -167,69 +167,69 @@ quiet-after i = every-app quiet (updates (again i)) (Plain (wait 1) ∷ []) (qui
 
 module _ (os : List ℕ) where
   -- what went on at its end went on before
-  going-back : (ss : List Step) (t : Trace) → run inList os ss t .went ≡ Going → t .went ≡ Going
-  going-back ss t h = go (t .went) refl
+  going-back : (ss : List Step) (t : Trace) → run inList os ss t .progress ≡ Going → t .progress ≡ Going
+  going-back ss t h = go (t .progress) refl
     where
-      go : (w : Went) → t .went ≡ w → t .went ≡ Going
+      go : (w : Progress) → t .progress ≡ w → t .progress ≡ Going
       go Going e = e
-      go (Refused11 k) e = absurd (false≢true (sym (ap goes (stopped-run os ss t (ap goes e) .went ∙ e)) ∙ ap goes h))
+      go (Refused11 k) e = absurd (false≢true (sym (ap goes (stopped-run os ss t (ap goes e) .progress ∙ e)) ∙ ap goes h))
 
   -- a read of three bytes that was done is a try, and says what its third byte says
-  try-done : (address : ℕ) (bytes : List ℕ) (t : Trace) → t .went ≡ Going → step inList os (Plain (readEntry address 3 bytes)) t .went ≡ Going
-      → seenIn (step inList os (Plain (readEntry address 3 bytes)) t .log) ≡ saw (triesIn (t .log) + 1) (lockedIn (t .log) || lockedBy (getD bytes 2 0))
+  try-done : (address : ℕ) (bytes : List ℕ) (t : Trace) → t .progress ≡ Going → step inList os (Plain (readEntry address 3 bytes)) t .progress ≡ Going
+      → lockTriesIn (step inList os (Plain (readEntry address 3 bytes)) t .log) ≡ lockTries (triesIn (t .log) + 1) (lockedIn (t .log) || lockedBy (getD bytes 2 0))
   try-done address bytes t g h =
       let s : Step = Plain (readEntry address 3 bytes) in
       let ok : Bool = okFor os (t .count) s in
       let is = active inList os s t (ap goes g) in
-      let fine : ok ≡ true = done-by ok (t .count) (ap (λ (u : Trace). u .went) is ∙ h) in
-      sym (ap (λ (u : Trace). seenIn (u .log)) is)
-      ∙ ap (λ (b : Bool). seenIn (t .log ++ (emit s (t .chip) b ∷ []))) fine
-      ∙ (λ i. saw (tries-next (t .log) (emit s (t .chip) true) i) (locked-next (t .log) (emit s (t .chip) true) i))
+      let fine : ok ≡ true = done-by ok (t .count) (ap (λ (u : Trace). u .progress) is ∙ h) in
+      sym (ap (λ (u : Trace). lockTriesIn (u .log)) is)
+      ∙ ap (λ (b : Bool). lockTriesIn (t .log ++ (emit s (t .chip) b ∷ []))) fine
+      ∙ (λ i. lockTries (tries-next (t .log) (emit s (t .chip) true) i) (locked-next (t .log) (emit s (t .chip) true) i))
 
   module _ (address : ℕ) (rs : List ℕ) where
     -- a try's two steps
-    try-said : (i n : ℕ) (t : Trace) → run inList os (tryRead address rs i) t .went ≡ Going → seenIn (t .log) ≡ saw n false
-        → seenIn (run inList os (tryRead address rs i) t .log) ≡ saw (n + 1) (locksAt rs i)
+    try-said : (i n : ℕ) (t : Trace) → run inList os (tryRead address rs i) t .progress ≡ Going → lockTriesIn (t .log) ≡ lockTries n false
+        → lockTriesIn (run inList os (tryRead address rs i) t .log) ≡ lockTries (n + 1) (locksAt rs i)
     unfolding run every
     try-said i n t h e =
         let u : Trace = step inList os (Plain (pointer address)) t in
-        let same : seenIn (u .log) ≡ saw n false = quiet-run os (Plain (pointer address) ∷ []) t refl ∙ e in
-        let goes-on : u .went ≡ Going = going-back (Plain (readEntry address 3 (replyBytes rs (5 + 3 * i) 3)) ∷ []) u h in
+        let same : lockTriesIn (u .log) ≡ lockTries n false = quiet-run os (Plain (pointer address) ∷ []) t refl ∙ e in
+        let goes-on : u .progress ≡ Going = going-back (Plain (readEntry address 3 (replyBytes rs (5 + 3 * i) 3)) ∷ []) u h in
         try-done address (replyBytes rs (5 + 3 * i) 3) u goes-on h
-        ∙ (λ j. saw (same j .tries + 1) (same j .locked || reply-bit rs i j))
+        ∙ (λ j. lockTries (same j .tries + 1) (same j .locked || reply-bit rs i j))
 
     -- one turn: a try, then what follows it
-    turn-said : (i : ℕ) (more : List Step) (t : Trace) (b : Bool) (end : Seen) → locksAt rs i ≡ b → seenIn (t .log) ≡ saw i false
-        → ((u : Trace) → run inList os more u .went ≡ Going → seenIn (u .log) ≡ saw (i + 1) false → seenIn (run inList os more u .log) ≡ end)
-        → run inList os (tryRead address rs i ++ cond b (updates locked) (afterTry i ++ more)) t .went ≡ Going
-        → seenIn (run inList os (tryRead address rs i ++ cond b (updates locked) (afterTry i ++ more)) t .log) ≡ cond b (saw (i + 1) true) end
+    turn-said : (i : ℕ) (more : List Step) (t : Trace) (b : Bool) (end : LockTries) → locksAt rs i ≡ b → lockTriesIn (t .log) ≡ lockTries i false
+        → ((u : Trace) → run inList os more u .progress ≡ Going → lockTriesIn (u .log) ≡ lockTries (i + 1) false → lockTriesIn (run inList os more u .log) ≡ end)
+        → run inList os (tryRead address rs i ++ cond b (updates locked) (afterTry i ++ more)) t .progress ≡ Going
+        → lockTriesIn (run inList os (tryRead address rs i ++ cond b (updates locked) (afterTry i ++ more)) t .log) ≡ cond b (lockTries (i + 1) true) end
     turn-said i more t true end l e ih h =
         let after : Trace = run inList os (tryRead address rs i) t in
         let split = run-app inList os (tryRead address rs i) (updates locked) t in
-        let ended : run inList os (updates locked) after .went ≡ Going = ap (λ (u : Trace). u .went) (sym split) ∙ h in
-        ap (λ (u : Trace). seenIn (u .log)) split
+        let ended : run inList os (updates locked) after .progress ≡ Going = ap (λ (u : Trace). u .progress) (sym split) ∙ h in
+        ap (λ (u : Trace). lockTriesIn (u .log)) split
         ∙ quiet-run os (updates locked) after (quiet-updates locked)
         ∙ try-said i i t (going-back (updates locked) after ended) e
-        ∙ ap (saw (i + 1)) l
+        ∙ ap (lockTries (i + 1)) l
     turn-said i more t false end l e ih h =
         let after : Trace = run inList os (tryRead address rs i) t in
         let mid : Trace = run inList os (afterTry i) after in
         let split = run-app inList os (tryRead address rs i) (afterTry i ++ more) t ∙ run-app inList os (afterTry i) more after in
-        let ended : run inList os more mid .went ≡ Going = ap (λ (u : Trace). u .went) (sym split) ∙ h in
-        let before : after .went ≡ Going = going-back (afterTry i) after (going-back more mid ended) in
-        ap (λ (u : Trace). seenIn (u .log)) split
-        ∙ ih mid ended (quiet-run os (afterTry i) after (quiet-after i) ∙ try-said i i t before e ∙ ap (saw (i + 1)) l)
+        let ended : run inList os more mid .progress ≡ Going = ap (λ (u : Trace). u .progress) (sym split) ∙ h in
+        let before : after .progress ≡ Going = going-back (afterTry i) after (going-back more mid ended) in
+        ap (λ (u : Trace). lockTriesIn (u .log)) split
+        ∙ ih mid ended (quiet-run os (afterTry i) after (quiet-after i) ∙ try-said i i t before e ∙ ap (lockTries (i + 1)) l)
 
-    tries-said : (left i : ℕ) (t : Trace) → run inList os (triesFrom address rs left i) t .went ≡ Going → seenIn (t .log) ≡ saw i false
-        → seenIn (run inList os (triesFrom address rs left i) t .log) ≡ waitedFrom rs left i
+    tries-said : (left i : ℕ) (t : Trace) → run inList os (triesFrom address rs left i) t .progress ≡ Going → lockTriesIn (t .log) ≡ lockTries i false
+        → lockTriesIn (run inList os (triesFrom address rs left i) t .log) ≡ waitedFrom rs left i
     unfolding run triesFrom waitedFrom
     tries-said zero i t h e = e
     tries-said (suc left) i t h e =
         turn-said i (triesFrom address rs left (i + 1)) t (locksAt rs i) (waitedFrom rs left (i + 1)) refl e (λ u g q. tries-said left (i + 1) u g q) h
 
 -- a whole tuning by its plan
-planned-said : (os rs : List ℕ) (hz : ℕ) (t : Tuner) (p : Plan) → trace os (tuneOf t (pll-variants.Planned p) hz rs) (t .chip) .went ≡ Going
-    → seenIn (trace os (tuneOf t (pll-variants.Planned p) hz rs) (t .chip) .log) ≡ waitedFrom rs 10 0
+planned-said : (os rs : List ℕ) (hz : ℕ) (t : Tuner) (p : Plan) → trace os (tuneOf t (pll-variants.Planned p) hz rs) (t .chip) .progress ≡ Going
+    → lockTriesIn (trace os (tuneOf t (pll-variants.Planned p) hz rs) (t .chip) .log) ≡ waitedFrom rs 10 0
 unfolding trace run every innerSteps triesIn lockedIn
 planned-said os rs hz t p h =
     let address : ℕ = t .chip .address in
@@ -246,8 +246,8 @@ planned-said os rs hz t p h =
     run-app inList os (mux ++ (status ++ (fix ++ tries))) (Close ∷ []) opened
     ∙ ap (λ (u : Trace). run inList os (Close ∷ []) u)
     (run-app inList os mux (status ++ (fix ++ tries)) opened ∙ run-app inList os status (fix ++ tries) written ∙ run-app inList os fix tries probed) in
-    let ended : waited .went ≡ Going = going-back os (Close ∷ []) waited (ap (λ (u : Trace). u .went) (sym split) ∙ h) in
-    ap (λ (u : Trace). seenIn (u .log)) split
+    let ended : waited .progress ≡ Going = going-back os (Close ∷ []) waited (ap (λ (u : Trace). u .progress) (sym split) ∙ h) in
+    ap (λ (u : Trace). lockTriesIn (u .log)) split
     ∙ quiet-run os (Close ∷ []) waited refl
     ∙ tries-said os address rs 10 0 repaired ended
     (quiet-run os fix probed (quiet-updates (repairUpdates (t .kind) (p .number) (getD rs 4 0)))
@@ -260,19 +260,19 @@ isDone (Done value) = true
 isDone (Refused number) = false
 isDone (Stopped index) = false
 
-went-on : (whole : Answer) (w : Went) → isDone (answerOf whole w) ≡ true → (w ≡ Going) × (isDone whole ≡ true)
-went-on whole Going h = (refl, h)
-went-on whole (Refused11 k) h = absurd (false≢true h)
+progress-on : (whole : Answer) (w : Progress) → isDone (answerOf whole w) ≡ true → (w ≡ Going) × (isDone whole ≡ true)
+progress-on whole Going h = (refl, h)
+progress-on whole (Refused11 k) h = absurd (false≢true h)
 
-by-plan : (os rs : List ℕ) (hz : ℕ) (t : Tuner) (plan : Pll) → isDone (answerOf (wholeOf plan hz) (trace os (tuneOf t plan hz rs) (t .chip) .went)) ≡ true
-    → seenIn (trace os (tuneOf t plan hz rs) (t .chip) .log) ≡ waitedFrom rs 10 0
-by-plan os rs hz t pll-variants.Refused h = absurd (false≢true (went-on (Refused 2) (trace os (tuneOf t pll-variants.Refused hz rs) (t .chip) .went) h .1))
-by-plan os rs hz t (pll-variants.Planned p) h = planned-said os rs hz t p (went-on (Done hz) (trace os (tuneOf t (pll-variants.Planned p) hz rs) (t .chip) .went) h .0)
+by-plan : (os rs : List ℕ) (hz : ℕ) (t : Tuner) (plan : Pll) → isDone (answerOf (tuneAnswer plan hz) (trace os (tuneOf t plan hz rs) (t .chip) .progress)) ≡ true
+    → lockTriesIn (trace os (tuneOf t plan hz rs) (t .chip) .log) ≡ waitedFrom rs 10 0
+by-plan os rs hz t pll-variants.Refused h = absurd (false≢true (progress-on (Refused 2) (trace os (tuneOf t pll-variants.Refused hz rs) (t .chip) .progress) h .1))
+by-plan os rs hz t (pll-variants.Planned p) h = planned-said os rs hz t p (progress-on (Done hz) (trace os (tuneOf t (pll-variants.Planned p) hz rs) (t .chip) .progress) h .0)
 
 -- a tuning that is done tells the try whose reply has the lock bit, or all ten
 pub told-when-done : (hz value : ℕ) (rs os room : List ℕ) (t : Tuner) → resultOf (Tune hz rs) os t room .answer ≡ Done value
-    → seenOf (Tune hz rs) os t room ≡ waitedFrom rs 10 0
-unfolding resultOf leftBy callOf seenOf
+    → lockTriesOf (Tune hz rs) os t room ≡ waitedFrom rs 10 0
+unfolding resultOf leftBy callOf lockTriesOf
 told-when-done hz value rs os room t h = go (eqb number 0) (ap isDone h)
   where
     number : ℕ
@@ -281,8 +281,8 @@ told-when-done hz value rs os room t h = go (eqb number 0) (ap isDone h)
     tr : Trace
     tr = trace os (tuneOf t (planFor t hz) hz rs) (t .chip)
 
-    go : (b : Bool) → isDone (cond b (performed (wholeOf (planFor t hz) hz) (lockKept t) room tr) (called t room 0 (Refused number)) .answer) ≡ true
-        → seenIn (cond b (tr .log) []) ≡ waitedFrom rs 10 0
+    go : (b : Bool) → isDone (cond b (performed (tuneAnswer (planFor t hz) hz) (lockKept t) room tr) (called t room 0 (Refused number)) .answer) ≡ true
+        → lockTriesIn (cond b (tr .log) []) ≡ waitedFrom rs 10 0
     go true e = by-plan os rs hz t (planFor t hz) e
     go false e = absurd (false≢true e)
 
@@ -291,31 +291,31 @@ told-when-done hz value rs os room t h = go (eqb number 0) (ap isDone h)
 abbrev start : Tuner
 start = freshTuner R828D 0x74 28_800_000
 
-abbrev told : List ℕ → List ℕ → Seen
-told os rs = seenOf (Tune 100_000_000 rs) os start (replicate 856 0)
+abbrev told : List ℕ → List ℕ → LockTries
+told os rs = lockTriesOf (Tune 100_000_000 rs) os start (replicate 856 0)
 
 -- the lock bit in the reply of the third try
 abbrev third : List ℕ
 third = replicate 13 0 ++ (0x02 ∷ replicate 21 0)
 
-pub locked-at-the-third : told (replicate 53 0) third ≡ saw 3 true
-unfolding seenOf triesIn lockedIn trace run step lentOf inVco firstOf settingOf turnOf turnsOf planWith pllOf innerSteps repairUpdates replyBytes triesFrom reversed
+pub locked-at-the-third : told (replicate 53 0) third ≡ lockTries 3 true
+unfolding lockTriesOf triesIn lockedIn trace run step tooShort inVco firstMixer settingOf turnOf turnsOf planWith pllOf innerSteps repairUpdates replyBytes triesFrom reversed
 locked-at-the-third = refl
 
-pub not-locked-in-ten : told (replicate 53 0) (replicate 35 0) ≡ saw 10 false
-unfolding seenOf triesIn lockedIn trace run step lentOf inVco firstOf settingOf turnOf turnsOf planWith pllOf innerSteps repairUpdates replyBytes triesFrom reversed
+pub not-locked-in-ten : told (replicate 53 0) (replicate 35 0) ≡ lockTries 10 false
+unfolding lockTriesOf triesIn lockedIn trace run step tooShort inVco firstMixer settingOf turnOf turnsOf planWith pllOf innerSteps repairUpdates replyBytes triesFrom reversed
 not-locked-in-ten = refl
 
 -- "On refusal 11 the tries are those counted so far": the third read fails, so there were two, though its reply would have had the bit
-pub cut-at-the-third : told (replicate 29 0 ++ (1 ∷ replicate 23 0)) third ≡ saw 2 false
-unfolding seenOf triesIn lockedIn trace run step lentOf inVco firstOf settingOf turnOf turnsOf planWith pllOf innerSteps repairUpdates replyBytes triesFrom reversed
+pub cut-at-the-third : told (replicate 29 0 ++ (1 ∷ replicate 23 0)) third ≡ lockTries 2 false
+unfolding lockTriesOf triesIn lockedIn trace run step tooShort inVco firstMixer settingOf turnOf turnsOf planWith pllOf innerSteps repairUpdates replyBytes triesFrom reversed
 cut-at-the-third = refl
 
 -- the write of 0x1a behind the lock fails: 11, and locked all the same
-pub cut-behind-the-lock : told (replicate 30 0 ++ (1 ∷ replicate 22 0)) third ≡ saw 3 true
-unfolding seenOf triesIn lockedIn trace run step lentOf inVco firstOf settingOf turnOf turnsOf planWith pllOf innerSteps repairUpdates replyBytes triesFrom reversed
+pub cut-behind-the-lock : told (replicate 30 0 ++ (1 ∷ replicate 22 0)) third ≡ lockTries 3 true
+unfolding lockTriesOf triesIn lockedIn trace run step tooShort inVco firstMixer settingOf turnOf turnsOf planWith pllOf innerSteps repairUpdates replyBytes triesFrom reversed
 cut-behind-the-lock = refl
 
 pub cut-behind-the-lock-answer : resultOf (Tune 100_000_000 third) (replicate 30 0 ++ (1 ∷ replicate 22 0)) start (replicate 856 0) .answer ≡ Stopped 30
-unfolding resultOf leftBy callOf trace run step lentOf inVco firstOf settingOf turnOf turnsOf planWith pllOf innerSteps repairUpdates replyBytes triesFrom reversed
+unfolding resultOf leftBy callOf trace run step tooShort inVco firstMixer settingOf turnOf turnsOf planWith pllOf innerSteps repairUpdates replyBytes triesFrom reversed
 cut-behind-the-lock-answer = refl

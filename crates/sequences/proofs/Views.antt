@@ -18,12 +18,12 @@ use Rattle.chip.specs.declared.Answer.{Answer}
 use Rattle.chip.specs.declared.Answer.the-variants.{Done, Refused}
 use Rattle.chip.specs.declared.Chip.{Chip}
 use Rattle.chip.specs.declared.Update.{Update}
-use Rattle.chip.specs.declared.Went.{Went}
-use Rattle.chip.specs.declared.Went.the-variants.{Going, Refused11}
-use Rattle.chip.specs.Calls.{Called, callOf, called, lentOf, performed, refusalWith}
+use Rattle.chip.specs.declared.Progress.{Progress}
+use Rattle.chip.specs.declared.Progress.the-variants.{Going, Refused11}
+use Rattle.chip.specs.Calls.{Called, callOf, called, tooShort, performed, refusalWith}
 use Rattle.chip.specs.Courses.{Asked, Course, ask, askedBy, leftBy, mostOf, stepsOf}
 use Rattle.chip.specs.Courses.Course.{Still, Taken}
-use Rattle.chip.specs.Steps.{Step, Trace, allIn, behind, every, trace, updateStep, updates}
+use Rattle.chip.specs.Steps.{Step, Trace, allIn, whileOpen, every, trace, updateStep, updates}
 use Rattle.chip.specs.Steps.Step.{Close}
 use Rattle.gain.specs.Product.{gainOf}
 use Rattle.gain.specs.Steps.{chosenOf, clamped, stepAt}
@@ -34,7 +34,7 @@ use Rattle.pll.specs.declared.Pll.the-variants as pll-variants
 use Rattle.writes.specs.Lists.{bandwidthUpdates, gainUpdates, ifUpdates, pathUpdates}
 use Rattle.r82xx.specs.declared.Tuner.{Tuner}
 use Rattle.r82xx.specs.Record.{sound, withCorrected, withGain, withIf}
-use Rattle.tuning.specs.Program.{wholeOf}
+use Rattle.tuning.specs.Program.{tuneAnswer}
 use Rattle.r82xx.specs.Calls.{planFor}
 use Rattle.r82xx.specs.Orders.{bracket, gainRow, pathRow}
 use Rattle.r82xx.specs.Orders as tuner
@@ -98,8 +98,8 @@ pub suffices : (whole : Bool) (argument n m : ℕ) (os rs room : List ℕ) (ss :
 suffices whole argument n m os rs room ss l e =
     omega (arith, l, lent-room n m (length room) (length os) (length rs) (go whole (eqb argument 0) refl e))
   where
-    go : (w z : Bool) → eqb argument 0 ≡ z → cond w (cond z (lentOf n m (length room) (length os) (length rs)) argument) 1 ≡ 0
-        → lentOf n m (length room) (length os) (length rs) ≡ 0
+    go : (w z : Bool) → eqb argument 0 ≡ z → cond w (cond z (tooShort n m (length room) (length os) (length rs)) argument) 1 ≡ 0
+        → tooShort n m (length room) (length os) (length rs) ≡ 0
     go true true q h = h
     go true false q h = absurd (eqb-false argument 0 q h)
     go false z q h = absurd (omega arith)
@@ -132,7 +132,7 @@ module _ (t : Tuner) (s : Bool) (os room : List ℕ) where
 
 -- ---- each row
 
-bracket-steps : (us : List Update) → length (behind (updates us)) ≡ length us + 2
+bracket-steps : (us : List Update) → length (whileOpen (updates us)) ≡ length us + 2
 bracket-steps us = omega (arith, length-append (updates us) (Close ∷ []), length-map us updateStep)
 
 path-long : (p : PathRead) (kind : Kind) (t : Tuner) → length (stepsOf (pathRow p kind t)) ≤ mostOf (pathRow p kind t)
@@ -208,7 +208,7 @@ row-few (BoardTune hz table rs d) t = omega arith
 module _ (t : Tuner) where
   bracket-proper : (n : ℕ) (us : List Update) (answer : Answer) (cut whole : Tuner) → stops answer ≡ false → allIn us ≡ true → Proper t (bracket n us answer cut whole)
   unfolding bracket
-  bracket-proper n us answer cut whole named h = stepping 0 (n + 2) 0 [] answer (behind (updates us)) _ named (fine-bracket us h) (λ tr. refl)
+  bracket-proper n us answer cut whole named h = stepping 0 (n + 2) 0 [] answer (whileOpen (updates us)) _ named (fine-bracket us h) (λ tr. refl)
 
   gain-proper : (k : ℕ) → Proper t (gainRow k t)
   unfolding gainRow
@@ -228,7 +228,7 @@ module _ (t : Tuner) where
   correction-proper true v ppm d = resting (withCorrected t v) (Done 0) refl refl
   correction-proper false v ppm d = resting t (Refused 4) refl refl
 
-  unstopped : (plan : Pll) (hz : ℕ) → stops (wholeOf plan hz) ≡ false
+  unstopped : (plan : Pll) (hz : ℕ) → stops (tuneAnswer plan hz) ≡ false
   unstopped pll-variants.Refused hz = refl
   unstopped (pll-variants.Planned p) hz = refl
 
@@ -241,7 +241,7 @@ module _ (t : Tuner) where
   proper (Tuned (GainIndex k)) g small = gain-proper (clamped k)
   proper (Tuned (InputPath path)) g small = path-proper (pathOf path) (t .kind)
   proper (Tuned (Tune hz rs)) g small =
-      stepping _ 53 35 rs (wholeOf (planFor t hz) hz) _ _ (unstopped (planFor t hz) hz)
+      stepping _ 53 35 rs (tuneAnswer (planFor t hz) hz) _ _ (unstopped (planFor t hz) hz)
       (fine-tune (t .chip .address) rs small g (t .kind) (t .notch) (planFor t hz) hz) (λ tr. refl)
   proper (Tuned (Notch on)) g small = resting _ (Done 0) refl refl
   proper (Tuned GainTold) g small = resting t _ refl refl
@@ -252,7 +252,7 @@ module _ (t : Tuner) where
   proper (Correction ppm d) g small = correction-proper (leb 1 (xtalBy (t .nominal) ppm) && leb 1 (xtalBy (d .nominal) ppm)) (xtalBy (t .nominal) ppm) ppm d
   proper (BoardPath path rs) g small = board-proper (pathOf path) rs
   proper (BoardTune hz table rs d) g small =
-      stepping _ 64 38 rs (wholeOf (planFor t (planBy table hz .plan .hz)) hz) _ _ (unstopped (planFor t (planBy table hz .plan .hz)) hz)
+      stepping _ 64 38 rs (tuneAnswer (planFor t (planBy table hz .plan .hz)) hz) _ _ (unstopped (planFor t (planBy table hz .plan .hz)) hz)
       (fine-hop (t .chip .address) rs small g (t .kind) (planBy table hz .plan) (planFor t (planBy table hz .plan .hz))) (λ tr. refl)
 
 -- ---- every call
@@ -287,7 +287,7 @@ module _ (t : Tuner) (os room : List ℕ) where
   result-row (Correction ppm d) = still-part (sound t && soundDriver d) (leb 1 (xtalBy (t .nominal) ppm) && leb 1 (xtalBy (d .nominal) ppm)) _ _ _ _ d
   result-row (BoardPath path rs) = refl
   result-row (BoardTune hz table rs d) =
-      tuner-part (asked (call (BoardTune hz table rs d) os room) t .number) (wholeOf (planFor t (planBy table hz .plan .hz)) hz) (stepsOf (hopRow (planBy table hz) hz rs t d)) _ d
+      tuner-part (asked (call (BoardTune hz table rs d) os room) t .number) (tuneAnswer (planFor t (planBy table hz .plan .hz)) hz) (stepsOf (hopRow (planBy table hz) hz rs t d)) _ d
 
   pub view : (o : Order) → given o t ≡ true → t .chip .address ≤ 255 → View t (resultOf o os room t) (asked (call o os room) t) os room
   view o g small =

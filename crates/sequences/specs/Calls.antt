@@ -57,8 +57,8 @@ abbrev pub result : Call → Tuner → Called Tuner
 result k t = resultOf (k .order) (k .outcomes) (k .room) t
 
 -- the record that it hands back
-abbrev pub after : Call → Tuner → Tuner
-after k t = result k t .next
+abbrev pub tunerAfter : Call → Tuner → Tuner
+tunerAfter k t = result k t .next
 
 -- ---- its row, and its entries
 

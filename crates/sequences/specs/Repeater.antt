@@ -9,18 +9,18 @@ use Rattle.attempts.specs.Attempts.{done, firstOf}
 use Rattle.history.specs.Histories.{isClosing}
 
 -- one entry later: "1 repeater | .. 1 opens, 0 closes". An opening opens it if it is done; a closing is its end, also one that failed
-abbrev pub heldBy : Entry → Bool → Bool
-heldBy e held = cond (eqb (e .kind) 1) (eqb (firstOf e) 1 && done e) held
+abbrev pub openedBy : Entry → Bool → Bool
+openedBy e opened = cond (eqb (e .kind) 1) (eqb (firstOf e) 1 && done e) opened
 
-unfoldable pub heldFrom : Bool → List Entry → Bool
-heldFrom held [] = held
-heldFrom held (e ∷ es) = heldFrom (heldBy e held) es
+unfoldable pub openedFrom : Bool → List Entry → Bool
+openedFrom opened [] = opened
+openedFrom opened (e ∷ es) = openedFrom (openedBy e opened) es
 
 -- after a call's entries: it is shut before them
-abbrev pub heldIn : List Entry → Bool
-heldIn es = heldFrom false es
+abbrev pub openedIn : List Entry → Bool
+openedIn es = openedFrom false es
 
--- and nothing else is closed: each closing stands behind an opening that was done
+-- and nothing else is closed: each closing stands after an opening that was done
 unfoldable pub closesOpen : Bool → List Entry → Bool
-closesOpen held [] = true
-closesOpen held (e ∷ es) = (not (isClosing e) || held) && closesOpen (heldBy e held) es
+closesOpen opened [] = true
+closesOpen opened (e ∷ es) = (not (isClosing e) || opened) && closesOpen (openedBy e opened) es

@@ -1,11 +1,11 @@
--- Calls one behind the other, each on the record that the last handed back, of which none sets an IF. Document 01, "Demodulator": "`set_sample_rate`: an IF of 0
+-- Calls one after the other, each on the record that the last handed back, of which none sets an IF. Document 01, "Demodulator": "`set_sample_rate`: an IF of 0
 -- stays 0 for all later rates, until an IF is set."
 -- Assumes nothing.
 use mathlib.Core.Path.{_≡_}
 use mathlib.Core.Bool.{Bool, true, false}
 use Rattle.r82xx.specs.declared.Tuner.{Tuner}
 use Rattle.r82xx.specs.Orders.Order.{Initialize, Reload, Bandwidth, IfFreq, Gain, GainIndex, InputPath, Tune, Notch, GainTold, IfTold, TableTold}
-use Rattle.sequences.specs.Calls.{Call, Order, after}
+use Rattle.sequences.specs.Calls.{Call, Order, tunerAfter}
 use Rattle.sequences.specs.Calls.Order.{Tuned, SampleRate, Correction, BoardPath, BoardTune}
 
 -- "until an IF is set": by the one call that is given one
@@ -30,4 +30,4 @@ setsIf (BoardTune hz table rs d) = false
 -- from the record t on, with any outcomes and lent memory; calls that take no record change none, and so stand where they like
 pub data Since (t : Tuner) : Tuner → Type 0 where
   start : Since t t
-  later : (u : Tuner) → Since t u → (k : Call) → setsIf (k .order) ≡ false → Since t (after k u)
+  later : (u : Tuner) → Since t u → (k : Call) → setsIf (k .order) ≡ false → Since t (tunerAfter k u)

@@ -4,11 +4,11 @@
 use Prim.Native.Nat.{ℕ, zero, suc, _+_}
 use mathlib.Core.Bool.{true, false, cond}
 use mathlib.Core.List.{List}
-use Rattle.chip.specs.declared.Seen.{Seen}
-use Rattle.chip.specs.Entries.{saw}
+use Rattle.chip.specs.declared.LockTries.{LockTries}
+use Rattle.chip.specs.Entries.{lockTries}
 use Rattle.tuning.specs.Tries.{locksAt}
 
 -- from try i on, as many as are left: the first whose third reply has the lock bit is the last one
-unfoldable pub waitedFrom : List ℕ → ℕ → ℕ → Seen
-waitedFrom rs zero i = saw i false
-waitedFrom rs (suc left) i = cond (locksAt rs i) (saw (i + 1) true) (waitedFrom rs left (i + 1))
+unfoldable pub waitedFrom : List ℕ → ℕ → ℕ → LockTries
+waitedFrom rs zero i = lockTries i false
+waitedFrom rs (suc left) i = cond (locksAt rs i) (lockTries (i + 1) true) (waitedFrom rs left (i + 1))

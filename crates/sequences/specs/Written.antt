@@ -1,4 +1,4 @@
--- Masked writes one behind the other, all done: what they send, and the chip's record behind them. Document 01, "The record": "A masked write stores (old and not
+-- Masked writes one after the other, all done: what they send, and the chip's record after them. Document 01, "The record": "A masked write stores (old and not
 -- mask) or (value and mask) in the shadow before the write is tried."
 -- Assumes nothing.
 use Prim.Native.Nat.{ℕ}

@@ -187,7 +187,7 @@ fn put_fields(image: &mut [u8], s: Settings)
     wire::put(image, GAIN, s.gain, 1);
 }
 
-// The trailer behind the fields, which end at `at`: edition, zero and distance are one number of four bytes.
+// The trailer after the fields, which end at `at`: edition, zero and distance are one number of four bytes.
 fn seal(image: &mut [u8], at: usize, edition: u8)
     requires { ⌜ (at < 65536) × (at + 4 ≤ length (now image)) ⌝ }
     ensures { λ _. ⌜ now (image .exit) ≡ sets (now (image .entry)) at (trailer edition at) ⌝ }

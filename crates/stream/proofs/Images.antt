@@ -10,7 +10,7 @@ use lib.Dec.{eqb, leb}
 use lib.ListN.{length, take, drop, getD, replicate, length-append, length-replicate, length-take, length-drop, take-append-drop}
 use lib.Seq.{take-at, drop-at, drop-cons, drop-drop, length-take-le}
 use Rattle.wire.specs.Bytes.{leValue}
-use Rattle.stream.specs.Pending.{isStream, padded, pendingOf, streamBytes}
+use Rattle.stream.specs.Pending.{isStream, zeroPadded, pendingOf, streamBytes}
 use Rattle.stream.proofs.Laws.{stream-held, stream-length, stream-rest}
 
 -- a number is 0 where all its bytes are

@@ -18,7 +18,8 @@ use Rattle.stream.specs.declared.Command.{Command}
 use Rattle.stream.specs.declared.Command.the-variants.{Unknown}
 use Rattle.stream.specs.declared.Gathered.{Gathered}
 use Rattle.stream.specs.Commands.{argumentOf, commandOf, isKnown, mostFor, named, operationOf}
-use Rattle.stream.specs.Pending.{gathered, gatheredBy, gatheredOf, heldIn, imageOf, isStream, notGathered, padded, pendingOf, usedBy}
+use Rattle.stream.specs.InCode.{gatheredBy, gatheredOf, pendingCount, streamAfter, notGathered}
+use Rattle.stream.specs.Pending.{gathered, isStream, zeroPadded, pendingOf, usedBy}
 
 pub and-left : (a b : Bool) → (a && b) ≡ true → a ≡ true
 and-left true b h = refl
@@ -66,24 +67,24 @@ module _ (b : List ℕ) where
   abbrev rest : ℕ
   rest = leValue (drop (1 + getD b 0 0) b)
 
-  pub other-length : (length b ≡ 9 → ⊥) → 9 ≡ heldIn b
-  unfolding heldIn isStream
+  pub other-length : (length b ≡ 9 → ⊥) → 9 ≡ pendingCount b
+  unfolding pendingCount isStream
   other-length h = rw (ne-eqb (length b) 9 h)
 
-  pub too-many : length b ≡ 9 → 8 < getD b 0 0 → 9 ≡ heldIn b
-  unfolding heldIn isStream
+  pub too-many : length b ≡ 9 → 8 < getD b 0 0 → 9 ≡ pendingCount b
+  unfolding pendingCount isStream
   too-many e h = rw (eq-eqb (length b) 9 e, lt-leb (getD b 0 0) 8 h)
 
   -- what was read after the pending bytes is all that there is
   pub whole-rest : (n : ℕ) → length b ≡ 9 → n ≡ leValue (take (8 - getD b 0 0) (drop (1 + getD b 0 0) b)) → n ≡ rest
   whole-rest n e r = r ∙ ap leValue (take-all (8 - getD b 0 0) (drop (1 + getD b 0 0) b) (simp length-drop (omega arith)))
 
-  pub not-zeros : (n : ℕ) → length b ≡ 9 → getD b 0 0 ≤ 8 → n ≡ rest → (n ≡ 0 → ⊥) → 9 ≡ heldIn b
-  unfolding heldIn isStream
+  pub not-zeros : (n : ℕ) → length b ≡ 9 → getD b 0 0 ≤ 8 → n ≡ rest → (n ≡ 0 → ⊥) → 9 ≡ pendingCount b
+  unfolding pendingCount isStream
   not-zeros n e h r z = rw (eq-eqb (length b) 9 e, le-leb (getD b 0 0) 8 h, ne-eqb rest 0 (λ q. z (r ∙ q)))
 
-  pub zeros : (n : ℕ) → length b ≡ 9 → getD b 0 0 ≤ 8 → n ≡ rest → n ≡ 0 → getD b 0 0 ≡ heldIn b
-  unfolding heldIn isStream
+  pub zeros : (n : ℕ) → length b ≡ 9 → getD b 0 0 ≤ 8 → n ≡ rest → n ≡ 0 → getD b 0 0 ≡ pendingCount b
+  unfolding pendingCount isStream
   zeros n e h r z = rw (eq-eqb (length b) 9 e, le-leb (getD b 0 0) 8 h, eq-eqb rest 0 (sym r ∙ z))
 
   -- what is known of a stream's bytes
@@ -100,16 +101,16 @@ module _ (b : List ℕ) where
   stream-rest h = eqb-true _ _ (and-right (leb (getD b 0 0) 8) _ (and-right (eqb (length b) 9) _ h))
 
   -- it is one where fewer than nine are pending
-  pub is-one : (h : ℕ) → h ≡ heldIn b → (h ≡ 9 → ⊥) → (isStream b ≡ true) × (h ≡ getD b 0 0)
-  unfolding heldIn
+  pub is-one : (h : ℕ) → h ≡ pendingCount b → (h ≡ 9 → ⊥) → (isStream b ≡ true) × (h ≡ getD b 0 0)
+  unfolding pendingCount
   is-one h e n = go (isStream b) refl
     where
       go : (t : Bool) → isStream b ≡ t → (isStream b ≡ true) × (h ≡ getD b 0 0)
       go true q = (q, e ∙ rw q)
       go false q = absurd (n (e ∙ rw q))
 
-  pub is-none : (h : ℕ) → h ≡ heldIn b → h ≡ 9 → isStream b ≡ false
-  unfolding heldIn
+  pub is-none : (h : ℕ) → h ≡ pendingCount b → h ≡ 9 → isStream b ≡ false
+  unfolding pendingCount
   is-none h e n = go (isStream b) refl
     where
       go : (t : Bool) → isStream b ≡ t → isStream b ≡ false
@@ -127,7 +128,7 @@ zero-add : (n : ℕ) → 0 + n ≡ n
 zero-add n = omega arith
 
 -- the first copy, then the second: the bytes one behind the other, and zeros
-pub copied : (p q : List ℕ) → length p + length q ≤ 9 → sets (sets (replicate 9 0) 0 p) (length p) q ≡ padded 9 (p ++ q)
+pub copied : (p q : List ℕ) → length p + length q ≤ 9 → sets (sets (replicate 9 0) 0 p) (length p) q ≡ zeroPadded 9 (p ++ q)
 copied p q h =
     let first : sets (replicate 9 0) 0 p ≡ p ++ replicate (9 - length p) 0 =
     sets-eq p (replicate 9 0) 0 (omega arith) ∙ ap (λ (k : ℕ). p ++ drop k (replicate 9 0)) (zero-add (length p)) ∙ ap (λ (z : List ℕ). p ++ z) (drop-zeros (length p) 9) in
@@ -138,7 +139,7 @@ copied p q h =
     ∙ ap₂ (λ (x y : List ℕ). (x ++ q) ++ y) (take-at p (replicate (9 - length p) 0) (length p) refl)
     (drop-append-add p (replicate (9 - length p) 0) (length q) ∙ drop-zeros (length q) (9 - length p) ∙ ap (λ (n : ℕ). replicate n 0) less)
 
-module _ (b chunk : List ℕ) (h : ℕ) (e : h ≡ heldIn b) where
+module _ (b chunk : List ℕ) (h : ℕ) (e : h ≡ pendingCount b) where
   pub none-gathered : h ≡ 9 → notGathered ≡ gatheredOf b chunk
   unfolding gatheredOf
   none-gathered n = rw (is-none b h e n)
@@ -175,13 +176,13 @@ module _ (b chunk : List ℕ) (h : ℕ) (e : h ≡ heldIn b) where
           let whole : u - 0 ≡ u = omega arith in
           let p : take (1 + h - 1) (drop 1 b) ≡ pendingOf b = ap (λ (k : ℕ). take k (drop 1 b)) held in
           let small : length (pendingOf b) + length (take u chunk) ≤ 9 = omega (arith, pending-length, part-length, used-bounds .1) in
-          let bytes : y ≡ padded 9 (gathered (pendingOf b) chunk) =
+          let bytes : y ≡ zeroPadded 9 (gathered (pendingOf b) chunk) =
           ey
           ∙ ap (λ (k : ℕ). sets x h (take k chunk)) whole
           ∙ ap (λ (z : List ℕ). sets z h (take u chunk)) (ex ∙ ap (sets (replicate 9 0) 0) p)
           ∙ ap (λ (k : ℕ). sets (sets (replicate 9 0) 0 (pendingOf b)) k (take u chunk)) (sym pending-length)
           ∙ copied (pendingOf b) (take u chunk) small
-          ∙ ap (λ (k : ℕ). padded 9 (pendingOf b ++ take k chunk)) used-is in
+          ∙ ap (λ (k : ℕ). zeroPadded 9 (pendingOf b ++ take k chunk)) used-is in
           let count : h + u ≡ length (gathered (pendingOf b) chunk) =
           omega (arith, pending-length, part-length) ∙ sym (length-append (pendingOf b) (take u chunk)) ∙ ap (λ (k : ℕ). length (pendingOf b ++ take k chunk)) used-is in
           rw (is-one b h e n .0) (gathered-same used-is count bytes)
@@ -197,12 +198,12 @@ signed-back n z f e = ap (λ (y : ℤ). toZ w32 (ofZ w32 y)) e ∙ ap (toZ w32) 
 -- ---- what is kept
 
 module _ (got : Gathered) where
-  pub nothing-kept : 9 ≤ got .count → replicate 9 0 ≡ imageOf got
-  unfolding imageOf
+  pub nothing-kept : 9 ≤ got .count → replicate 9 0 ≡ streamAfter got
+  unfolding streamAfter
   nothing-kept h = rw (le-leb 9 (got .count) h)
 
-  pub some-kept : got .count < 9 → length (got .bytes) ≡ 9 → (x : List ℕ) → x ≡ sets (got .count ∷ replicate 8 0) 1 (take (8 - 0) (drop 0 (got .bytes))) → x ≡ imageOf got
-  unfolding imageOf
+  pub some-kept : got .count < 9 → length (got .bytes) ≡ 9 → (x : List ℕ) → x ≡ sets (got .count ∷ replicate 8 0) 1 (take (8 - 0) (drop 0 (got .bytes))) → x ≡ streamAfter got
+  unfolding streamAfter
   some-kept h n x e =
       let eight : length (take 8 (got .bytes)) ≡ 8 = length-take-le 8 (got .bytes) (omega arith) in
       let all : drop {A = ℕ} (1 + length (take 8 (got .bytes))) (got .count ∷ replicate 8 0) ≡ [] = rw eight in

@@ -1,3 +1,4 @@
 pub mod Commands
 pub mod Pending
 pub mod Feeding
+pub mod InCode

@@ -6,7 +6,7 @@ ghost use lib.Dec.{leb};
 ghost use Prim.Native.Nat.{_≤_};
 ghost use lib.ListN.{length};
 ghost use Rattle.stream.specs.Commands.{commandOf, isKnown, mostFor, named};
-ghost use Rattle.stream.specs.Pending.{gatheredOf, heldIn, imageOf};
+ghost use Rattle.stream.specs.InCode.{gatheredOf, pendingCount, streamAfter};
 
 // The bytes of a command, and of the stream as a host keeps it: how many bytes are pending, and the eight that may be.
 pub const COMMAND: usize = 9;
@@ -25,7 +25,7 @@ pub enum Command {
     Unknown,
 }
 
-// What was taken of a chunk: nothing where the stream's bytes are none; else how much of it, and the bytes that there are now of the command that is waited
+// What was taken of a chunk: nothing where the stream's bytes are not valid; else how much of it, and the bytes that there are now of the command that is waited
 // for, zeros after them. With nine it is whole.
 pub struct Gathered {
     pub ok: bool,
@@ -91,9 +91,9 @@ fn wide(x: u8) -> usize
     x as usize
 }
 
-// How many bytes are pending, 9 where the bytes are none of a stream: those after the pending ones are zero, read as one number.
-pub fn held_in(s: &[u8]) -> usize
-    ensures { λ r. ⌜ r ≡ heldIn (now (s .entry)) ⌝ }
+// How many bytes are pending, 9 where the bytes are not those of a stream: those after the pending ones are zero, read as one number.
+pub fn pending_count(s: &[u8]) -> usize
+    ensures { λ r. ⌜ r ≡ pendingCount (now (s .entry)) ⌝ }
 {
     if s.len() != STREAM {
         return COMMAND;
@@ -122,7 +122,7 @@ pub fn gather(stream: &[u8], chunk: &[u8]) -> Gathered
     ensures { λ r. ⌜ r ≡ gatheredOf (now (stream .entry)) (now (chunk .entry)) ⌝ }
 {
     let mut bytes = [0u8; 9];
-    let held = held_in(stream);
+    let held = pending_count(stream);
     if held == COMMAND {
         return Gathered {
             ok: false,
@@ -144,7 +144,7 @@ pub fn gather(stream: &[u8], chunk: &[u8]) -> Gathered
 
 // The stream's bytes after that: nothing waits where the command is whole.
 pub fn image(got: Gathered) -> [u8; 9]
-    ensures { λ r. ⌜ r ≡ imageOf got ⌝ }
+    ensures { λ r. ⌜ r ≡ streamAfter got ⌝ }
 {
     let mut kept = [0u8; 9];
     let count = got.count;

@@ -41,7 +41,7 @@ entryFits e =
     && eqb (length (e .bytes)) 8
     && zeros (drop (keptBy (e .kind) (e .outcome) (e .n)) (e .bytes))
 
--- 16 bytes that are an entry: "two zeros" behind the address
+-- 16 bytes that are an entry: "two zeros" after the address
 unfoldable pub fits : List ℕ → Bool
 fits b = eqb (getD b 6 0) 0 && eqb (getD b 7 0) 0 && entryFits (entryOf b)
 

@@ -27,10 +27,10 @@ pub const READ: u8 = 8;
 
 pub const WAIT: u8 = 9;
 
-// Refusal 12: the number stands here, since the reader leans on nothing that has the others.
+// Refusal 12. It stands here and not with the other numbers in crate chip, since chip depends on this crate.
 pub const SECTION: u32 = 12;
 
-// The table of kinds, a column for each rule; kind 0 is none.
+// The table of kinds, a column for each rule. There is no kind 0: the first number of each column only holds the place.
 const N_LOW: [u8; 10] = [0, 1, 1, 1, 1, 2, 1, 2, 1, 0];
 
 const N_HIGH: [u8; 10] = [0, 1, 8, 5, 1, 2, 1, 2, 1, 0];
@@ -132,7 +132,7 @@ impl Entry {
         }
     }
 
-    // Whether the entry fits the table, with zeros behind its data; a failed read has none.
+    // Whether the entry fits the table, with zeros after its data; a failed read has no data.
     fn fits(self) -> bool
         ensures { λ r. ⌜ r ≡ entryFits self ⌝ }
     {
@@ -146,7 +146,7 @@ impl Entry {
     }
 }
 
-// The trailer behind `count` entries that stand at the start of the room: the section is whole.
+// Writes the trailer after the `count` entries at the start of the room, which makes them a section.
 pub fn seal(room: &mut [u8], count: usize)
     requires { ⌜ (count ≤ 4096) × (16 * count + 8 ≤ length (now room)) ⌝ }
     ensures { λ _. ⌜ now (room .exit) ≡ sets (now (room .entry)) (16 * count) (trailerBytes count) ⌝ }

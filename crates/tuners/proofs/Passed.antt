@@ -18,19 +18,19 @@ use Rattle.pll.specs.declared.Kind.{Kind}
 use Rattle.pll.specs.declared.Kind.the-variants.{R820T, R828D}
 use Rattle.chip.specs.declared.Answer.{Answer}
 use Rattle.chip.specs.declared.Answer.the-variants.{Refused}
-use Rattle.chip.specs.declared.Seen.{Seen}
-use Rattle.chip.specs.Calls.{Called, called, seenIn}
+use Rattle.chip.specs.declared.LockTries.{LockTries}
+use Rattle.chip.specs.Calls.{Called, called, lockTriesIn}
 use Rattle.chip.specs.Courses.{Course, argumentOf, askedBy, entriesBy, leftBy}
-use Rattle.chip.specs.Entries.{unseen}
+use Rattle.chip.specs.Entries.{noTries}
 use Rattle.r82xx.specs.declared.Tuner.{Tuner}
 use Rattle.r82xx.specs.Orders.{bracket, pathRow}
 use Rattle.r82xx.specs.Record.{sound}
 use Rattle.records.specs.declared.TunerRead.{TunerRead}
 use Rattle.records.specs.Tuners.{tunerBytes, tunerOf}
-use Rattle.replies.specs.declared.Reply.{Reply}
-use Rattle.replies.specs.declared.TuneReply.{TuneReply}
-use Rattle.replies.specs.Replies.{replyOf, tunedOf}
-use Rattle.tuners.specs.Over.{After, after, handed, keptOf, nextOf, overTuner, overTuning, pathRefusal, readyOf, refusal, seenOver, tunedBy, tunedTo, unlessRefused}
+use Rattle.reply.specs.declared.Reply.{Reply}
+use Rattle.reply.specs.declared.TuneReply.{TuneReply}
+use Rattle.reply.specs.Replies.{replyOf, tunedOf}
+use Rattle.tuners.specs.Over.{After, after, handed, isWritten, nextOf, overTuner, overTuning, pathRefusal, readyOf, refusal, lockTriesOver, tunedBy, tunedTo, unlessRefused}
 
 -- where nothing is refused, the slice has the bytes that are written
 room-fits : (b : Bool) (next need : ℕ) → ltb next need ≡ b → _≡_ {A = ℕ} (cond b 8 0) 0 → need ≤ next
@@ -123,8 +123,8 @@ module _ (row : Tuner → Course Tuner) (os b room next : List ℕ) where
   made = handed (call (tunerOf b .tuner) room) next
 
   -- what its entries say of the lock
-  abbrev told : Tuner → Seen
-  told t = seenIn (entriesBy (askedBy (sound t) (row t) (length os) (length room)) os (t .chip))
+  abbrev told : Tuner → LockTries
+  told t = lockTriesIn (entriesBy (askedBy (sound t) (row t) (length os) (length room)) os (t .chip))
 
   -- what is read, and the number that it is refused by, as the code has them
   module _ (read : TunerRead) (k n : ℕ) (is : read ≡ tunerOf b) (asked : k ≡ argument (read .tuner)) (said : n ≡ readyOf (read .ok) k (length next) 78) where
@@ -153,31 +153,31 @@ module _ (row : Tuner → Course Tuner) (os b room next : List ℕ) where
         ∙ not-refused number (λ n. refusal n room next) made (sym number-is ∙ z)
 
     -- a tuning, which tells of the lock beside it
-    pub refused-untried : (r : Reply) (t : TuneReply) → (n ≡ 0 → ⊥) → r ≡ replyOf (Refused n) 0 → t ≡ tunedOf r unseen
+    pub refused-untried : (r : Reply) (t : TuneReply) → (n ≡ 0 → ⊥) → r ≡ replyOf (Refused n) 0 → t ≡ tunedOf r noTries
         → tunedTo t room next ≡ overTuning row os b room next
-    unfolding overTuning seenOver
+    unfolding overTuning lockTriesOver
     refused-untried r t h e f =
         ap (λ (x : TuneReply). tunedTo x room next) f
-        ∙ (λ i. tunedBy (refused-by r h e i) (refused number (λ k. unseen) (told (tunerOf b .tuner)) n number-is h i))
+        ∙ (λ i. tunedBy (refused-by r h e i) (refused number (λ k. noTries) (told (tunerOf b .tuner)) n number-is h i))
 
     pub handed-tried : n ≡ 0
-        → (u : Tuner) (left : List ℕ) (count : ℕ) (a : Answer) (s : Seen) → (called u left count a ≡ call (read .tuner) room) × (s ≡ told (read .tuner))
+        → (u : Tuner) (left : List ℕ) (count : ℕ) (a : Answer) (s : LockTries) → (called u left count a ≡ call (read .tuner) room) × (s ≡ told (read .tuner))
         → (r : Reply) (wrote : List ℕ) → (r ≡ replyOf a count) × (wrote ≡ nextOf tunerBytes a count u next)
         → (t : TuneReply) → t ≡ tunedOf r s
         → tunedTo t left wrote ≡ overTuning row os b room next
-    unfolding overTuning seenOver
+    unfolding overTuning lockTriesOver
     handed-tried z u left count a s e r wrote h t f =
         ap (λ (x : TuneReply). tunedTo x left wrote) f
         ∙ (λ i.
         tunedBy (handed-back z u left count a (e .0) r wrote h i)
-        ((e .1 ∙ ap (λ (x : TunerRead). told (x .tuner)) is ∙ not-refused number (λ k. unseen) (told (tunerOf b .tuner)) (sym number-is ∙ z)) i))
+        ((e .1 ∙ ap (λ (x : TunerRead). told (x .tuner)) is ∙ not-refused number (λ k. noTries) (told (tunerOf b .tuner)) (sym number-is ∙ z)) i))
 
 -- a next record that is written, and one that is not
 module _ {R : Type 0} (bytes : R → List ℕ) (a : Answer) (count : ℕ) (new : R) (next : List ℕ) where
-  pub written : keptOf a count ≡ true → sets next 0 (bytes new) ≡ nextOf bytes a count new next
+  pub written : isWritten a count ≡ true → sets next 0 (bytes new) ≡ nextOf bytes a count new next
   unfolding nextOf
   written h = rw h
 
-  pub left : keptOf a count ≡ false → next ≡ nextOf bytes a count new next
+  pub left : isWritten a count ≡ false → next ≡ nextOf bytes a count new next
   unfolding nextOf
   left h = rw h

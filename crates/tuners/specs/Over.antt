@@ -9,16 +9,16 @@ use lib.ListN.{length}
 use lib.Seq.{sets}
 use Rattle.chip.specs.declared.Answer.{Answer}
 use Rattle.chip.specs.declared.Answer.the-variants.{Done, Refused, Stopped}
-use Rattle.chip.specs.declared.Seen.{Seen}
-use Rattle.chip.specs.Calls.{Called, seenIn}
+use Rattle.chip.specs.declared.LockTries.{LockTries}
+use Rattle.chip.specs.Calls.{Called, lockTriesIn}
 use Rattle.chip.specs.Courses.{Course, argumentOf, askedBy, entriesBy, leftBy}
-use Rattle.chip.specs.Entries.{unseen}
+use Rattle.chip.specs.Entries.{noTries}
 use Rattle.r82xx.specs.declared.Tuner.{Tuner}
 use Rattle.r82xx.specs.Record.{sound}
 use Rattle.records.specs.Tuners.{tunerBytes, tunerOf}
-use Rattle.replies.specs.declared.Reply.{Reply}
-use Rattle.replies.specs.declared.TuneReply.{TuneReply}
-use Rattle.replies.specs.Replies.{callReply, replyOf, tunedOf}
+use Rattle.reply.specs.declared.Reply.{Reply}
+use Rattle.reply.specs.declared.TuneReply.{TuneReply}
+use Rattle.reply.specs.Replies.{callReply, replyOf, tunedOf}
 
 -- what a call over bytes leaves: its answer, the room, the slice for the next record
 pub record After : Type 0 where
@@ -34,13 +34,13 @@ unfoldable pub readyOf : Bool → ℕ → ℕ → ℕ → ℕ
 readyOf ok argument next need = cond ok (cond (eqb argument 0) (cond (ltb next need) 8 0) argument) 1
 
 -- the next record is written once steps were taken or the call is done
-abbrev pub keptOf : Answer → ℕ → Bool
-keptOf (Done value) count = true
-keptOf (Refused number) count = not (eqb count 0)
-keptOf (Stopped index) count = not (eqb count 0)
+abbrev pub isWritten : Answer → ℕ → Bool
+isWritten (Done value) count = true
+isWritten (Refused number) count = not (eqb count 0)
+isWritten (Stopped index) count = not (eqb count 0)
 
 unfoldable pub nextOf : {R : Type 0} → (R → List ℕ) → Answer → ℕ → R → List ℕ → List ℕ
-nextOf bytes answer count new next = cond (keptOf answer count) (sets next 0 (bytes new)) next
+nextOf bytes answer count new next = cond (isWritten answer count) (sets next 0 (bytes new)) next
 
 -- a call that was made, and one that was refused before it
 abbrev pub handed : Called Tuner → List ℕ → After
@@ -50,7 +50,7 @@ handed c next =
 abbrev pub refusal : ℕ → List ℕ → List ℕ → After
 refusal number room next = after (replyOf (Refused number) 0) room next
 
--- what a call comes to by the number that it is refused by before its steps, 0 for none; said for any answer, as crate drivers has its own
+-- what a call comes to by the number that it is refused by before its steps, 0 for none; for any kind of answer, since crate drivers uses it for its own
 unfoldable pub unlessRefused : {A : Type 0} → ℕ → (ℕ → A) → A → A
 unlessRefused number refuse made = cond (eqb number 0) made (refuse number)
 
@@ -71,19 +71,19 @@ pub record Tuned : Type 0 where
 abbrev pub tunedTo : TuneReply → List ℕ → List ℕ → Tuned
 tunedTo answer room next = record { answer = answer; room = room; next = next }
 
-abbrev pub tunedBy : After → Seen → Tuned
+abbrev pub tunedBy : After → LockTries → Tuned
 tunedBy a s = tunedTo (tunedOf (a .answer) s) (a .room) (a .next)
 
 -- #101: what a call over bytes tells of the lock, by the entries that it makes on the record that the bytes are
-unfoldable pub seenOver : (Tuner → Course Tuner) → List ℕ → List ℕ → List ℕ → List ℕ → Seen
-seenOver row os b room next =
+unfoldable pub lockTriesOver : (Tuner → Course Tuner) → List ℕ → List ℕ → List ℕ → List ℕ → LockTries
+lockTriesOver row os b room next =
     unlessRefused (readyOf (tunerOf b .ok) (argumentOf (row (tunerOf b .tuner))) (length next) 78)
-    (λ n. unseen)
-    (seenIn (entriesBy (askedBy (sound (tunerOf b .tuner)) (row (tunerOf b .tuner)) (length os) (length room)) os (tunerOf b .tuner .chip)))
+    (λ n. noTries)
+    (lockTriesIn (entriesBy (askedBy (sound (tunerOf b .tuner)) (row (tunerOf b .tuner)) (length os) (length room)) os (tunerOf b .tuner .chip)))
 
 unfoldable pub overTuning : (Tuner → Course Tuner) → List ℕ → List ℕ → List ℕ → List ℕ → Tuned
-overTuning row os b room next = tunedBy (overTuner row os b room next) (seenOver row os b room next)
+overTuning row os b room next = tunedBy (overTuner row os b room next) (lockTriesOver row os b room next)
 
--- a path's number above 2 names none
+-- a path's number above 2 names no path
 abbrev pub pathRefusal : ℕ → ℕ
 pathRefusal path = cond (ltb 2 path) 1 0

@@ -13,7 +13,7 @@ use Rattle.r82xx.specs.Orders.{Order, quietly}
 use Rattle.r82xx.specs.Record.{madeOf}
 use Rattle.records.specs.Tuners.{tunerBytes, tunerOf}
 
--- what is made of the record that bytes are read as, or what is told where they are none; said for any record, as crate drivers has its own
+-- what is made of the record that bytes are read as, or what is returned where they are not valid; for any kind of record, since crate drivers uses it for its own
 unfoldable pub ofRecord : {R A : Type 0} → Bool → R → (R → A) → A → A
 ofRecord ok r make none = cond ok (make r) none
 
@@ -26,7 +26,7 @@ freshInto kind address nominal out =
 abbrev pub changedTo : {R : Type 0} → (R → List ℕ) → (R → Called R) → List ℕ → R → Given
 changedTo bytes call out r = answeredTo (call r .answer) (bytes (call r .next)) out
 
--- a row of the table without steps, on the record that the bytes are, 1 where they are none
+-- a row of the table without steps, on the record that the bytes are; 1 where they are not valid
 abbrev pub changedInto : Order → List ℕ → List ℕ → Given
 changedInto o b out =
     ofRecord (tunerOf b .ok) (tunerOf b .tuner) (changedTo tunerBytes (quietly o) out) (given (Refused 1) out)

@@ -9,18 +9,18 @@ ghost use Rattle.lending.specs.Lent.{answeredTo, given};
 ghost use Rattle.r82xx.specs.Orders.{courseOf};
 ghost use Rattle.r82xx.specs.Orders.Order.{Initialize, Reload, Bandwidth, IfFreq, Gain, GainIndex, InputPath, Tune, Notch, GainTold, IfTold};
 ghost use Rattle.records.specs.Tuners.{tunerBytes};
-ghost use Rattle.replies.specs.Replies.{replyOf};
+ghost use Rattle.reply.specs.Replies.{replyOf};
 ghost use Rattle.chip.specs.declared.Answer.the-variants.{Refused};
-ghost use Rattle.tuners.specs.Over.{after, keptOf, nextOf, overTuner, overTuning, pathRefusal, readyOf, tunedTo};
+ghost use Rattle.tuners.specs.Over.{after, isWritten, nextOf, overTuner, overTuning, pathRefusal, readyOf, tunedTo};
 ghost use Rattle.tuners.specs.Still.{answerOver, changedInto, freshInto, tableOver};
 use chip::Answer;
-use r82xx::Told;
 use r82xx::Tuner;
+use r82xx::TunerResult;
 use records::TUNER;
-use replies::Reply;
-use replies::TuneReply;
+use reply::Reply;
+use reply::TuneReply;
 
-// 1 for the record, then an argument's number, then 8 for the slice that the next record's `need` bytes go to; 0 where none is given.
+// 1 for the record, then an argument's number, then 8 for the slice that the next record's `need` bytes go to; 0 where nothing is refused.
 pub fn ready(ok: bool, argument: u8, next: usize, need: usize) -> u8
     ensures { λ r. ⌜ r ≡ readyOf ok argument next need ⌝ }
 {
@@ -39,12 +39,12 @@ pub fn ready(ok: bool, argument: u8, next: usize, need: usize) -> u8
 pub fn refuse(number: u8) -> Reply
     ensures { λ r. ⌜ r ≡ replyOf (Refused number) 0 ⌝ }
 {
-    replies::numbers(Answer::Refused(number), 0)
+    reply::numbers(Answer::Refused(number), 0)
 }
 
 // Whether the next record is written: once steps were taken, or the call is done.
-pub fn kept(answer: Answer, count: usize) -> bool
-    ensures { λ r. ⌜ r ≡ keptOf answer count ⌝ }
+pub fn is_written(answer: Answer, count: usize) -> bool
+    ensures { λ r. ⌜ r ≡ isWritten answer count ⌝ }
 {
     match answer {
         Answer::Done(_) => true,
@@ -57,20 +57,20 @@ pub fn store(answer: Answer, count: usize, tuner: Tuner, next: &mut [u8])
     requires { ⌜ 78 ≤ length (now next) ⌝ }
     ensures { λ _. ⌜ now (next .exit) ≡ nextOf tunerBytes answer count tuner (now (next .entry)) ⌝ }
 {
-    if kept(answer, count) {
+    if is_written(answer, count) {
         let image = records::tuner_image(tuner);
         wire::copy(next, 0, &image);
     }
 }
 
 // What a call hands back: its record into the slice, the rest as numbers.
-pub fn hand(told: Told, next: &mut [u8]) -> Reply
+pub fn hand(told: TunerResult, next: &mut [u8]) -> Reply
     requires { ⌜ 78 ≤ length (now next) ⌝ }
     ensures { λ r. ⌜ (r ≡ replyOf (told .answer) (told .count)) × (now (next .exit) ≡ nextOf tunerBytes (told .answer) (told .count) (told .tuner) (now (next .entry))) ⌝ }
 {
     let answer = told.answer;
     store(answer, told.count, told.tuner, next);
-    replies::numbers(answer, told.count)
+    reply::numbers(answer, told.count)
 }
 
 // A number that names no path is refused 1; what is left is a byte.
@@ -225,11 +225,11 @@ pub fn set_frequency(
         TUNER,
     );
     if number != 0 {
-        return replies::tuned(refuse(number), 0, false);
+        return reply::tuned(refuse(number), 0, false);
     }
     let tuned = given.set_frequency(hz, outcomes, replies, room);
-    let reply = hand(tuned.told, next);
-    replies::tuned(reply, tuned.tries, tuned.locked)
+    let plain = hand(tuned.told, next);
+    reply::tuned(plain, tuned.tries, tuned.locked)
 }
 
 fn lend(answer: Answer, tuner: Tuner, out: &mut [u8]) -> Answer

@@ -10,7 +10,8 @@ use lib.ListN.{take}
 use Rattle.transcript.specs.declared.Entry.{Entry}
 use Rattle.chip.specs.declared.Update.{Update}
 use Rattle.chip.specs.Entries.{pointer, readEntry, wait}
-use Rattle.chip.specs.Steps.{Step, Line, closing, every, goes, inner, masked, run, step, updates}
+use Rattle.chip.specs.InCode.{closing}
+use Rattle.chip.specs.Steps.{Step, Line, every, goes, inner, masked, run, step, updates}
 use Rattle.chip.specs.Steps.Step.{Close, Plain}
 use Rattle.chip.proofs.Laws.{parts, stop, swap}
 use Rattle.pll.specs.declared.Kind.{Kind}
@@ -19,7 +20,7 @@ use Rattle.pll.specs.declared.Pll.{Pll}
 use Rattle.pll.specs.declared.Pll.the-variants.{Planned, Refused}
 use Rattle.tuning.specs.declared.Fix.{Fix}
 use Rattle.tuning.specs.declared.FreqRange.{FreqRange}
-use Rattle.tuning.specs.Fixes.{fixUpdates}
+use Rattle.tuning.specs.InCode.{fixUpdates}
 use Rattle.tuning.specs.Mux.{muxUpdates, pllUpdates, rangeOf}
 use Rattle.tuning.specs.Program.{innerSteps, pllSteps}
 use Rattle.tuning.specs.Tries.{afterTry, again, fineOf, locked, locksAt, powerOf, repairUpdates, replyBytes, statusSteps, triesFrom, tryRead}
@@ -109,7 +110,7 @@ module _ {L : Type 0} (put : L → ℕ → Entry → L) (os : List ℕ) where
         (parts put os (tryRead address rs i) (restOf address rs i) w x y (inner-rest address rs i) read e)
 
     -- the read failed
-    pub cut-try : goes (x .went) ≡ false → step put os Close x ≡ closing put os (run put os (triesFrom address rs (10 - i) i) w)
+    pub cut-try : goes (x .progress) ≡ false → step put os Close x ≡ closing put os (run put os (triesFrom address rs (10 - i) i) w)
     cut-try h = all (step put os Close x) (stop put os (restOf address rs i) x (run put os (restOf address rs i) x) h (inner-rest address rs i) refl)
 
     -- it has the lock bit

@@ -1,4 +1,4 @@
 pub mod Mux
 pub mod Tries
-pub mod Fixes
+pub mod InCode
 pub mod Program

@@ -11,7 +11,7 @@ use Rattle.pll.specs.declared.Plan.{Plan}
 use Rattle.tuning.specs.declared.FreqRange.{FreqRange}
 
 abbrev pub row : ℕ → ℕ → ℕ → ℕ → FreqRange
-row hz open-d mux tf-c = record { hz = hz; drain = open-d; mux = mux; filter = tf-c }
+row hz open-d mux tf-c = record { hz = hz; opendrain = open-d; mux = mux; filter = tf-c }
 
 -- the Rust's `FREQ_RANGES`: from which hz, open_d, rf_mux_ploy, tf_c
 abbrev pub ranges : List FreqRange
@@ -56,7 +56,7 @@ rangeOf hz = lastAt hz (row 0 0x08 0x02 0xdf) ranges
 abbrev pub muxUpdates : Bool → FreqRange → List Update
 muxUpdates notch r =
     masked 0x17 0xa0 0x30
-    ∷ masked 0x17 (cond notch 0x00 (r .drain)) 0x08
+    ∷ masked 0x17 (cond notch 0x00 (r .opendrain)) 0x08
     ∷ masked 0x1a (r .mux) 0xc3
     ∷ masked 0x1b (r .filter) 0xff
     ∷ masked 0x10 0x0b 0x0b

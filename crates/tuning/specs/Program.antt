@@ -7,17 +7,17 @@ use mathlib.Core.List.{List, [], _++_}
 use lib.ListN.{getD}
 use Rattle.chip.specs.declared.Answer.{Answer}
 use Rattle.chip.specs.declared.Answer.the-variants as answer
-use Rattle.chip.specs.Steps.{Step, behind, updates}
+use Rattle.chip.specs.Steps.{Step, whileOpen, updates}
 use Rattle.pll.specs.declared.Kind.{Kind}
 use Rattle.pll.specs.declared.Pll.{Pll}
 use Rattle.pll.specs.declared.Pll.the-variants.{Planned, Refused}
 use Rattle.tuning.specs.Mux.{muxUpdates, pllUpdates, rangeOf}
 use Rattle.tuning.specs.Tries.{repairUpdates, statusSteps, triesFrom}
 
--- what a tuning answers where no step failed: the hz asked, or 2 in the PLL
-abbrev pub wholeOf : Pll → ℕ → Answer
-wholeOf Refused hz = answer.Refused 2
-wholeOf (Planned p) hz = answer.Done hz
+-- a tuning's answer where no step failed: the hz asked, or 2 in the PLL
+abbrev pub tuneAnswer : Pll → ℕ → Answer
+tuneAnswer Refused hz = answer.Refused 2
+tuneAnswer (Planned p) hz = answer.Done hz
 
 -- the divider's number of a plan; at most 5, as pll shows
 abbrev pub dividerNumber : Pll → ℕ
@@ -28,11 +28,11 @@ dividerNumber (Planned p) = p .number
 abbrev pub pllSteps : ℕ → Kind → ℕ → List ℕ → List Step
 pllSteps address kind number rs = statusSteps address rs ++ (updates (repairUpdates kind number (getD rs 4 0)) ++ triesFrom address rs 10 0)
 
--- the steps behind the open repeater, for a plan of the PLL
+-- the steps between opening and closing, for a plan of the PLL
 unfoldable pub innerSteps : ℕ → Kind → Bool → Pll → ℕ → List ℕ → List Step
 innerSteps address kind notch Refused hz rs = updates (muxUpdates notch (rangeOf hz))
 innerSteps address kind notch (Planned p) hz rs =
     updates (muxUpdates notch (rangeOf hz) ++ pllUpdates p) ++ pllSteps address kind (p .number) rs
 
 abbrev pub tuneSteps : ℕ → Kind → Bool → Pll → ℕ → List ℕ → List Step
-tuneSteps address kind notch plan hz rs = behind (innerSteps address kind notch plan hz rs)
+tuneSteps address kind notch plan hz rs = whileOpen (innerSteps address kind notch plan hz rs)

@@ -9,7 +9,7 @@ use lib.Dec.{eqb, ltb}
 use lib.ListN.{getD, take, drop}
 use lib.Seq.{sets}
 use Rattle.status.specs.Reversal.{lockedBy, reversed}
-use Rattle.chip.specs.declared.Seen.{Seen}
+use Rattle.chip.specs.declared.LockTries.{LockTries}
 use Rattle.chip.specs.declared.Update.{Update}
 use Rattle.transcript.specs.Entries.{zeros8}
 use Rattle.chip.specs.Entries.{pointer, readEntry, wait}
@@ -18,7 +18,7 @@ use Rattle.chip.specs.Steps.Step.{Mask, Plain}
 use Rattle.pll.specs.declared.Kind.{Kind}
 use Rattle.pll.specs.declared.Kind.the-variants.{R820T, R828D}
 
--- n replies from `at`, with the zeros behind them
+-- n replies from `at`, with the zeros after them
 unfoldable pub replyBytes : List ℕ → ℕ → ℕ → List ℕ
 replyBytes rs at n = sets zeros8 0 (take n (drop at rs))
 
@@ -49,7 +49,7 @@ locksAt rs i = lockedBy (getD rs (7 + 3 * i) 0)
 abbrev pub tryRead : ℕ → List ℕ → ℕ → List Step
 tryRead address rs i = Plain (pointer address) ∷ Plain (readEntry address 3 (replyBytes rs (5 + 3 * i) 3)) ∷ []
 
--- what follows a try without the lock: 0x12 is written once, behind the first, and each waits 1
+-- what follows a try without the lock: 0x12 is written once, after the first, and each waits 1
 abbrev pub again : ℕ → List Update
 again i = cond (eqb i 0) (masked 0x12 0x06 0xff ∷ []) []
 
@@ -67,5 +67,5 @@ triesFrom address rs (suc left) i =
     tryRead address rs i ++ cond (locksAt rs i) (updates locked) (afterTry i ++ triesFrom address rs left (i + 1))
 
 -- "lock only when the waiting has ended": true where a done three-byte read has the bit, false where all ten tries ended without it, else as before
-abbrev pub lockBy : Seen → Bool → Bool
-lockBy seen old = cond (seen .locked) true (cond (eqb (seen .tries) 10) false old)
+abbrev pub lockBy : LockTries → Bool → Bool
+lockBy lock old = cond (lock .locked) true (cond (eqb (lock .tries) 10) false old)

@@ -1,5 +1,5 @@
 // A tuning's steps, from `set_mux_raw`, `set_pll_raw`, `read_status_raw` and `wait_pll_lock_raw` of src/tuners/r82xx.rs: which registers are
-// written, the status, the divider's repair and the tries for a lock, over a flow that a larger call may hold.
+// written, the status, the divider's repair and the tries for a lock, as parts that a larger call can be made of.
 // Document 01, "PLL" and "Transcript and script".
 ghost use mathlib.Core.Path.{_≡_};
 ghost use mathlib.Core.Bool.{cond};
@@ -10,20 +10,21 @@ ghost use lib.ListN.{length, getD};
 ghost use Rattle.chip.specs.declared.Chip.{Chip};
 ghost use Rattle.chip.specs.Entries.{pointer, readEntry, wait};
 ghost use Rattle.chip.specs.Chips.{chipOf};
-ghost use Rattle.chip.specs.Steps.{closing, due, inRoom, masked, onLog, onRoom, run, updates};
+ghost use Rattle.chip.specs.InCode.{closing, inRoom, onLog, onRoom};
+ghost use Rattle.chip.specs.Steps.{closingOwed, masked, run, updates};
 ghost use Rattle.chip.specs.Steps.Step.{Plain};
 ghost use Rattle.tuning.specs.Mux.{laterOf, muxUpdates, pllUpdates, rangeOf};
 ghost use Rattle.tuning.specs.Tries.{afterTry, lockBy, locked, fineOf, powerOf, repairUpdates, replyBytes, statusSteps, triesFrom, tryRead};
-ghost use Rattle.tuning.specs.Fixes.{fixUpdates};
-ghost use Rattle.tuning.specs.Program.{innerSteps, dividerNumber, tuneSteps, wholeOf};
+ghost use Rattle.tuning.specs.InCode.{fixUpdates};
+ghost use Rattle.tuning.specs.Program.{innerSteps, dividerNumber, tuneSteps, tuneAnswer};
 use chip::Answer;
 use chip::Chip;
 use chip::Flow;
+use chip::LockTries;
 use chip::Log;
-use chip::Seen;
+use chip::Progress;
 use chip::Update;
 use chip::Updates;
-use chip::Went;
 use chip::masked;
 use pll::Kind;
 use pll::Plan;
@@ -37,7 +38,7 @@ use ranges::FREQ_RANGES;
 // The Rust's `FreqRange`: from which hz the row holds, open_d, rf_mux_ploy and tf_c. Its xtal_cap_sel is 0 in every row, which is 0x0b.
 pub struct FreqRange {
     pub hz: u64,
-    pub drain: u8,
+    pub opendrain: u8,
     pub mux: u8,
     pub filter: u8,
 }
@@ -48,7 +49,7 @@ pub struct Fix {
     pub bits: u8,
 }
 
-// What a tuning goes by.
+// What a tuning is given.
 pub struct Tuning {
     pub kind: Kind,
     pub notch: bool,
@@ -56,9 +57,9 @@ pub struct Tuning {
     pub hz: u64,
 }
 
-// What a tuning answers where no step fails.
+// Returns a tuning's answer where no step fails.
 pub fn whole_answer(plan: Pll, hz: u64) -> Answer
-    ensures { λ r. ⌜ r ≡ wholeOf plan hz ⌝ }
+    ensures { λ r. ⌜ r ≡ tuneAnswer plan hz ⌝ }
 {
     match plan {
         Pll::Refused => Answer::Refused(chip::FREQUENCY),
@@ -66,20 +67,20 @@ pub fn whole_answer(plan: Pll, hz: u64) -> Answer
     }
 }
 
-// The record's lock behind a tuning. It is not whether a try read the lock bit: a waiting that was cut leaves it as it was.
-pub fn lock_after(seen: Seen, old: bool) -> bool
-    ensures { λ r. ⌜ r ≡ lockBy seen old ⌝ }
+// The record's lock after a tuning. It is not whether a try read the lock bit: a waiting that was cut leaves it as it was.
+pub fn lock_after(lock: LockTries, old: bool) -> bool
+    ensures { λ r. ⌜ r ≡ lockBy lock old ⌝ }
 {
-    if seen.locked {
+    if lock.locked {
         return true;
     }
-    if seen.tries == 10 {
+    if lock.tries == 10 {
         return false;
     }
     old
 }
 
-// What stands in the list of writes where the PLL has no plan; it is never taken.
+// What stands in the list of writes where the PLL has no plan; such a write is never made.
 const NO_PLAN: Plan = Plan {
     m: 0,
     number: 0,
@@ -114,10 +115,10 @@ fn freq_range(hz: u64) -> FreqRange
 }
 
 // The notch suppresses open_d.
-fn drained(notch: bool, drain: u8) -> u8
-    ensures { λ r. ⌜ r ≡ cond notch 0 drain ⌝ }
+fn opendrain_for(notch: bool, opendrain: u8) -> u8
+    ensures { λ r. ⌜ r ≡ cond notch 0 opendrain ⌝ }
 {
-    if notch { 0x00 } else { drain }
+    if notch { 0x00 } else { opendrain }
 }
 
 // The Rust's `pw_sdm`: without a fraction the sum is off.
@@ -138,13 +139,13 @@ fn tune_updates(r: FreqRange, notch: bool, p: Plan) -> [Update; 16]
     requires { ⌜ p .number ≤ 5 ⌝ }
     ensures { λ out. ⌜ out ≡ muxUpdates notch r ++ pllUpdates p ⌝ }
 {
-    let drain = drained(notch, r.drain);
+    let opendrain = opendrain_for(notch, r.opendrain);
     let whole = whole_only(p.fraction);
     let high = (p.sum / 256) as u8;
     let low = (p.sum % 256) as u8;
     [
         masked(0x17, 0xa0, 0x30),
-        masked(0x17, drain, 0x08),
+        masked(0x17, opendrain, 0x08),
         masked(0x1a, r.mux, 0xc3),
         masked(0x1b, r.filter, 0xff),
         masked(0x10, 0x0b, 0x0b),
@@ -212,23 +213,23 @@ fn read_entry(address: u8, n: u8, bytes: [u8; 8]) -> Entry
     }
 }
 
-// The status' entries. A straight line over the log, and no loop over an array of entries: so the compiler puts each entry's constants
-// in place, and the chip is carried nowhere. The same below.
+// The status' entries. Call after call on the log, and no loop over an array of entries: so the compiler folds each entry's
+// constants into the code and copies no chip. The same below.
 fn status_entries(l: Log, address: u8, bytes: [u8; 8], outcomes: &[u8], room: &mut [u8]) -> Log
-    requires { ⌜ (l .count + 3 + due (l .held) ≤ length (now outcomes)) × (16 * (l .count + 3 + due (l .held)) ≤ length (now room)) ⌝ }
+    requires { ⌜ (l .count + 3 + closingOwed (l .opened) ≤ length (now outcomes)) × (16 * (l .count + 3 + closingOwed (l .opened)) ≤ length (now room)) ⌝ }
     ensures { λ r. ⌜ ((chip : Chip) → onLog chip r (now (room .exit))
         ≡ closing inRoom (now (outcomes .entry)) (run inRoom (now (outcomes .entry)) (Plain (wait 2) ∷ Plain (pointer address) ∷ Plain (readEntry address 5 bytes) ∷ [])
         (onLog chip l (now (room .entry))))) ⌝ }
-    ensures bounds { λ r. ⌜ r .count + due (r .held) ≤ l .count + 3 + due (l .held) ⌝ }
+    ensures bounds { λ r. ⌜ r .count + closingOwed (r .opened) ≤ l .count + 3 + closingOwed (l .opened) ⌝ }
 {
     let waited = chip::log_plain(l, wait(2), outcomes, room);
-    let went = waited.went;
-    let Went::Going = went else {
+    let progress = waited.progress;
+    let Progress::Going = progress else {
         return chip::log_close(waited, outcomes, room);
     };
     let pointed = chip::log_plain(waited, pointer(address), outcomes, room);
-    let went = pointed.went;
-    let Went::Going = went else {
+    let progress = pointed.progress;
+    let Progress::Going = progress else {
         return chip::log_close(pointed, outcomes, room);
     };
     let read = chip::log_plain(pointed, read_entry(address, 5, bytes), outcomes, room);
@@ -237,10 +238,10 @@ fn status_entries(l: Log, address: u8, bytes: [u8; 8], outcomes: &[u8], room: &m
 
 // "wait 2, status": the VCO settles, then five status bytes are read.
 fn read_status_raw(l: Log, address: u8, outcomes: &[u8], replies: &[u8], room: &mut [u8]) -> Log
-    requires { ⌜ (35 ≤ length (now replies)) × (l .count + 3 + due (l .held) ≤ length (now outcomes)) × (16 * (l .count + 3 + due (l .held)) ≤ length (now room)) ⌝ }
+    requires { ⌜ (35 ≤ length (now replies)) × (l .count + 3 + closingOwed (l .opened) ≤ length (now outcomes)) × (16 * (l .count + 3 + closingOwed (l .opened)) ≤ length (now room)) ⌝ }
     ensures { λ r. ⌜ ((chip : Chip) → onLog chip r (now (room .exit))
         ≡ closing inRoom (now (outcomes .entry)) (run inRoom (now (outcomes .entry)) (statusSteps address (now (replies .entry))) (onLog chip l (now (room .entry))))) ⌝ }
-    ensures bounds { λ r. ⌜ r .count + due (r .held) ≤ l .count + 3 + due (l .held) ⌝ }
+    ensures bounds { λ r. ⌜ r .count + closingOwed (r .opened) ≤ l .count + 3 + closingOwed (l .opened) ⌝ }
 {
     let bytes = reply_bytes(replies, 0, 5);
     status_entries(l, address, bytes, outcomes, room)
@@ -298,11 +299,11 @@ fn write_repair(
     outcomes: &[u8],
     room: &mut [u8],
 ) -> Log
-    requires { ⌜ (l .count + 1 + due (l .held) ≤ length (now outcomes)) × (16 * (l .count + 1 + due (l .held)) ≤ length (now room)) ⌝ }
+    requires { ⌜ (l .count + 1 + closingOwed (l .opened) ≤ length (now outcomes)) × (16 * (l .count + 1 + closingOwed (l .opened)) ≤ length (now room)) ⌝ }
     ensures { λ r. ⌜ onLog (chipOf address (now (shadow .exit)) (now (doubtful .exit))) r (now (room .exit))
         ≡ closing inRoom (now (outcomes .entry)) (run inRoom (now (outcomes .entry)) (updates (fixUpdates fix))
         (onLog (chipOf address (now (shadow .entry)) (now (doubtful .entry))) l (now (room .entry)))) ⌝ }
-    ensures bounds { λ r. ⌜ r .count + due (r .held) ≤ l .count + 1 + due (l .held) ⌝ }
+    ensures bounds { λ r. ⌜ r .count + closingOwed (r .opened) ≤ l .count + 1 + closingOwed (l .opened) ⌝ }
 {
     if fix.needed {
         let u = masked(0x10, fix.bits, 0xe0);
@@ -313,15 +314,15 @@ fn write_repair(
 
 // The entries of a try's read.
 fn try_entries(l: Log, address: u8, bytes: [u8; 8], outcomes: &[u8], room: &mut [u8]) -> Log
-    requires { ⌜ (l .count + 2 + due (l .held) ≤ length (now outcomes)) × (16 * (l .count + 2 + due (l .held)) ≤ length (now room)) ⌝ }
+    requires { ⌜ (l .count + 2 + closingOwed (l .opened) ≤ length (now outcomes)) × (16 * (l .count + 2 + closingOwed (l .opened)) ≤ length (now room)) ⌝ }
     ensures { λ r. ⌜ ((chip : Chip) → onLog chip r (now (room .exit))
         ≡ closing inRoom (now (outcomes .entry))
         (run inRoom (now (outcomes .entry)) (Plain (pointer address) ∷ Plain (readEntry address 3 bytes) ∷ []) (onLog chip l (now (room .entry))))) ⌝ }
-    ensures bounds { λ r. ⌜ r .count + due (r .held) ≤ l .count + 2 + due (l .held) ⌝ }
+    ensures bounds { λ r. ⌜ r .count + closingOwed (r .opened) ≤ l .count + 2 + closingOwed (l .opened) ⌝ }
 {
     let pointed = chip::log_plain(l, pointer(address), outcomes, room);
-    let went = pointed.went;
-    let Went::Going = went else {
+    let progress = pointed.progress;
+    let Progress::Going = progress else {
         return chip::log_close(pointed, outcomes, room);
     };
     let read = chip::log_plain(pointed, read_entry(address, 3, bytes), outcomes, room);
@@ -330,10 +331,10 @@ fn try_entries(l: Log, address: u8, bytes: [u8; 8], outcomes: &[u8], room: &mut 
 
 // The read of try i.
 fn read_try(l: Log, address: u8, i: usize, outcomes: &[u8], replies: &[u8], room: &mut [u8]) -> Log
-    requires { ⌜ (i < 10) × (35 ≤ length (now replies)) × (l .count + 2 + due (l .held) ≤ length (now outcomes)) × (16 * (l .count + 2 + due (l .held)) ≤ length (now room)) ⌝ }
+    requires { ⌜ (i < 10) × (35 ≤ length (now replies)) × (l .count + 2 + closingOwed (l .opened) ≤ length (now outcomes)) × (16 * (l .count + 2 + closingOwed (l .opened)) ≤ length (now room)) ⌝ }
     ensures { λ r. ⌜ ((chip : Chip) → onLog chip r (now (room .exit))
         ≡ closing inRoom (now (outcomes .entry)) (run inRoom (now (outcomes .entry)) (tryRead address (now (replies .entry)) i) (onLog chip l (now (room .entry))))) ⌝ }
-    ensures bounds { λ r. ⌜ r .count + due (r .held) ≤ l .count + 2 + due (l .held) ⌝ }
+    ensures bounds { λ r. ⌜ r .count + closingOwed (r .opened) ≤ l .count + 2 + closingOwed (l .opened) ⌝ }
 {
     let bytes = reply_bytes(replies, 5 + 3 * i, 3);
     try_entries(l, address, bytes, outcomes, room)
@@ -341,10 +342,10 @@ fn read_try(l: Log, address: u8, i: usize, outcomes: &[u8], replies: &[u8], room
 
 // The wait of 1 after a try.
 fn wait_one(l: Log, outcomes: &[u8], room: &mut [u8]) -> Log
-    requires { ⌜ (l .count + 1 + due (l .held) ≤ length (now outcomes)) × (16 * (l .count + 1 + due (l .held)) ≤ length (now room)) ⌝ }
+    requires { ⌜ (l .count + 1 + closingOwed (l .opened) ≤ length (now outcomes)) × (16 * (l .count + 1 + closingOwed (l .opened)) ≤ length (now room)) ⌝ }
     ensures { λ r. ⌜ ((chip : Chip) → onLog chip r (now (room .exit))
         ≡ closing inRoom (now (outcomes .entry)) (run inRoom (now (outcomes .entry)) (Plain (wait 1) ∷ []) (onLog chip l (now (room .entry))))) ⌝ }
-    ensures bounds { λ r. ⌜ r .count + due (r .held) ≤ l .count + 1 + due (l .held) ⌝ }
+    ensures bounds { λ r. ⌜ r .count + closingOwed (r .opened) ≤ l .count + 1 + closingOwed (l .opened) ⌝ }
 {
     let waited = chip::log_plain(l, wait(1), outcomes, room);
     chip::log_end(waited, outcomes, room)
@@ -360,11 +361,11 @@ fn after_try(
     outcomes: &[u8],
     room: &mut [u8],
 ) -> Log
-    requires { ⌜ (l .count + (1 - i) + 1 + due (l .held) ≤ length (now outcomes)) × (16 * (l .count + (1 - i) + 1 + due (l .held)) ≤ length (now room)) ⌝ }
+    requires { ⌜ (l .count + (1 - i) + 1 + closingOwed (l .opened) ≤ length (now outcomes)) × (16 * (l .count + (1 - i) + 1 + closingOwed (l .opened)) ≤ length (now room)) ⌝ }
     ensures { λ r. ⌜ onLog (chipOf address (now (shadow .exit)) (now (doubtful .exit))) r (now (room .exit))
         ≡ closing inRoom (now (outcomes .entry)) (run inRoom (now (outcomes .entry)) (afterTry i)
         (onLog (chipOf address (now (shadow .entry)) (now (doubtful .entry))) l (now (room .entry)))) ⌝ }
-    ensures bounds { λ r. ⌜ r .count + due (r .held) ≤ l .count + (1 - i) + 1 + due (l .held) ⌝ }
+    ensures bounds { λ r. ⌜ r .count + closingOwed (r .opened) ≤ l .count + (1 - i) + 1 + closingOwed (l .opened) ⌝ }
 {
     if i == 0 {
         let u = masked(0x12, 0x06, 0xff);
@@ -383,18 +384,18 @@ fn after_lock(
     outcomes: &[u8],
     room: &mut [u8],
 ) -> Log
-    requires { ⌜ (l .count + 1 + due (l .held) ≤ length (now outcomes)) × (16 * (l .count + 1 + due (l .held)) ≤ length (now room)) ⌝ }
+    requires { ⌜ (l .count + 1 + closingOwed (l .opened) ≤ length (now outcomes)) × (16 * (l .count + 1 + closingOwed (l .opened)) ≤ length (now room)) ⌝ }
     ensures { λ r. ⌜ onLog (chipOf address (now (shadow .exit)) (now (doubtful .exit))) r (now (room .exit))
         ≡ closing inRoom (now (outcomes .entry)) (run inRoom (now (outcomes .entry)) (updates locked)
         (onLog (chipOf address (now (shadow .entry)) (now (doubtful .entry))) l (now (room .entry)))) ⌝ }
-    ensures bounds { λ r. ⌜ r .count + due (r .held) ≤ l .count + 1 + due (l .held) ⌝ }
+    ensures bounds { λ r. ⌜ r .count + closingOwed (r .opened) ≤ l .count + 1 + closingOwed (l .opened) ⌝ }
 {
     let u = masked(0x1a, 0x08, 0x08);
     chip::write_one(l, address, u, shadow, doubtful, outcomes, room)
 }
 
 // `wait_pll_lock_raw(10)` and the write of 0x1a after a lock. #101: "The waiting step shall answer locked or not with the number of tries": both stand in
-// the log that it hands on (`seen`), by every try's own entry.
+// the log that it hands on (`lock`), by every try's own entry.
 fn wait_pll_lock_raw(
     l: Log,
     address: u8,
@@ -404,24 +405,24 @@ fn wait_pll_lock_raw(
     replies: &[u8],
     room: &mut [u8],
 ) -> Log
-    requires { ⌜ (35 ≤ length (now replies)) × (l .count + 31 + due (l .held) ≤ length (now outcomes)) × (16 * (l .count + 31 + due (l .held)) ≤ length (now room)) ⌝ }
+    requires { ⌜ (35 ≤ length (now replies)) × (l .count + 31 + closingOwed (l .opened) ≤ length (now outcomes)) × (16 * (l .count + 31 + closingOwed (l .opened)) ≤ length (now room)) ⌝ }
     ensures { λ r. ⌜ onLog (chipOf address (now (shadow .exit)) (now (doubtful .exit))) r (now (room .exit))
         ≡ closing inRoom (now (outcomes .entry)) (run inRoom (now (outcomes .entry)) (triesFrom address (now (replies .entry)) 10 0)
         (onLog (chipOf address (now (shadow .entry)) (now (doubtful .entry))) l (now (room .entry)))) ⌝ }
-    ensures bounds { λ r. ⌜ r .count + due (r .held) ≤ l .count + 31 + due (l .held) ⌝ }
+    ensures bounds { λ r. ⌜ r .count + closingOwed (r .opened) ≤ l .count + 31 + closingOwed (l .opened) ⌝ }
 {
     let mut l = l;
-    let went = l.went;
-    let Went::Going = went else {
+    let progress = l.progress;
+    let Progress::Going = progress else {
         return chip::log_close(l, outcomes, room);
     };
     let mut i: usize = 0;
     while i < 10 {
-        // Looked at after the try, but read before it: there its byte is at hand from the try's own.
+        // Tested after the try, but worked out before it, where the try's own reply has just been read.
         let locked = status::locks(replies[7 + 3 * i]);
         l = read_try(l, address, i, outcomes, replies, room);
-        let went = l.went;
-        let Went::Going = went else {
+        let progress = l.progress;
+        let Progress::Going = progress else {
             return chip::log_close(l, outcomes, room);
         };
         if locked {
@@ -444,11 +445,11 @@ fn set_pll_raw(
     replies: &[u8],
     room: &mut [u8],
 ) -> Log
-    requires { ⌜ (35 ≤ length (now replies)) × (l .count + 35 + due (l .held) ≤ length (now outcomes)) × (16 * (l .count + 35 + due (l .held)) ≤ length (now room)) ⌝ }
+    requires { ⌜ (35 ≤ length (now replies)) × (l .count + 35 + closingOwed (l .opened) ≤ length (now outcomes)) × (16 * (l .count + 35 + closingOwed (l .opened)) ≤ length (now room)) ⌝ }
     ensures { λ r. ⌜ onLog (chipOf address (now (shadow .exit)) (now (doubtful .exit))) r (now (room .exit))
         ≡ closing inRoom (now (outcomes .entry)) (run inRoom (now (outcomes .entry)) (statusSteps address (now (replies .entry)) ++ (updates (fixUpdates fix) ++ triesFrom address (now (replies .entry)) 10 0))
         (onLog (chipOf address (now (shadow .entry)) (now (doubtful .entry))) l (now (room .entry)))) ⌝ }
-    ensures bounds { λ r. ⌜ r .count + due (r .held) ≤ l .count + 35 + due (l .held) ⌝ }
+    ensures bounds { λ r. ⌜ r .count + closingOwed (r .opened) ≤ l .count + 35 + closingOwed (l .opened) ⌝ }
 {
     let probed = read_status_raw(l, address, outcomes, replies, room);
     let repaired = write_repair(probed, address, fix, shadow, doubtful, outcomes, room);
@@ -466,11 +467,11 @@ fn tune_inner(
     replies: &[u8],
     room: &mut [u8],
 ) -> Log
-    requires { ⌜ (dividerNumber (t .plan) ≤ 5) × (35 ≤ length (now replies)) × (l .count + 51 + due (l .held) ≤ length (now outcomes)) × (16 * (l .count + 51 + due (l .held)) ≤ length (now room)) ⌝ }
+    requires { ⌜ (dividerNumber (t .plan) ≤ 5) × (35 ≤ length (now replies)) × (l .count + 51 + closingOwed (l .opened) ≤ length (now outcomes)) × (16 * (l .count + 51 + closingOwed (l .opened)) ≤ length (now room)) ⌝ }
     ensures { λ r. ⌜ onLog (chipOf address (now (shadow .exit)) (now (doubtful .exit))) r (now (room .exit))
         ≡ closing inRoom (now (outcomes .entry)) (run inRoom (now (outcomes .entry)) (innerSteps address (t .kind) (t .notch) (t .plan) (t .hz) (now (replies .entry)))
         (onLog (chipOf address (now (shadow .entry)) (now (doubtful .entry))) l (now (room .entry)))) ⌝ }
-    ensures bounds { λ r. ⌜ r .count + due (r .held) ≤ l .count + 51 + due (l .held) ⌝ }
+    ensures bounds { λ r. ⌜ r .count + closingOwed (r .opened) ≤ l .count + 51 + closingOwed (l .opened) ⌝ }
 {
     let range = freq_range(t.hz);
     let plan = t.plan;
@@ -496,29 +497,29 @@ fn tune_inner(
     )
 }
 
-// A whole tuning: one bracket. The chip's lists are changed where they lie, and copied where it begins and ends alone.
+// A whole tuning: the repeater is opened once, and closed at the end. The chip's lists are changed where they lie, and copied where it begins and ends alone.
 pub fn tune(f: Flow, t: Tuning, outcomes: &[u8], replies: &[u8], room: &mut [u8]) -> Flow
     requires { ⌜ (dividerNumber (t .plan) ≤ 5) × (35 ≤ length (now replies))
         × (f .log .count + 53 ≤ length (now outcomes)) × (16 * (f .log .count + 53) ≤ length (now room)) ⌝ }
     ensures { λ r. ⌜ onRoom r (now (room .exit))
         ≡ run inRoom (now (outcomes .entry)) (tuneSteps (f .chip .address) (t .kind) (t .notch) (t .plan) (t .hz) (now (replies .entry))) (onRoom f (now (room .entry))) ⌝ }
-    ensures bounds { λ r. ⌜ r .log .count + due (r .log .held) ≤ f .log .count + 53 ⌝ }
+    ensures bounds { λ r. ⌜ r .log .count + closingOwed (r .log .opened) ≤ f .log .count + 53 ⌝ }
 {
-    let chip = f.chip;
+    let chip_state = f.chip;
     let opened = chip::log_open(f.log, outcomes, room);
-    let went = opened.went;
-    let Went::Going = went else {
+    let progress = opened.progress;
+    let Progress::Going = progress else {
         let shut = chip::log_close(opened, outcomes, room);
         return Flow {
-            chip: chip,
+            chip: chip_state,
             log: shut,
         };
     };
-    let mut shadow = chip.shadow;
-    let mut doubtful = chip.doubtful;
+    let mut shadow = chip_state.shadow;
+    let mut doubtful = chip_state.doubtful;
     let tuned = tune_inner(
         opened,
-        chip.address,
+        chip_state.address,
         t,
         &mut shadow,
         &mut doubtful,
@@ -528,7 +529,7 @@ pub fn tune(f: Flow, t: Tuning, outcomes: &[u8], replies: &[u8], room: &mut [u8]
     );
     let closed = chip::log_close(tuned, outcomes, room);
     let next = Chip {
-        address: chip.address,
+        address: chip_state.address,
         shadow: shadow,
         doubtful: doubtful,
     };

@@ -1,4 +1,4 @@
--- Bytes as parts one behind the other, each of its width: how every record is laid out.
+-- Bytes as parts one after the other, each of its width: how every record is laid out.
 -- Assumes nothing.
 use Prim.Native.Nat.{ℕ, _+_}
 use mathlib.Core.Path.{_≡_}

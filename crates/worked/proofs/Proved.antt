@@ -7,31 +7,31 @@ use Rattle.gain.proofs.Worked.{three-two-index, three-two-answer, nan-index, fa
 use Rattle.pll.specs.declared.Kind.{Kind}
 use Rattle.pll.specs.declared.Kind.the-variants.{R820T, R828D}
 use Rattle.pll.specs.declared.Pll.the-variants.{Refused}
-use Rattle.pll.specs.Divide.{inVco, firstOf}
+use Rattle.pll.specs.Divide.{inVco, firstMixer}
 use Rattle.pll.specs.Setting.{settingOf}
 use Rattle.pll.specs.Fraction.{turnOf, turnsOf}
 use Rattle.pll.specs.Plan.{planWith, planOf}
 use Rattle.reference.specs.Correct.{correctedOf}
-use Rattle.registers.specs.Rates.{holds, ifRegsOf, rateNumber, sentOf, trueOf}
+use Rattle.registers.specs.Rates.{ratioHolds, ifRegsOf, rateNumber, sentOf, trueOf}
 use Rattle.worked.specs.Numbers.{wholeIn, Worked}
 
 too-small : (kind : Kind) → planOf kind 885_000_000 100_000_000 ≡ Refused
-unfolding inVco firstOf settingOf turnOf turnsOf planWith planOf
+unfolding inVco firstMixer settingOf turnOf turnsOf planWith planOf
 too-small R820T = refl
 too-small R828D = refl
 
 least-whole : (kind : Kind) → wholeIn (planOf kind 885_000_000 68_076_923) ≡ 13
-unfolding inVco firstOf settingOf turnOf turnsOf planWith planOf
+unfolding inVco firstMixer settingOf turnOf turnsOf planWith planOf
 least-whole R820T = refl
 least-whole R828D = refl
 
 below-least : (kind : Kind) → planOf kind 885_000_000 68_076_924 ≡ Refused
-unfolding inVco firstOf settingOf turnOf turnsOf planWith planOf
+unfolding inVco firstMixer settingOf turnOf turnsOf planWith planOf
 below-least R820T = refl
 below-least R828D = refl
 
 pub worked : Worked
-unfolding inVco firstOf settingOf turnOf turnsOf planWith planOf correctedOf ifRegsOf sentOf holds rateNumber trueOf
+unfolding inVco firstMixer settingOf turnOf turnsOf planWith planOf correctedOf ifRegsOf sentOf ratioHolds rateNumber trueOf
 worked =
     record {
       lowest = refl;

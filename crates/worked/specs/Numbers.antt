@@ -87,8 +87,8 @@ pub record Worked : Type 0 where
   pub first-other : trueOf 5_497_289 28_800_000 ≡ 5_497_290
   pub true-most : trueOf 4_294_967_295 28_800_000 ≡ 4_295_120_011
   -- V4: 28,799,999 goes to 57,599,999 inverted; 28,800,000 stays
-  pub shifted : board.planOf V4 28_799_999 ≡ record { hz = 57_599_999; inverted = true; path = By Hf; notch = false }
-  pub stays : board.planOf V4 28_800_000 ≡ record { hz = 28_800_000; inverted = false; path = By Vhf; notch = false }
+  pub shifted : board.boardPlan V4 28_799_999 ≡ record { hz = 57_599_999; inverted = true; path = By Hf; notch = false }
+  pub stays : board.boardPlan V4 28_800_000 ≡ record { hz = 28_800_000; inverted = false; path = By Vhf; notch = false }
   -- Notch holds 85,000,000 and 112,000,000, not 112,000,001
   pub notch-first : board.inNotch 85_000_000 ≡ true
   pub notch-last : board.inNotch 112_000_000 ≡ true

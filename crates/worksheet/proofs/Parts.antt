@@ -13,7 +13,7 @@ use Rattle.pll.specs.declared.Mixer.{Mixer}
 use Rattle.pll.specs.declared.Mixer.the-variants.{By, Missing}
 use Rattle.pll.specs.declared.Sum.{Sum}
 use Rattle.pll.specs.Divide.{dividerOf}
-use Rattle.pll.specs.Fraction.{takes, turnOf, turnsOf, startOf, sumOf}
+use Rattle.pll.specs.Fraction.{takesTurn, turnOf, turnsOf, sumStart, sumOf}
 use Rattle.pll.specs.Plan.{fractionOf}
 use Rattle.pll.specs.Setting.{settingOf}
 use Rattle.pll.proofs.Dividers.{by2, by4, by8, by16, by32, by64, too-low, too-high, below-or, found}
@@ -127,7 +127,7 @@ table : lines ≡ linesFrom 16 2
 unfolding lineFrom linesFrom
 table = refl
 
-one : (k n : ℕ) (s : Sum) (b : Bool) → takes k n s ≡ b → lineOf k (asWork s) (lineFrom n) ≡ asWork (turnOf k n s)
+one : (k n : ℕ) (s : Sum) (b : Bool) → takesTurn k n s ≡ b → lineOf k (asWork s) (lineFrom n) ≡ asWork (turnOf k n s)
 unfolding lineOf lineFrom turnOf
 one k n s true e = simp e
 one k n s false e = simp e
@@ -136,10 +136,10 @@ turns : (t k n : ℕ) (s : Sum) → linesOf k (asWork s) (linesFrom t n) ≡ asW
 unfolding linesOf linesFrom turnsOf
 turns zero k n s = refl
 turns (suc t) k n s =
-    ap (λ (w : Work). linesOf k w (linesFrom t (n * 2))) (one k n s (takes k n s) refl) ∙ turns t k (n * 2) (turnOf k n s)
+    ap (λ (w : Work). linesOf k w (linesFrom t (n * 2))) (one k n s (takesTurn k n s) refl) ∙ turns t k (n * 2) (turnOf k n s)
 
 pub same-sum : (k f : ℕ) → sumOn k f ≡ asWork (sumOf k f)
-same-sum k f = ap (linesOf k (asWork (startOf f))) table ∙ turns 16 k 2 (startOf f)
+same-sum k f = ap (linesOf k (asWork (sumStart f))) table ∙ turns 16 k 2 (sumStart f)
 
 pub sum-short : (k f : ℕ) → sumOn k f .sum < 2 ^ 16
 sum-short k f = subst (λ (w : Work). w .sum < 2 ^ 16) (sym (same-sum k f)) (sum-fits k f)

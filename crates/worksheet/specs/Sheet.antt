@@ -102,6 +102,6 @@ sheetOf kind lo r =
     cond (eqb r 0) Refused (cond (eqb (dividerOn lo) 0) Refused (sheetWith kind (dividerOn lo) (lo * dividerOn lo) r))
 
 -- what of a plan of crate pll stands on a sheet
-abbrev pub toldOf : Pll → Filled
-toldOf (pll.Planned p) = In (record { m = p .m; n = p .n; setting = p .setting; sum = p .sum; rest = p .rest })
-toldOf pll.Refused = Refused
+abbrev pub filledBy : Pll → Filled
+filledBy (pll.Planned p) = In (record { m = p .m; n = p .n; setting = p .setting; sum = p .sum; rest = p .rest })
+filledBy pll.Refused = Refused

@@ -4,7 +4,7 @@
 ghost use mathlib.Core.Path.{_≡_};
 ghost use Prim.Native.Nat.{_<_, _≤_, _^_};
 ghost use Rattle.pll.specs.Plan.{capOf};
-ghost use Rattle.worksheet.specs.Sheet.{bandOf, byteOf, dividerOn, lineOf, sheetOf, sumOn, toldOf};
+ghost use Rattle.worksheet.specs.Sheet.{bandOf, byteOf, dividerOn, lineOf, sheetOf, sumOn, filledBy};
 use pll::Kind;
 use pll::Pll;
 
@@ -42,7 +42,7 @@ pub const LINES: [Line; 16] = [
     Line(65_536, 1, true),
 ];
 
-// The divider so far, and behind one more range. 0: lo stood in none.
+// The divider so far, and after one more range. 0: lo stood in no range.
 fn in_band(lo: u64, m: u64, b: Band) -> u64
     ensures { λ r. ⌜ r ≡ bandOf lo m b ⌝ }
 {
@@ -183,8 +183,8 @@ pub fn fill(kind: Kind, lo: u64, r: u32) -> Filled
 }
 
 // What of a plan of crate pll stands on a sheet.
-pub fn told(plan: Pll) -> Filled
-    ensures { λ r. ⌜ r ≡ toldOf plan ⌝ }
+pub fn filled_by(plan: Pll) -> Filled
+    ensures { λ r. ⌜ r ≡ filledBy plan ⌝ }
 {
     match plan {
         Pll::Planned(p) => Filled::In(Sheet {

@@ -6,7 +6,8 @@ use lib.ListN.{length}
 use Rattle.board.specs.declared.Path.{Path}
 use Rattle.board.specs.declared.Path.the-variants.{Hf, Vhf, Uhf}
 use Rattle.chip.specs.declared.Updates.{Updates}
-use Rattle.chip.specs.Steps.{allIn, every, listed, meantOf}
+use Rattle.chip.specs.InCode.{listed, meantOf}
+use Rattle.chip.specs.Steps.{allIn, every}
 use Rattle.chip.proofs.Lists.{meant-all, meant-count, meant-in}
 use Rattle.writes.specs.Lists.{bandwidthUpdates, gainUpdates, ifUpdates, initUpdates, pathUpdates}
 

@@ -3,7 +3,7 @@
 -- Assumes nothing.
 use Prim.Native.Nat.{ℕ}
 use mathlib.Core.List.{List, _++_}
-use Rattle.chip.specs.Steps.{Step, behind, tunerWrite, updates}
+use Rattle.chip.specs.Steps.{Step, whileOpen, tunerWrite, updates}
 use Rattle.writes.specs.Lists.{ifUpdates, initArray, initUpdates}
 
 -- all 27 registers, in two brackets
@@ -12,4 +12,4 @@ sendAll bs = tunerWrite bs 0 3 ++ tunerWrite bs 3 5
 
 -- the array, four masked writes, and the filter for an IF of 2.3 MHz
 abbrev pub initSteps : List Step
-initSteps = sendAll initArray ++ (behind (updates initUpdates) ++ behind (updates (ifUpdates 2_300_000)))
+initSteps = sendAll initArray ++ (whileOpen (updates initUpdates) ++ whileOpen (updates (ifUpdates 2_300_000)))

@@ -7,7 +7,8 @@ ghost use Prim.Native.Nat.{_+_, _*_, _≤_, _<_};
 ghost use lib.Dec.{leb};
 ghost use lib.ListN.{length};
 ghost use Rattle.chip.specs.Chips.{chipOf};
-ghost use Rattle.chip.specs.Steps.{behind, closing, due, inRoom, listed, onLog, onRoom, run, updates};
+ghost use Rattle.chip.specs.InCode.{closing, inRoom, listed, onLog, onRoom};
+ghost use Rattle.chip.specs.Steps.{whileOpen, closingOwed, run, updates};
 ghost use Rattle.writes.specs.Lists.{bandwidthUpdates, byHand, gainUpdates, ifUpdates, initUpdates, pathUpdates, stepValues};
 ghost use Rattle.writes.specs.Programs.{initSteps, sendAll};
 use board::Path;
@@ -15,8 +16,8 @@ use chip::Chip;
 use chip::FILLER;
 use chip::Flow;
 use chip::Log;
+use chip::Progress;
 use chip::Updates;
-use chip::Went;
 use chip::masked;
 use gain::GainEntry;
 
@@ -112,15 +113,15 @@ pub fn set_if_bandwidth(
 ) -> Log
     requires { ⌜ (l .count + 4 ≤ length (now outcomes)) × (16 * (l .count + 4) ≤ length (now room)) ⌝ }
     ensures { λ r. ⌜ onLog (chipOf address (now (shadow .exit)) (now (doubtful .exit))) r (now (room .exit))
-        ≡ run inRoom (now (outcomes .entry)) (behind (updates (ifUpdates hz)))
+        ≡ run inRoom (now (outcomes .entry)) (whileOpen (updates (ifUpdates hz)))
         (onLog (chipOf address (now (shadow .entry)) (now (doubtful .entry))) l (now (room .entry))) ⌝ }
-    ensures bounds { λ r. ⌜ r .count + due (r .held) ≤ l .count + 4 ⌝ }
+    ensures bounds { λ r. ⌜ r .count + closingOwed (r .opened) ≤ l .count + 4 ⌝ }
 {
     let low = masked(0x0a, narrow_or_wide(hz, 0x00, 0x10), 0x70);
     let high = masked(0x0b, narrow_or_wide(hz, 0x80, 0x6b), 0xef);
     let opened = chip::log_open(l, outcomes, room);
-    let went = opened.went;
-    let Went::Going = went else {
+    let progress = opened.progress;
+    let Progress::Going = progress else {
         return chip::log_close(opened, outcomes, room);
     };
     let written = chip::write_two(opened, address, low, high, shadow, doubtful, outcomes, room);
@@ -138,14 +139,14 @@ pub fn set_bandwidth(
 ) -> Log
     requires { ⌜ (l .count + 3 ≤ length (now outcomes)) × (16 * (l .count + 3) ≤ length (now room)) ⌝ }
     ensures { λ r. ⌜ onLog (chipOf address (now (shadow .exit)) (now (doubtful .exit))) r (now (room .exit))
-        ≡ run inRoom (now (outcomes .entry)) (behind (updates (bandwidthUpdates hz)))
+        ≡ run inRoom (now (outcomes .entry)) (whileOpen (updates (bandwidthUpdates hz)))
         (onLog (chipOf address (now (shadow .entry)) (now (doubtful .entry))) l (now (room .entry))) ⌝ }
-    ensures bounds { λ r. ⌜ r .count + due (r .held) ≤ l .count + 3 ⌝ }
+    ensures bounds { λ r. ⌜ r .count + closingOwed (r .opened) ≤ l .count + 3 ⌝ }
 {
     let u = masked(0x0a, width(hz), 0x0f);
     let opened = chip::log_open(l, outcomes, room);
-    let went = opened.went;
-    let Went::Going = went else {
+    let progress = opened.progress;
+    let Progress::Going = progress else {
         return chip::log_close(opened, outcomes, room);
     };
     let written = chip::write_one(opened, address, u, shadow, doubtful, outcomes, room);
@@ -171,16 +172,16 @@ fn gain_by_hand(
     outcomes: &[u8],
     room: &mut [u8],
 ) -> Log
-    requires { ⌜ (l .count + 2 + due (l .held) ≤ length (now outcomes)) × (16 * (l .count + 2 + due (l .held)) ≤ length (now room)) ⌝ }
+    requires { ⌜ (l .count + 2 + closingOwed (l .opened) ≤ length (now outcomes)) × (16 * (l .count + 2 + closingOwed (l .opened)) ≤ length (now room)) ⌝ }
     ensures { λ r. ⌜ onLog (chipOf address (now (shadow .exit)) (now (doubtful .exit))) r (now (room .exit))
         ≡ closing inRoom (now (outcomes .entry)) (run inRoom (now (outcomes .entry)) (updates byHand)
         (onLog (chipOf address (now (shadow .entry)) (now (doubtful .entry))) l (now (room .entry)))) ⌝ }
-    ensures bounds { λ r. ⌜ r .count + due (r .held) ≤ l .count + 2 + due (l .held) ⌝ }
+    ensures bounds { λ r. ⌜ r .count + closingOwed (r .opened) ≤ l .count + 2 + closingOwed (l .opened) ⌝ }
 {
     let u = masked(0x05, 0x10, 0x10);
     let l = chip::write_reg_mask_raw(l, address, u, shadow, doubtful, outcomes, room);
-    let went = l.went;
-    let Went::Going = went else {
+    let progress = l.progress;
+    let Progress::Going = progress else {
         return chip::log_close(l, outcomes, room);
     };
     let u = masked(0x07, 0x00, 0x10);
@@ -198,22 +199,22 @@ fn gain_values(
     outcomes: &[u8],
     room: &mut [u8],
 ) -> Log
-    requires { ⌜ (l .count + 3 + due (l .held) ≤ length (now outcomes)) × (16 * (l .count + 3 + due (l .held)) ≤ length (now room)) ⌝ }
+    requires { ⌜ (l .count + 3 + closingOwed (l .opened) ≤ length (now outcomes)) × (16 * (l .count + 3 + closingOwed (l .opened)) ≤ length (now room)) ⌝ }
     ensures { λ r. ⌜ onLog (chipOf address (now (shadow .exit)) (now (doubtful .exit))) r (now (room .exit))
         ≡ closing inRoom (now (outcomes .entry)) (run inRoom (now (outcomes .entry)) (updates (stepValues cfg))
         (onLog (chipOf address (now (shadow .entry)) (now (doubtful .entry))) l (now (room .entry)))) ⌝ }
-    ensures bounds { λ r. ⌜ r .count + due (r .held) ≤ l .count + 3 + due (l .held) ⌝ }
+    ensures bounds { λ r. ⌜ r .count + closingOwed (r .opened) ≤ l .count + 3 + closingOwed (l .opened) ⌝ }
 {
     let u = masked(0x05, cfg.lna, 0x0f);
     let l = chip::write_reg_mask_raw(l, address, u, shadow, doubtful, outcomes, room);
-    let went = l.went;
-    let Went::Going = went else {
+    let progress = l.progress;
+    let Progress::Going = progress else {
         return chip::log_close(l, outcomes, room);
     };
     let u = masked(0x07, cfg.mix, 0x0f);
     let l = chip::write_reg_mask_raw(l, address, u, shadow, doubtful, outcomes, room);
-    let went = l.went;
-    let Went::Going = went else {
+    let progress = l.progress;
+    let Progress::Going = progress else {
         return chip::log_close(l, outcomes, room);
     };
     let u = masked(0x0c, cfg.vga, 0x0f);
@@ -231,11 +232,11 @@ fn gain_writes(
     outcomes: &[u8],
     room: &mut [u8],
 ) -> Log
-    requires { ⌜ (k < 29) × (l .count + 5 + due (l .held) ≤ length (now outcomes)) × (16 * (l .count + 5 + due (l .held)) ≤ length (now room)) ⌝ }
+    requires { ⌜ (k < 29) × (l .count + 5 + closingOwed (l .opened) ≤ length (now outcomes)) × (16 * (l .count + 5 + closingOwed (l .opened)) ≤ length (now room)) ⌝ }
     ensures { λ r. ⌜ onLog (chipOf address (now (shadow .exit)) (now (doubtful .exit))) r (now (room .exit))
         ≡ closing inRoom (now (outcomes .entry)) (run inRoom (now (outcomes .entry)) (updates (gainUpdates k))
         (onLog (chipOf address (now (shadow .entry)) (now (doubtful .entry))) l (now (room .entry)))) ⌝ }
-    ensures bounds { λ r. ⌜ r .count + due (r .held) ≤ l .count + 5 + due (l .held) ⌝ }
+    ensures bounds { λ r. ⌜ r .count + closingOwed (r .opened) ≤ l .count + 5 + closingOwed (l .opened) ⌝ }
 {
     let cfg = gain::entry_at(k);
     let manual = gain_by_hand(l, address, shadow, doubtful, outcomes, room);
@@ -245,24 +246,24 @@ fn gain_writes(
 // `set_gain`, over a flow: one bracket.
 pub fn gain_steps(f: Flow, k: usize, outcomes: &[u8], room: &mut [u8]) -> Flow
     requires { ⌜ (k < 29) × (f .log .count + 7 ≤ length (now outcomes)) × (16 * (f .log .count + 7) ≤ length (now room)) ⌝ }
-    ensures { λ r. ⌜ onRoom r (now (room .exit)) ≡ run inRoom (now (outcomes .entry)) (behind (updates (gainUpdates k))) (onRoom f (now (room .entry))) ⌝ }
-    ensures bounds { λ r. ⌜ r .log .count + due (r .log .held) ≤ f .log .count + 7 ⌝ }
+    ensures { λ r. ⌜ onRoom r (now (room .exit)) ≡ run inRoom (now (outcomes .entry)) (whileOpen (updates (gainUpdates k))) (onRoom f (now (room .entry))) ⌝ }
+    ensures bounds { λ r. ⌜ r .log .count + closingOwed (r .log .opened) ≤ f .log .count + 7 ⌝ }
 {
-    let chip = f.chip;
+    let chip_state = f.chip;
     let opened = chip::log_open(f.log, outcomes, room);
-    let went = opened.went;
-    let Went::Going = went else {
+    let progress = opened.progress;
+    let Progress::Going = progress else {
         let shut = chip::log_close(opened, outcomes, room);
         return Flow {
-            chip: chip,
+            chip: chip_state,
             log: shut,
         };
     };
-    let mut shadow = chip.shadow;
-    let mut doubtful = chip.doubtful;
+    let mut shadow = chip_state.shadow;
+    let mut doubtful = chip_state.doubtful;
     let written = gain_writes(
         opened,
-        chip.address,
+        chip_state.address,
         k,
         &mut shadow,
         &mut doubtful,
@@ -271,7 +272,7 @@ pub fn gain_steps(f: Flow, k: usize, outcomes: &[u8], room: &mut [u8]) -> Flow
     );
     let closed = chip::log_close(written, outcomes, room);
     let next = Chip {
-        address: chip.address,
+        address: chip_state.address,
         shadow: shadow,
         doubtful: doubtful,
     };
@@ -285,7 +286,7 @@ pub fn gain_steps(f: Flow, k: usize, outcomes: &[u8], room: &mut [u8]) -> Flow
 pub fn send_all(f: Flow, bs: [u8; 27], outcomes: &[u8], room: &mut [u8]) -> Flow
     requires { ⌜ (f .log .count + 9 ≤ length (now outcomes)) × (16 * (f .log .count + 9) ≤ length (now room)) ⌝ }
     ensures { λ r. ⌜ onRoom r (now (room .exit)) ≡ run inRoom (now (outcomes .entry)) (sendAll bs) (onRoom f (now (room .entry))) ⌝ }
-    ensures bounds { λ r. ⌜ r .log .count + due (r .log .held) ≤ f .log .count + 9 ⌝ }
+    ensures bounds { λ r. ⌜ r .log .count + closingOwed (r .log .opened) ≤ f .log .count + 9 ⌝ }
 {
     let first = chip::i2c_write_first(f, bs, outcomes, room);
     chip::i2c_write_last(first, bs, outcomes, room)
@@ -295,7 +296,7 @@ pub fn send_all(f: Flow, bs: [u8; 27], outcomes: &[u8], room: &mut [u8]) -> Flow
 pub fn initialize(f: Flow, outcomes: &[u8], room: &mut [u8]) -> Flow
     requires { ⌜ (f .log .count + 19 ≤ length (now outcomes)) × (16 * (f .log .count + 19) ≤ length (now room)) ⌝ }
     ensures { λ r. ⌜ onRoom r (now (room .exit)) ≡ run inRoom (now (outcomes .entry)) initSteps (onRoom f (now (room .entry))) ⌝ }
-    ensures bounds { λ r. ⌜ r .log .count + due (r .log .held) ≤ f .log .count + 19 ⌝ }
+    ensures bounds { λ r. ⌜ r .log .count + closingOwed (r .log .opened) ≤ f .log .count + 19 ⌝ }
 {
     let sent = send_all(f, INIT_ARRAY, outcomes, room);
     let set = chip::with_repeater(sent, init_updates(), outcomes, room);

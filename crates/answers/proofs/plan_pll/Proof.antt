@@ -6,7 +6,7 @@ use Rattle.pll.specs.declared.Kind.{Kind}
 use Rattle.pll.specs.declared.Pll.{Pll}
 use Rattle.pll.specs.Plan.{planOf}
 use Rattle.worksheet.specs.declared.Filled.{Filled}
-use Rattle.worksheet.specs.Sheet.{toldOf}
+use Rattle.worksheet.specs.Sheet.{filledBy}
 use Rattle.answers.specs.declared.Laid.{Laid}
 use Rattle.answers.specs.Sheets.{laidOf, laidTo}
 use Rattle.answers.proofs.plan_pll.Statement.{statement}
@@ -18,8 +18,8 @@ named-requires c κs = search needs
 plan-pll-requires : tie.Need-plan-pll-requires
 plan-pll-requires c κs = search needs
 
-told-requires : tie.Need-told-requires
-told-requires c κs = search needs
+filled-by-requires : tie.Need-filled-by-requires
+filled-by-requires c κs = search needs
 
 laid-out-requires : tie.Need-laid-out-requires
 laid-out-requires c κs = search needs
@@ -38,9 +38,9 @@ returns c =
     let a = c .before .before .before .before .before .before .before .before .before .before .before .args in
     c .before .before .lend .ensures
     ∙ ap (λ (l : Laid). laidTo l (now (a .out))) (c .before .before .before .before .before .before .laid-out .ensures)
-    ∙ ap (λ (f : Filled). laidTo (laidOf (a .kind) (a .reference) f) (now (a .out))) (c .before .before .before .before .before .before .before .told .ensures)
-    ∙ ap (λ (p : Pll). laidTo (laidOf (a .kind) (a .reference) (toldOf p)) (now (a .out))) (c .before .before .before .before .before .before .before .before .plan-pll .ensures)
-    ∙ ap (λ (k : Kind). laidTo (laidOf (a .kind) (a .reference) (toldOf (planOf k (a .lo) (a .reference)))) (now (a .out))) (c .before .before .before .before .before .before .before .before .before .named .ensures)
+    ∙ ap (λ (f : Filled). laidTo (laidOf (a .kind) (a .reference) f) (now (a .out))) (c .before .before .before .before .before .before .before .filled-by .ensures)
+    ∙ ap (λ (p : Pll). laidTo (laidOf (a .kind) (a .reference) (filledBy p)) (now (a .out))) (c .before .before .before .before .before .before .before .before .plan-pll .ensures)
+    ∙ ap (λ (k : Kind). laidTo (laidOf (a .kind) (a .reference) (filledBy (planOf k (a .lo) (a .reference)))) (now (a .out))) (c .before .before .before .before .before .before .before .before .before .named .ensures)
 
 pub plan-pll-spec : {M : Type 1} → statement M
 plan-pll-spec =
@@ -48,7 +48,7 @@ plan-pll-spec =
     (tie.spec
     named-requires
     plan-pll-requires
-    told-requires
+    filled-by-requires
     laid-out-requires
     slice-aggregate-lend
     lend-requires

@@ -4,7 +4,7 @@ use mathlib.Core.Path.{sym, ap, _∙_}
 use borrow.Author.Needs.{needs}
 use Rattle.board.specs.declared.Board.{Board}
 use Rattle.board.specs.declared.Route.the-variants.{By}
-use Rattle.board.specs.Plans.{planOf, below-up}
+use Rattle.board.specs.Plans.{boardPlan, below-up}
 use Rattle.board.proofs.plan_tuning.Statement.{statement}
 use Rattle.board.proofs.plan_tuning.Tie as tie
 
@@ -24,14 +24,14 @@ in-notch-requires : tie.Need-in-notch-requires
 in-notch-requires c κs = search needs
 
 returns : tie.Need-returns
-unfolding planOf
-returns c = sym (ap (λ (b : Board). planOf b (c .before .before .args .hz)) (c .enum-told .given .1))
+unfolding boardPlan
+returns c = sym (ap (λ (b : Board). boardPlan b (c .before .before .args .hz)) (c .enum-told .given .1))
 
 returns-2 : tie.Need-returns-2
-unfolding planOf
+unfolding boardPlan
 returns-2 c =
     (λ i. record { hz = c .before .before .tuner-hz .ensures i; inverted = below-up (c .before .before .before .before .before .args .hz); path = By (c .before .input-path .ensures i); notch = c .in-notch .ensures i })
-    ∙ sym (ap (λ (b : Board). planOf b (c .before .before .before .before .before .args .hz)) (c .before .before .before .enum-told2 .given .1))
+    ∙ sym (ap (λ (b : Board). boardPlan b (c .before .before .before .before .before .args .hz)) (c .before .before .before .enum-told2 .given .1))
 
 pub plan-tuning-spec : {M : Type 1} → statement M
 plan-tuning-spec =

@@ -1,5 +1,5 @@
 -- `boards::ddc_part` meets its contract. Assumes nothing.
-use Rattle.chip.specs.Steps.{inRoom}
+use Rattle.chip.specs.InCode.{inRoom}
 use Rattle.chip.proofs.Laws.{by-program}
 use Rattle.boards.proofs.Hops.{no-ddc, planned-ddc}
 use native.Mathlib.Omega.{arith}

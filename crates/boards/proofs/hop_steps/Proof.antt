@@ -5,7 +5,8 @@ use Prim.Native.Nat.{ℕ}
 use lib.ListN.{drop}
 use native.Mathlib.Omega.{arith}
 use denote.Ref.{now}
-use Rattle.chip.specs.Steps.{Line, Logged, inRoom, onRoom}
+use Rattle.chip.specs.InCode.{Logged, inRoom, onRoom}
+use Rattle.chip.specs.Steps.{Line}
 use Rattle.chip.proofs.Laws.{by-program, run-address, then}
 use Rattle.tuning.specs.Program.{tuneSteps}
 use Rattle.boards.specs.Hops.{ddcPart, pathPart, pathReplies}

@@ -1,5 +1,5 @@
 -- `boards::path_part` meets its contract. Assumes nothing.
-use Rattle.chip.specs.Steps.{inRoom}
+use Rattle.chip.specs.InCode.{inRoom}
 use Rattle.chip.proofs.Laws.{by-program}
 use denote.Ref.{now}
 use Rattle.boards.proofs.Hops.{direct, no-path, switched}

@@ -2,10 +2,10 @@
 use mathlib.Core.Path.{_≡_, ap, subst, _∙_}
 use denote.Ref.{now}
 use Rattle.bands.specs.declared.Planned.{Planned}
-use Rattle.chip.specs.declared.Seen.{Seen}
+use Rattle.chip.specs.declared.LockTries.{LockTries}
 use Rattle.chip.specs.Calls.{Called}
 use Rattle.driver.specs.Calls.{Both}
-use Rattle.boards.specs.Hops.{hopResult, hopSeen}
+use Rattle.boards.specs.Hops.{hopResult, hopLockTries}
 use borrow.Author.Needs.{needs}
 use Rattle.boards.proofs.tune_board.Statement.{statement}
 use Rattle.boards.proofs.tune_board.Tie as tie
@@ -25,7 +25,7 @@ returns c =
     let by = c .before .before .before .before .plan-by-table .ensures in
     let told = c .before .before .tune-planned .ensures in (
       told .0 ∙ ap (λ (p : Planned). hopResult p (a .hz) (now (a .replies)) (now (a .outcomes)) (a .tuner) (a .driver) (now (a .room))) by,
-      told .1 ∙ ap (λ (p : Planned). hopSeen p (a .hz) (now (a .replies)) (now (a .outcomes)) (a .tuner) (a .driver) (now (a .room))) by,
+      told .1 ∙ ap (λ (p : Planned). hopLockTries p (a .hz) (now (a .replies)) (now (a .outcomes)) (a .tuner) (a .driver) (now (a .room))) by,
     )
 
 pub tune-board-spec : {M : Type 1} → statement M

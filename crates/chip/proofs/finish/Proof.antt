@@ -11,8 +11,8 @@ seal-requires c κs = search needs
 enum-told : tie.Need-enum-told
 enum-told c = search needs
 
-enum-known-went : tie.Need-enum-known-went
-enum-known-went c = search needs
+enum-known-progress : tie.Need-enum-known-progress
+enum-known-progress c = search needs
 
 same-length : tie.Need-same-length
 same-length c = search needs
@@ -24,7 +24,7 @@ same-length-2 : tie.Need-same-length-2
 same-length-2 c = search needs
 
 returns-2 : tie.Need-returns-2
-returns-2 c = (sym (ap (answerOf (c .before .before .before .before .before .before .before .before .before .args .whole)) (c .before .went .given .1)), search needs)
+returns-2 c = (sym (ap (answerOf (c .before .before .before .before .before .before .before .before .before .args .whole)) (c .before .progress .given .1)), search needs)
 
 pub finish-spec : {M : Type 1} → statement M
-finish-spec = tie.close (tie.spec seal-requires enum-told enum-known-went same-length returns same-length-2 returns-2)
+finish-spec = tie.close (tie.spec seal-requires enum-told enum-known-progress same-length returns same-length-2 returns-2)

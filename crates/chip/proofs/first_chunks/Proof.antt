@@ -1,8 +1,9 @@
 -- `chip::first_chunks` meets its contract. Its steps one after the other, each looked at. Assumes nothing.
 use mathlib.Core.Path.{refl, ap}
 use native.Mathlib.Omega.{arith}
-use Rattle.chip.specs.Steps.{every, goes, inRoom}
-use Rattle.chip.proofs.Laws.{cut-here, ended-here, went-on}
+use Rattle.chip.specs.InCode.{inRoom}
+use Rattle.chip.specs.Steps.{every, goes}
+use Rattle.chip.proofs.Laws.{cut-here, ended-here, progress-on}
 use borrow.Author.Needs.{needs}
 use Rattle.chip.proofs.first_chunks.Statement.{statement}
 use Rattle.chip.proofs.first_chunks.Tie as tie
@@ -43,7 +44,7 @@ same-length-2 c = search needs
 
 returns-2 : tie.Need-returns-2
 unfolding every
-returns-2 c = (went-on inRoom _ _ _ _ _ _ (c .before .before .before .before .before .before .before .before .before .before .before .before .before .before .before .before .send-chunk .ensures .0) (cut-here inRoom _ _ _ _ _ _ (c .before .before .before .before .before .before .before .before .send-chunk2 .ensures .0) (ap goes (c .before .before .before .before .enum-told4 .given .1)) refl (c .before .before .log-close2 .ensures .0 _)), omega (arith, c .before .before .before .before .before .before .before .before .before .before .before .before .before .before .before .before .send-chunk .ensures .1, c .before .before .before .before .before .before .before .before .before .before .before .before .before .before .before .before .send-chunk .kept, c .before .before .before .before .before .before .before .before .send-chunk2 .ensures .1, c .before .before .before .before .before .before .before .before .send-chunk2 .kept, c .before .before .log-close2 .ensures .1, c .before .before .log-close2 .kept, c .before .before .before .before .before .before .before .before .before .before .before .before .before .before .before .before .before .before .before .before .before .before .pre))
+returns-2 c = (progress-on inRoom _ _ _ _ _ _ (c .before .before .before .before .before .before .before .before .before .before .before .before .before .before .before .before .send-chunk .ensures .0) (cut-here inRoom _ _ _ _ _ _ (c .before .before .before .before .before .before .before .before .send-chunk2 .ensures .0) (ap goes (c .before .before .before .before .enum-told4 .given .1)) refl (c .before .before .log-close2 .ensures .0 _)), omega (arith, c .before .before .before .before .before .before .before .before .before .before .before .before .before .before .before .before .send-chunk .ensures .1, c .before .before .before .before .before .before .before .before .before .before .before .before .before .before .before .before .send-chunk .kept, c .before .before .before .before .before .before .before .before .send-chunk2 .ensures .1, c .before .before .before .before .before .before .before .before .send-chunk2 .kept, c .before .before .log-close2 .ensures .1, c .before .before .log-close2 .kept, c .before .before .before .before .before .before .before .before .before .before .before .before .before .before .before .before .before .before .before .before .before .before .pre))
 
 send-chunk-requires-3 : tie.Need-send-chunk-requires-3
 send-chunk-requires-3 c κs = (refl, omega (arith, c .before .before .before .before .before .before .before .before .before .before .before .before .before .before .before .send-chunk .ensures .1, c .before .before .before .before .before .before .before .before .before .before .before .before .before .before .before .send-chunk .kept, c .before .before .before .before .before .before .before .send-chunk2 .ensures .1, c .before .before .before .before .before .before .before .send-chunk2 .kept, c .before .before .before .before .before .before .before .before .before .before .before .before .before .before .before .before .before .before .before .before .before .pre), omega (arith, c .before .before .before .before .before .before .before .before .before .before .before .before .before .before .before .send-chunk .ensures .1, c .before .before .before .before .before .before .before .before .before .before .before .before .before .before .before .send-chunk .kept, c .before .before .before .before .before .before .before .send-chunk2 .ensures .1, c .before .before .before .before .before .before .before .send-chunk2 .kept, c .before .before .before .before .before .before .before .before .before .before .before .before .before .before .before .before .before .before .before .before .before .pre))
@@ -55,7 +56,7 @@ same-length-3 : tie.Need-same-length-3
 same-length-3 c = omega (arith, c .before .before .before .before .before .before .before .before .before .before .before .before .before .before .before .before .before .before .before .before .before .before .send-chunk .kept, c .before .before .before .before .before .before .before .before .before .before .before .before .before .before .send-chunk2 .kept, c .before .before .before .before .before .before .send-chunk3 .kept, c .before .before .log-end .kept)
 
 returns-3 : tie.Need-returns-3
-returns-3 c = (went-on inRoom _ _ _ _ _ _ (c .before .before .before .before .before .before .before .before .before .before .before .before .before .before .before .before .before .before .before .before .before .before .send-chunk .ensures .0) (went-on inRoom _ _ _ _ _ _ (c .before .before .before .before .before .before .before .before .before .before .before .before .before .before .send-chunk2 .ensures .0) (ended-here inRoom _ _ _ _ _ (c .before .before .before .before .before .before .send-chunk3 .ensures .0) (c .before .before .log-end .ensures .0 _))), omega (arith, c .before .before .before .before .before .before .before .before .before .before .before .before .before .before .before .before .before .before .before .before .before .before .send-chunk .ensures .1, c .before .before .before .before .before .before .before .before .before .before .before .before .before .before .before .before .before .before .before .before .before .before .send-chunk .kept, c .before .before .before .before .before .before .before .before .before .before .before .before .before .before .send-chunk2 .ensures .1, c .before .before .before .before .before .before .before .before .before .before .before .before .before .before .send-chunk2 .kept, c .before .before .before .before .before .before .send-chunk3 .ensures .1, c .before .before .before .before .before .before .send-chunk3 .kept, c .before .before .log-end .ensures .1, c .before .before .log-end .kept, c .before .before .before .before .before .before .before .before .before .before .before .before .before .before .before .before .before .before .before .before .before .before .before .before .before .before .before .before .pre))
+returns-3 c = (progress-on inRoom _ _ _ _ _ _ (c .before .before .before .before .before .before .before .before .before .before .before .before .before .before .before .before .before .before .before .before .before .before .send-chunk .ensures .0) (progress-on inRoom _ _ _ _ _ _ (c .before .before .before .before .before .before .before .before .before .before .before .before .before .before .send-chunk2 .ensures .0) (ended-here inRoom _ _ _ _ _ (c .before .before .before .before .before .before .send-chunk3 .ensures .0) (c .before .before .log-end .ensures .0 _))), omega (arith, c .before .before .before .before .before .before .before .before .before .before .before .before .before .before .before .before .before .before .before .before .before .before .send-chunk .ensures .1, c .before .before .before .before .before .before .before .before .before .before .before .before .before .before .before .before .before .before .before .before .before .before .send-chunk .kept, c .before .before .before .before .before .before .before .before .before .before .before .before .before .before .send-chunk2 .ensures .1, c .before .before .before .before .before .before .before .before .before .before .before .before .before .before .send-chunk2 .kept, c .before .before .before .before .before .before .send-chunk3 .ensures .1, c .before .before .before .before .before .before .send-chunk3 .kept, c .before .before .log-end .ensures .1, c .before .before .log-end .kept, c .before .before .before .before .before .before .before .before .before .before .before .before .before .before .before .before .before .before .before .before .before .before .before .before .before .before .before .before .pre))
 
 pub first-chunks-spec : {M : Type 1} → statement M
 first-chunks-spec =

@@ -1,8 +1,9 @@
 -- `chip::last_chunks` meets its contract. Its steps one after the other, each looked at. Assumes nothing.
 use mathlib.Core.Path.{refl, ap}
 use native.Mathlib.Omega.{arith}
-use Rattle.chip.specs.Steps.{every, goes, inRoom}
-use Rattle.chip.proofs.Laws.{cut-here, ended-here, went-on}
+use Rattle.chip.specs.InCode.{inRoom}
+use Rattle.chip.specs.Steps.{every, goes}
+use Rattle.chip.proofs.Laws.{cut-here, ended-here, progress-on}
 use borrow.Author.Needs.{needs}
 use Rattle.chip.proofs.last_chunks.Statement.{statement}
 use Rattle.chip.proofs.last_chunks.Tie as tie
@@ -36,7 +37,7 @@ same-length-2 : tie.Need-same-length-2
 same-length-2 c = search needs
 
 returns-2 : tie.Need-returns-2
-returns-2 c = (went-on inRoom _ _ _ _ _ _ (c .before .before .before .before .before .before .before .before .before .before .before .before .before .before .send-chunk .ensures .0) (ended-here inRoom _ _ _ _ _ (c .before .before .before .before .before .before .send-chunk2 .ensures .0) (c .before .before .log-end .ensures .0 _)), omega (arith, c .before .before .before .before .before .before .before .before .before .before .before .before .before .before .send-chunk .ensures .1, c .before .before .before .before .before .before .before .before .before .before .before .before .before .before .send-chunk .kept, c .before .before .before .before .before .before .send-chunk2 .ensures .1, c .before .before .before .before .before .before .send-chunk2 .kept, c .before .before .log-end .ensures .1, c .before .before .log-end .kept, c .before .before .before .before .before .before .before .before .before .before .before .before .before .before .before .before .before .before .before .before .pre))
+returns-2 c = (progress-on inRoom _ _ _ _ _ _ (c .before .before .before .before .before .before .before .before .before .before .before .before .before .before .send-chunk .ensures .0) (ended-here inRoom _ _ _ _ _ (c .before .before .before .before .before .before .send-chunk2 .ensures .0) (c .before .before .log-end .ensures .0 _)), omega (arith, c .before .before .before .before .before .before .before .before .before .before .before .before .before .before .send-chunk .ensures .1, c .before .before .before .before .before .before .before .before .before .before .before .before .before .before .send-chunk .kept, c .before .before .before .before .before .before .send-chunk2 .ensures .1, c .before .before .before .before .before .before .send-chunk2 .kept, c .before .before .log-end .ensures .1, c .before .before .log-end .kept, c .before .before .before .before .before .before .before .before .before .before .before .before .before .before .before .before .before .before .before .before .pre))
 
 pub last-chunks-spec : {M : Type 1} → statement M
 last-chunks-spec =

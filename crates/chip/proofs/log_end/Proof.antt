@@ -1,6 +1,7 @@
 -- `chip::log_end` meets its contract: a closing where a step failed, and nothing where none did. Assumes nothing.
 use mathlib.Core.Path.{sym, ap, _∙_}
-use Rattle.chip.specs.Steps.{goes, inRoom}
+use Rattle.chip.specs.InCode.{inRoom}
+use Rattle.chip.specs.Steps.{goes}
 use Rattle.chip.proofs.Laws.{closing-going, closing-stopped}
 use borrow.Author.Needs.{needs}
 use Rattle.chip.proofs.log_end.Statement.{statement}

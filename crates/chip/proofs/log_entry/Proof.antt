@@ -4,8 +4,8 @@ use borrow.Author.Needs.{needs}
 use Rattle.chip.proofs.log_entry.Statement.{statement}
 use Rattle.chip.proofs.log_entry.Tie as tie
 
-settle-requires : tie.Need-settle-requires
-settle-requires c κs = search needs
+with-outcome-requires : tie.Need-with-outcome-requires
+with-outcome-requires c κs = search needs
 
 mul-put : tie.Need-mul-put
 mul-put c = search needs
@@ -16,16 +16,16 @@ put-requires c κs = search needs
 add-t13 : tie.Need-add-t13
 add-t13 c = search needs
 
-looked-requires : tie.Need-looked-requires
-looked-requires c κs = search needs
+with-try-requires : tie.Need-with-try-requires
+with-try-requires c κs = search needs
 
 same-length : tie.Need-same-length
 same-length c = search needs
 
 returns : tie.Need-returns
-returns c = (λ chip. laid chip _ _ _ _ _ _ _ _ _ (c .before .before .before .before .before .settle .ensures) (c .before .before .before .put .ensures) (c .looked .ensures), search needs)
+returns c = (λ chip. laid chip _ _ _ _ _ _ _ _ _ (c .before .before .before .before .before .with-outcome .ensures) (c .before .before .before .put .ensures) (c .with-try .ensures), search needs)
 
 pub log-entry-spec : {M : Type 1} → statement M
 log-entry-spec =
     tie.close
-    (tie.spec settle-requires mul-put put-requires add-t13 looked-requires same-length returns)
+    (tie.spec with-outcome-requires mul-put put-requires add-t13 with-try-requires same-length returns)

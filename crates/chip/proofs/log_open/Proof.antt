@@ -3,9 +3,10 @@ use native.Mathlib.Omega.{arith}
 use lib.Dec.{eqb}
 use lib.ListN.{getD}
 use denote.Ref.{now}
-use Rattle.chip.proofs.Laws.{due-one, idle, made}
+use Rattle.chip.proofs.Laws.{owed-one, idle, made}
 use mathlib.Core.Path.{refl, ap, _∙_}
-use Rattle.chip.specs.Steps.{goes, inRoom}
+use Rattle.chip.specs.InCode.{inRoom}
+use Rattle.chip.specs.Steps.{goes}
 use Rattle.chip.specs.Steps.Step.{Open}
 use borrow.Author.Needs.{needs}
 use Rattle.chip.proofs.log_open.Statement.{statement}
@@ -18,13 +19,13 @@ enum-told-2 : tie.Need-enum-told-2
 enum-told-2 c = search needs
 
 returns : tie.Need-returns
-returns c = (λ chip. idle inRoom _ Open _ (ap goes (c .enum-told2 .given .1)), omega (arith, due-one (c .before .before .before .before .args .l .held)))
+returns c = (λ chip. idle inRoom _ Open _ (ap goes (c .enum-told2 .given .1)), omega (arith, owed-one (c .before .before .before .before .args .l .opened)))
 
 shared-slice-read-ok : tie.Need-shared-slice-read-ok
 shared-slice-read-ok c = search needs
 
-told-requires : tie.Need-told-requires
-told-requires c κs = search needs
+progress-after-requires : tie.Need-progress-after-requires
+progress-after-requires c κs = search needs
 
 log-entry-requires : tie.Need-log-entry-requires
 log-entry-requires c κs = search needs
@@ -33,7 +34,7 @@ same-length : tie.Need-same-length
 same-length c = search needs
 
 returns-2 : tie.Need-returns-2
-returns-2 c = (λ chip. c .before .before .log-entry .ensures .0 chip ∙ made inRoom _ Open _ _ _ refl (c .before .before .before .before .told .ensures) (ap goes (c .before .before .before .before .before .before .enum-told .given .1)), omega (arith, c .before .before .log-entry .ensures .1, due-one (eqb (getD (now (c .before .before .before .before .before .before .before .before .before .before .args .outcomes)) (c .before .before .before .before .before .before .before .before .before .before .args .l .count) 0) 0)))
+returns-2 c = (λ chip. c .before .before .log-entry .ensures .0 chip ∙ made inRoom _ Open _ _ _ refl (c .before .before .before .before .progress-after .ensures) (ap goes (c .before .before .before .before .before .before .enum-told .given .1)), omega (arith, c .before .before .log-entry .ensures .1, owed-one (eqb (getD (now (c .before .before .before .before .before .before .before .before .before .before .args .outcomes)) (c .before .before .before .before .before .before .before .before .before .before .args .l .count) 0) 0)))
 
 pub log-open-spec : {M : Type 1} → statement M
 log-open-spec =
@@ -43,7 +44,7 @@ log-open-spec =
     enum-told-2
     returns
     shared-slice-read-ok
-    told-requires
+    progress-after-requires
     log-entry-requires
     same-length
     returns-2)

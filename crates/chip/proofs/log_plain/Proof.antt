@@ -1,7 +1,8 @@
 -- `chip::log_plain` meets its contract. Each return is one law of the definition, with what the calls before it ensure. Assumes nothing.
 use Rattle.chip.proofs.Laws.{idle, made}
 use mathlib.Core.Path.{refl, ap, _∙_}
-use Rattle.chip.specs.Steps.{goes, inRoom}
+use Rattle.chip.specs.InCode.{inRoom}
+use Rattle.chip.specs.Steps.{goes}
 use Rattle.chip.specs.Steps.Step.{Plain}
 use borrow.Author.Needs.{needs}
 use Rattle.chip.proofs.log_plain.Statement.{statement}
@@ -19,8 +20,8 @@ returns c = (λ chip. idle inRoom _ (Plain _) _ (ap goes (c .enum-told2 .given .
 shared-slice-read-ok : tie.Need-shared-slice-read-ok
 shared-slice-read-ok c = search needs
 
-told-requires : tie.Need-told-requires
-told-requires c κs = search needs
+progress-after-requires : tie.Need-progress-after-requires
+progress-after-requires c κs = search needs
 
 log-entry-requires : tie.Need-log-entry-requires
 log-entry-requires c κs = search needs
@@ -29,7 +30,7 @@ same-length : tie.Need-same-length
 same-length c = search needs
 
 returns-2 : tie.Need-returns-2
-returns-2 c = (λ chip. c .before .before .log-entry .ensures .0 chip ∙ made inRoom _ (Plain _) _ _ _ refl (c .before .before .before .before .told .ensures) (ap goes (c .before .before .before .before .before .before .before .enum-told .given .1)), search needs)
+returns-2 c = (λ chip. c .before .before .log-entry .ensures .0 chip ∙ made inRoom _ (Plain _) _ _ _ refl (c .before .before .before .before .progress-after .ensures) (ap goes (c .before .before .before .before .before .before .before .enum-told .given .1)), search needs)
 
 pub log-plain-spec : {M : Type 1} → statement M
 log-plain-spec =
@@ -39,7 +40,7 @@ log-plain-spec =
     enum-told-2
     returns
     shared-slice-read-ok
-    told-requires
+    progress-after-requires
     log-entry-requires
     same-length
     returns-2)

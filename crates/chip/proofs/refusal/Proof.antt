@@ -5,7 +5,7 @@ use Rattle.chip.proofs.refusal.Statement.{statement}
 use Rattle.chip.proofs.refusal.Tie as tie
 use Rattle.chip.proofs.refusal.Reads as reads
 use Rattle.chip.proofs.refusal.Lts as lts
-use Rattle.chip.proofs.lent.Reads as lent-reads
+use Rattle.chip.proofs.too_short.Reads as too-short-reads
 
 returns : tie.Need-returns
 returns c = rw (not-true (c .before .args .whole) (c .if1 .taken))
@@ -13,11 +13,11 @@ returns c = rw (not-true (c .before .args .whole) (c .if1 .taken))
 returns-2 : tie.Need-returns-2
 returns-2 c = rw (not-false (c .before .before .args .whole) (c .before .if1 .left), ne-eqb (c .before .before .args .argument) 0 (c .if2 .taken))
 
-lent-requires : tie.Need-lent-requires
-lent-requires c κs = search needs
+too-short-requires : tie.Need-too-short-requires
+too-short-requires c κs = search needs
 
 returns-3 : tie.Need-returns-3
-returns-3 c = rw (not-false (c .before .before .before .args .whole) (c .before .before .if1 .left), eq-eqb (c .before .before .before .args .argument) 0 (c .before .if2 .left)) (c .lent .ensures)
+returns-3 c = rw (not-false (c .before .before .before .args .whole) (c .before .before .if1 .left), eq-eqb (c .before .before .before .args .argument) 0 (c .before .if2 .left)) (c .too-short .ensures)
 
 pub refusal-spec : {M : Type 1} → statement M
-refusal-spec = tie.close (tie.spec returns returns-2 lent-requires returns-3)
+refusal-spec = tie.close (tie.spec returns returns-2 too-short-requires returns-3)

@@ -1,6 +1,7 @@
 -- `chip::send` meets its contract. Each return is one law of the definition, with what the calls before it ensure. Assumes nothing.
 use mathlib.Core.Path.{ap, _∙_}
-use Rattle.chip.specs.Steps.{goes, inRoom}
+use Rattle.chip.specs.InCode.{inRoom}
+use Rattle.chip.specs.Steps.{goes}
 use Rattle.chip.specs.Steps.Step.{Send}
 use Rattle.chip.proofs.Attempted.{stored}
 use Rattle.chip.proofs.Laws.{idle, made}
@@ -23,8 +24,8 @@ shared-slice-read-ok c = search needs
 attempt-requires : tie.Need-attempt-requires
 attempt-requires c κs = search needs
 
-told-requires : tie.Need-told-requires
-told-requires c κs = search needs
+progress-after-requires : tie.Need-progress-after-requires
+progress-after-requires c κs = search needs
 
 log-entry-requires : tie.Need-log-entry-requires
 log-entry-requires c κs = search needs
@@ -33,7 +34,7 @@ same-length : tie.Need-same-length
 same-length c = search needs
 
 returns-2 : tie.Need-returns-2
-returns-2 c = (c .before .before .log-entry .ensures .0 _ ∙ made inRoom _ (Send _ _) _ _ _ (stored _ _ _ _ _ _ _ _ (c .before .before .before .before .before .attempt .ensures .0) (c .before .before .before .before .before .attempt .ensures .1)) (c .before .before .before .before .told .ensures) (ap goes (c .before .before .before .before .before .before .before .before .before .enum-told .given .1)), search needs)
+returns-2 c = (c .before .before .log-entry .ensures .0 _ ∙ made inRoom _ (Send _ _) _ _ _ (stored _ _ _ _ _ _ _ _ (c .before .before .before .before .before .attempt .ensures .0) (c .before .before .before .before .before .attempt .ensures .1)) (c .before .before .before .before .progress-after .ensures) (ap goes (c .before .before .before .before .before .before .before .before .before .enum-told .given .1)), search needs)
 
 pub send-spec : {M : Type 1} → statement M
 send-spec =
@@ -44,7 +45,7 @@ send-spec =
     returns
     shared-slice-read-ok
     attempt-requires
-    told-requires
+    progress-after-requires
     log-entry-requires
     same-length
     returns-2)

@@ -5,7 +5,7 @@ use native.Mathlib.Omega.{arith}
 use Prim.Native.Nat.{ℕ, _+_, _≤_}
 use mathlib.Core.List.{List}
 use lib.ListN.{getD}
-use Rattle.chip.specs.Steps.{inRoom}
+use Rattle.chip.specs.InCode.{inRoom}
 use Rattle.chip.proofs.Chunks.{some, seven, inside, first-register}
 use borrow.Author.Needs.{needs}
 use Rattle.chip.proofs.send_chunk.Statement.{statement}

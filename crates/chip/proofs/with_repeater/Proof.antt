@@ -1,7 +1,8 @@
 -- `chip::with_repeater` meets its contract: an opening, the updates and a closing, over the chip's lists. Assumes nothing.
 use mathlib.Core.Path.{ap, _∙_}
 use native.Mathlib.Omega.{arith}
-use Rattle.chip.specs.Steps.{goes, inRoom, meantOf, updates, updateStep}
+use Rattle.chip.specs.InCode.{inRoom, meantOf}
+use Rattle.chip.specs.Steps.{goes, updates, updateStep}
 use Rattle.chip.proofs.Laws.{bracketed, unopened}
 use Rattle.chip.proofs.Lists.{every-inner, inner-update}
 use borrow.Author.Needs.{needs}

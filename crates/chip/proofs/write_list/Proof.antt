@@ -6,14 +6,15 @@ use Prim.Native.Nat.{_≤_, _+_, _-_}
 use mathlib.Core.Bool.{true}
 use lib.ListN.{length, length-map, take, drop}
 use Rattle.chip.specs.Chips.{chipOf}
-use Rattle.chip.specs.Steps.{due, goes, inRange, inRoom, meantOf, onLog, run, updates, updateStep}
+use Rattle.chip.specs.InCode.{inRoom, meantOf, onLog}
+use Rattle.chip.specs.Steps.{closingOwed, goes, inRange, run, updates, updateStep}
 use Rattle.chip.proofs.Lists.{every-take, every-inner, inner-update, turn, end}
 use borrow.Author.Needs.{needs}
 use Rattle.chip.proofs.write_list.Statement.{statement}
 use Rattle.chip.proofs.write_list.Tie as tie
 
 abbrev Inv-loop : tie.InvT-loop
-Inv-loop address shadow₀ doubtful₀ outcomes room₀ list n l₀ i₀ shadow doubtful room l i = (i ≤ n) × ((length room ≡ length room₀) × ((length list ≡ 16) × ((l .count + due (l .held) ≤ l₀ .count + i + due (l₀ .held)) × ((goes (l .went) ≡ true) × (run inRoom outcomes (updates (drop i (take n list))) (onLog (chipOf address shadow doubtful) l room) ≡ run inRoom outcomes (updates (take n list)) (onLog (chipOf address shadow₀ doubtful₀) l₀ room₀))))))
+Inv-loop address shadow₀ doubtful₀ outcomes room₀ list n l₀ i₀ shadow doubtful room l i = (i ≤ n) × ((length room ≡ length room₀) × ((length list ≡ 16) × ((l .count + closingOwed (l .opened) ≤ l₀ .count + i + closingOwed (l₀ .opened)) × ((goes (l .progress) ≡ true) × (run inRoom outcomes (updates (drop i (take n list))) (onLog (chipOf address shadow doubtful) l room) ≡ run inRoom outcomes (updates (take n list)) (onLog (chipOf address shadow₀ doubtful₀) l₀ room₀))))))
 
 abbrev μ-loop : tie.MeasureT-loop
 μ-loop address shadow₀ doubtful₀ outcomes room₀ list n l₀ i₀ shadow doubtful room l i = n - i

@@ -1,6 +1,6 @@
 -- `chip::write_one` meets its contract: the write, and the end of a part. Assumes nothing.
 use native.Mathlib.Omega.{arith}
-use Rattle.chip.specs.Steps.{inRoom}
+use Rattle.chip.specs.InCode.{inRoom}
 use Rattle.chip.proofs.Laws.{ended-here}
 use borrow.Author.Needs.{needs}
 use Rattle.chip.proofs.write_one.Statement.{statement}

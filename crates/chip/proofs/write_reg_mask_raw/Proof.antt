@@ -4,7 +4,8 @@ use Rattle.chip.proofs.Lists.{low, high}
 use mathlib.Core.Path.{refl, ap, _∙_}
 use native.Mathlib.Omega.{arith}
 use Prim.Native.Nat.{_≤_}
-use Rattle.chip.specs.Steps.{goes, inRoom}
+use Rattle.chip.specs.InCode.{inRoom}
+use Rattle.chip.specs.Steps.{goes}
 use Rattle.chip.specs.Steps.Step.{Mask}
 use borrow.Author.Needs.{needs}
 use Rattle.chip.proofs.write_reg_mask_raw.Statement.{statement}
@@ -40,8 +41,8 @@ element-write-shadow c = let l : 5 ≤ c .before .before .before .before .before
 element-write-doubtful : tie.Need-element-write-doubtful
 element-write-doubtful c = let l : 5 ≤ c .before .before .before .before .before .before .before .before .args .u .register = low (c .before .before .before .before .before .before .before .before .args .u) (c .before .before .before .before .before .before .before .before .pre .0) in let h : c .before .before .before .before .before .before .before .before .args .u .register ≤ 31 = high (c .before .before .before .before .before .before .before .before .args .u) (c .before .before .before .before .before .before .before .before .pre .0) in omega arith
 
-told-requires : tie.Need-told-requires
-told-requires c κs = search needs
+progress-after-requires : tie.Need-progress-after-requires
+progress-after-requires c κs = search needs
 
 log-entry-requires : tie.Need-log-entry-requires
 log-entry-requires c κs = search needs
@@ -50,7 +51,7 @@ same-length : tie.Need-same-length
 same-length c = search needs
 
 returns-2 : tie.Need-returns-2
-returns-2 c = (c .before .before .log-entry .ensures .0 _ ∙ made-mask inRoom _ _ _ _ _ _ _ _ (c .before .before .before .before .before .mask-into .ensures) refl (c .before .before .before .before .told .ensures) (ap goes (c .before .before .before .before .before .before .before .before .before .enum-told .given .1)), search needs)
+returns-2 c = (c .before .before .log-entry .ensures .0 _ ∙ made-mask inRoom _ _ _ _ _ _ _ _ (c .before .before .before .before .before .mask-into .ensures) refl (c .before .before .before .before .progress-after .ensures) (ap goes (c .before .before .before .before .before .before .before .before .before .enum-told .given .1)), search needs)
 
 pub write-reg-mask-raw-spec : {M : Type 1} → statement M
-write-reg-mask-raw-spec = tie.close (tie.spec enum-told enum-told-2 returns shared-slice-read-ok sub-index cast-index element-copy-out-mask-into mask-into-requires element-write-shadow element-write-doubtful told-requires log-entry-requires same-length returns-2)
+write-reg-mask-raw-spec = tie.close (tie.spec enum-told enum-told-2 returns shared-slice-read-ok sub-index cast-index element-copy-out-mask-into mask-into-requires element-write-shadow element-write-doubtful progress-after-requires log-entry-requires same-length returns-2)

@@ -1,8 +1,9 @@
 -- `chip::write_two` meets its contract: the first write, looked at, and the second. Assumes nothing.
 use mathlib.Core.Path.{refl, ap}
 use native.Mathlib.Omega.{arith}
-use Rattle.chip.specs.Steps.{every, goes, inRoom}
-use Rattle.chip.proofs.Laws.{cut-here, went-on}
+use Rattle.chip.specs.InCode.{inRoom}
+use Rattle.chip.specs.Steps.{every, goes}
+use Rattle.chip.proofs.Laws.{cut-here, progress-on}
 use borrow.Author.Needs.{needs}
 use Rattle.chip.proofs.write_two.Statement.{statement}
 use Rattle.chip.proofs.write_two.Tie as tie
@@ -33,7 +34,7 @@ same-length-2 : tie.Need-same-length-2
 same-length-2 c = search needs
 
 returns-2 : tie.Need-returns-2
-returns-2 c = (went-on inRoom _ _ _ _ _ _ (c .before .before .before .before .before .before .before .before .before .before .write-reg-mask-raw .ensures .0) (c .before .before .write-one .ensures .0), omega (arith, c .before .before .before .before .before .before .before .before .before .before .write-reg-mask-raw .ensures .1, c .before .before .write-one .ensures .1))
+returns-2 c = (progress-on inRoom _ _ _ _ _ _ (c .before .before .before .before .before .before .before .before .before .before .write-reg-mask-raw .ensures .0) (c .before .before .write-one .ensures .0), omega (arith, c .before .before .before .before .before .before .before .before .before .before .write-reg-mask-raw .ensures .1, c .before .before .write-one .ensures .1))
 
 pub write-two-spec : {M : Type 1} → statement M
 write-two-spec =

@@ -5,19 +5,19 @@ use Rattle.commands.proofs.pending.Statement.{statement}
 use Rattle.commands.proofs.pending.Tie as tie
 use Rattle.commands.proofs.pending.Reads as reads
 use Rattle.commands.proofs.pending.Lts as lts
-use Rattle.stream.proofs.held_in.Reads as held-in-reads
+use Rattle.stream.proofs.pending_count.Reads as pending-count-reads
 
 -- src/lib.rt:270:9
-held-in-requires : tie.Need-held-in-requires
-held-in-requires c κs = search needs
+pending-count-requires : tie.Need-pending-count-requires
+pending-count-requires c κs = search needs
 
 -- src/lib.rt:272:9
 returns : tie.Need-returns
-returns c = none-pending (now (c .before .before .before .args .stream)) _ (c .before .held-in .ensures) (c .if1 .taken)
+returns c = none-pending (now (c .before .before .before .args .stream)) _ (c .before .pending-count .ensures) (c .if1 .taken)
 
 -- src/lib.rt:267:1
 returns-2 : tie.Need-returns-2
-returns-2 c = some-pending (now (c .before .before .before .args .stream)) _ (c .before .held-in .ensures) (c .if1 .left)
+returns-2 c = some-pending (now (c .before .before .before .args .stream)) _ (c .before .pending-count .ensures) (c .if1 .left)
 
 pub pending-spec : {M : Type 1} → statement M
-pending-spec = tie.close (tie.spec held-in-requires returns returns-2)
+pending-spec = tie.close (tie.spec pending-count-requires returns returns-2)

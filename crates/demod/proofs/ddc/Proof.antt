@@ -1,6 +1,7 @@
 -- `demod::ddc` meets its contract. Assumes nothing.
 use mathlib.Core.Path.{ap}
-use Rattle.chip.specs.Steps.{inRoom, run}
+use Rattle.chip.specs.InCode.{inRoom}
+use Rattle.chip.specs.Steps.{run}
 use Rattle.device.specs.Accesses.{accessStep, demodWrite}
 use Rattle.demod.specs.Programs.{ddcSteps}
 use Rattle.chip.proofs.Laws.{by-entry}

@@ -9,28 +9,28 @@ use borrow.Author.Needs.{needs}
 use Rattle.demod.proofs.init_baseband.Statement.{statement}
 use Rattle.demod.proofs.init_baseband.Tie as tie
 
-lent-requires : tie.Need-lent-requires
-lent-requires c κs = search needs
+too-short-requires : tie.Need-too-short-requires
+too-short-requires c κs = search needs
 
 refused-requires : tie.Need-refused-requires
 refused-requires c κs = search needs
 
 returns : tie.Need-returns
 unfolding freeResult leftBy
-returns c = c .refused .ensures _ ∙ refuses _ _ _ _ _ (c .before .before .lent .ensures) (c .before .if1 .taken)
+returns c = c .refused .ensures _ ∙ refuses _ _ _ _ _ (c .before .before .too-short .ensures) (c .before .if1 .taken)
 
 init-steps-requires : tie.Need-init-steps-requires
-init-steps-requires c κs = (omega (arith, suffices _ _ _ _ _ _ (c .before .before .lent .ensures) (c .before .if1 .left)), omega (arith, suffices _ _ _ _ _ _ (c .before .before .lent .ensures) (c .before .if1 .left)))
+init-steps-requires c κs = (omega (arith, suffices _ _ _ _ _ _ (c .before .before .too-short .ensures) (c .before .if1 .left)), omega (arith, suffices _ _ _ _ _ _ (c .before .before .too-short .ensures) (c .before .if1 .left)))
 
 finish-requires : tie.Need-finish-requires
-finish-requires c κs = (search needs, omega (arith, c .before .before .before .init-steps .ensures .1, suffices _ _ _ _ _ _ (c .before .before .before .before .before .before .lent .ensures) (c .before .before .before .before .before .if1 .left)))
+finish-requires c κs = (search needs, omega (arith, c .before .before .before .init-steps .ensures .1, suffices _ _ _ _ _ _ (c .before .before .before .before .before .before .too-short .ensures) (c .before .before .before .before .before .if1 .left)))
 
 same-length : tie.Need-same-length
 same-length c = search needs
 
 returns-2 : tie.Need-returns-2
 unfolding freeResult leftBy
-returns-2 c = performs _ _ _ _ (c .before .before .before .before .before .before .init-steps .result) _ _ _ (sym (c .before .before .before .before .before .before .before .before .before .lent .ensures) ∙ c .before .before .before .before .before .before .before .before .if1 .left) init-eight (c .before .before .before .before .before .before .init-steps .ensures .0) (c .before .before .finish .ensures .0) (c .before .before .finish .ensures .1)
+returns-2 c = performs _ _ _ _ (c .before .before .before .before .before .before .init-steps .result) _ _ _ (sym (c .before .before .before .before .before .before .before .before .before .too-short .ensures) ∙ c .before .before .before .before .before .before .before .before .if1 .left) init-eight (c .before .before .before .before .before .before .init-steps .ensures .0) (c .before .before .finish .ensures .0) (c .before .before .finish .ensures .1)
 
 pub init-baseband-spec : {M : Type 1} → statement M
-init-baseband-spec = tie.close (tie.spec lent-requires refused-requires returns init-steps-requires finish-requires same-length returns-2)
+init-baseband-spec = tie.close (tie.spec too-short-requires refused-requires returns init-steps-requires finish-requires same-length returns-2)

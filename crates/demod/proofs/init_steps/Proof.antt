@@ -1,6 +1,6 @@
 -- `demod::init_steps` meets its contract: its three parts. Assumes nothing.
 use native.Mathlib.Omega.{arith}
-use Rattle.chip.specs.Steps.{inRoom}
+use Rattle.chip.specs.InCode.{inRoom}
 use Rattle.device.specs.Accesses.{accessStep}
 use Rattle.demod.specs.Programs.{modeSteps}
 use Rattle.demod.proofs.Baseband.{in-three}

@@ -5,7 +5,8 @@ use Prim.Native.Nat.{_+_, _-_, _≤_}
 use mathlib.Core.Path.{_≡_, refl, ap, _∙_}
 use lib.ListN.{length, take, drop}
 use Rattle.chip.specs.declared.Chip.{Chip}
-use Rattle.chip.specs.Steps.{due, inRoom, onLog, run}
+use Rattle.chip.specs.InCode.{inRoom, onLog}
+use Rattle.chip.specs.Steps.{closingOwed, run}
 use Rattle.device.specs.Accesses.{accessStep}
 use Rattle.demod.specs.Programs.{upward}
 use Rattle.demod.proofs.Upward.{begin, turn, end}
@@ -16,7 +17,7 @@ use Rattle.demod.proofs.log_upward.Lts as lts
 use Rattle.device.proofs.log_access.Reads as log-access-reads
 
 abbrev Inv-loop : tie.InvT-loop
-Inv-loop register n outcomes room₀ bytes l₀ i₀ room l i = (i ≤ n) × ((length room ≡ length room₀) × ((length bytes ≡ 20) × ((l .count + due (l .held) ≤ l₀ .count + i + due (l₀ .held)) × ((chip : Chip) → run inRoom outcomes (upward (register + i) (drop i (take n bytes))) (onLog chip l room) ≡ run inRoom outcomes (upward register (take n bytes)) (onLog chip l₀ room₀)))))
+Inv-loop register n outcomes room₀ bytes l₀ i₀ room l i = (i ≤ n) × ((length room ≡ length room₀) × ((length bytes ≡ 20) × ((l .count + closingOwed (l .opened) ≤ l₀ .count + i + closingOwed (l₀ .opened)) × ((chip : Chip) → run inRoom outcomes (upward (register + i) (drop i (take n bytes))) (onLog chip l room) ≡ run inRoom outcomes (upward register (take n bytes)) (onLog chip l₀ room₀)))))
 
 abbrev μ-loop : tie.MeasureT-loop
 μ-loop register n outcomes room₀ bytes l₀ i₀ room l i = n - i

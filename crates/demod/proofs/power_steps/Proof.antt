@@ -1,7 +1,7 @@
 -- `demod::power_steps` meets its contract. Assumes nothing.
 use native.Mathlib.Omega.{arith}
 use lib.ListN.{replicate}
-use Rattle.chip.specs.Steps.{inRoom}
+use Rattle.chip.specs.InCode.{inRoom}
 use Rattle.device.specs.Accesses.{accessStep}
 use Rattle.demod.specs.Programs.{powerSteps, upward}
 use Rattle.chip.proofs.Laws.{then}

@@ -3,7 +3,8 @@ use Prim.Native.Nat.{ℕ, _/_, _%_, _^_}
 use mathlib.Core.Path.{ap, _∙_}
 use mathlib.Core.List.{[], _∷_}
 use Rattle.registers.specs.Rates.{sentOf}
-use Rattle.device.specs.Accesses.{access, ten}
+use Rattle.device.specs.InCode.{ten}
+use Rattle.device.specs.Accesses.{access}
 use borrow.Author.Needs.{needs}
 use Rattle.demod.proofs.rate_rows.Statement.{statement}
 use Rattle.demod.proofs.rate_rows.Tie as tie

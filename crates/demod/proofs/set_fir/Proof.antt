@@ -3,7 +3,7 @@ use Prim.Native.Nat.{ℕ}
 use mathlib.Core.Path.{ap}
 use mathlib.Core.List.{List}
 use lib.ListN.{take}
-use Rattle.chip.specs.Steps.{inRoom}
+use Rattle.chip.specs.InCode.{inRoom}
 use Rattle.fir.specs.Packing.{packOf}
 use Rattle.demod.specs.Programs.{firSteps, upward}
 use Rattle.chip.proofs.Laws.{by-program}

@@ -2,7 +2,8 @@
 use mathlib.Core.Path.{ap}
 use mathlib.Core.List.{[], _∷_}
 use Prim.Native.Nat.{ℕ}
-use Rattle.device.specs.Accesses.{access, ten}
+use Rattle.device.specs.InCode.{ten}
+use Rattle.device.specs.Accesses.{access}
 use borrow.Author.Needs.{needs}
 use Rattle.device.proofs.bit_rows.Statement.{statement}
 use Rattle.device.proofs.bit_rows.Tie as tie

@@ -1,5 +1,5 @@
 -- `device::gpio_bit` meets its contract. Assumes nothing.
-use Rattle.chip.specs.Steps.{inRoom}
+use Rattle.chip.specs.InCode.{inRoom}
 use Rattle.chip.proofs.Laws.{by-program}
 use Rattle.device.specs.Gpio.{bitSteps}
 use Rattle.device.proofs.Programs.{rows-meant}

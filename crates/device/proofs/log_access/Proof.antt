@@ -1,7 +1,7 @@
 -- `device::log_access` meets its contract: the plain step of the access's entry. Assumes nothing.
 use Rattle.chip.proofs.Laws.{by-entry}
 use borrow.Author.Needs.{needs}
-use Rattle.chip.specs.Steps.{inRoom}
+use Rattle.chip.specs.InCode.{inRoom}
 use Rattle.device.specs.Accesses.{accessStep}
 use Rattle.device.proofs.log_access.Statement.{statement}
 use Rattle.device.proofs.log_access.Tie as tie

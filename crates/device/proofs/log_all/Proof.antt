@@ -7,7 +7,8 @@ use Prim.Native.Nat.{_≤_, _+_, _-_}
 use mathlib.Core.List.{map}
 use lib.ListN.{length, take, drop}
 use Rattle.chip.specs.declared.Chip.{Chip}
-use Rattle.chip.specs.Steps.{due, inRoom, onLog, run}
+use Rattle.chip.specs.InCode.{inRoom, onLog}
+use Rattle.chip.specs.Steps.{closingOwed, run}
 use Rattle.chip.proofs.Lists.{turn, end}
 use Rattle.device.specs.Accesses.{accessStep}
 use Rattle.device.proofs.log_all.Statement.{statement}
@@ -17,7 +18,7 @@ use Rattle.device.proofs.log_all.Lts as lts
 use Rattle.device.proofs.log_access.Reads as log-access-reads
 
 abbrev Inv-loop : tie.InvT-loop
-Inv-loop n outcomes room₀ rows l₀ i₀ room l i = (i ≤ n) × ((length room ≡ length room₀) × ((length rows ≡ 10) × ((l .count + due (l .held) ≤ l₀ .count + i + due (l₀ .held)) × ((chip : Chip) → run inRoom outcomes (map accessStep (drop i (take n rows))) (onLog chip l room) ≡ run inRoom outcomes (map accessStep (take n rows)) (onLog chip l₀ room₀)))))
+Inv-loop n outcomes room₀ rows l₀ i₀ room l i = (i ≤ n) × ((length room ≡ length room₀) × ((length rows ≡ 10) × ((l .count + closingOwed (l .opened) ≤ l₀ .count + i + closingOwed (l₀ .opened)) × ((chip : Chip) → run inRoom outcomes (map accessStep (drop i (take n rows))) (onLog chip l room) ≡ run inRoom outcomes (map accessStep (take n rows)) (onLog chip l₀ room₀)))))
 
 abbrev μ-loop : tie.MeasureT-loop
 μ-loop n outcomes room₀ rows l₀ i₀ room l i = n - i

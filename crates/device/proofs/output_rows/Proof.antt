@@ -1,6 +1,7 @@
 -- `device::output_rows` meets its contract. Assumes nothing.
 use mathlib.Core.List.{[], _∷_}
-use Rattle.device.specs.Accesses.{access, ten}
+use Rattle.device.specs.InCode.{ten}
+use Rattle.device.specs.Accesses.{access}
 use borrow.Author.Needs.{needs}
 use Rattle.device.proofs.output_rows.Statement.{statement}
 use Rattle.device.proofs.output_rows.Tie as tie

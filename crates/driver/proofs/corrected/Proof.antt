@@ -52,15 +52,15 @@ use Rattle.r82xx.proofs.Lent.{lies-in, lies-out}
 use Rattle.r82xx.proofs.Tuner as T
 use Rattle.r82xx.proofs.Tuner.Laws as T′
 use Rattle.driver.specs.declared.Driver.{Driver}
-use Rattle.driver.specs.declared.Told.{Told}
+use Rattle.driver.specs.declared.CorrectionResult.{CorrectionResult}
 use Rattle.driver.specs.Calls.{both, correctionCall}
 use Rattle.driver.proofs.Corrections.{correction-alone, correction-quiet}
 use Rattle.driver.proofs.Lent as driver
 use Rattle.driver.proofs.Lent.{Signed}
 use Rattle.driver.proofs.Driver as D
 use Rattle.driver.proofs.Driver.Laws as D′
-use Rattle.driver.proofs.Told as R
-use Rattle.driver.proofs.Told.Laws as R′
+use Rattle.driver.proofs.CorrectionResult as R
+use Rattle.driver.proofs.CorrectionResult.Laws as R′
 use Rattle.driver.proofs.set_ppm as set
 use Rattle.driver.proofs.set_ppm.Symbol as set-def
 use Rattle.driver.proofs.set_ppm.Symbol.{name as #driver·set-ppm}
@@ -77,7 +77,7 @@ abbrev driver-val : Driver → Val
 driver-val d = LL.val D.the-type D′.the-laws d
 
 -- what is handed back, and its machine value
-abbrev told : Tuner → Driver → Answer → Told
+abbrev told : Tuner → Driver → Answer → CorrectionResult
 told t d r = record { tuner = t; driver = d; answer = r }
 
 abbrev whole : Tuner → Driver → Answer → Val

@@ -2,7 +2,7 @@
 use mathlib.Core.Path.{_∙_}
 use native.Mathlib.Omega.{arith}
 use mir.Facts.{toZ-ofZ}
-use Rattle.driver.specs.Calls.{correctionRefusal}
+use Rattle.driver.specs.InCode.{correctionRefusal}
 use Rattle.driver.proofs.Corrections.{answers-no, answers-yes}
 use borrow.Author.Needs.{needs}
 use Rattle.driver.proofs.correction_answer.Statement.{statement}

@@ -1,6 +1,7 @@
 -- `driver::filter_steps` meets its contract: two brackets, over the chip's lists. Assumes nothing.
 use native.Mathlib.Omega.{arith}
-use Rattle.chip.specs.Steps.{behind, inRoom, updates}
+use Rattle.chip.specs.InCode.{inRoom}
+use Rattle.chip.specs.Steps.{whileOpen, updates}
 use Rattle.writes.specs.Lists.{bandwidthUpdates, ifUpdates}
 use Rattle.chip.proofs.Laws.{then}
 use borrow.Author.Needs.{needs}
@@ -18,7 +19,7 @@ same-length c = search needs
 
 -- antt refused `returns` as it was built: the module's report says why
 returns : tie.Need-returns
-returns c = let args = c .before .before .before .before .before .before .before .before .before .before .before .before .before .before .before .before .before .args in (then inRoom _ (behind (updates (ifUpdates (args .hz)))) (behind (updates (bandwidthUpdates (args .rate)))) _ _ _ (c .before .before .before .before .before .before .before .before .set-if-bandwidth .ensures .0) (c .before .before .set-bandwidth .ensures .0), omega (arith, c .before .before .before .before .before .before .before .before .set-if-bandwidth .ensures .1, c .before .before .set-bandwidth .ensures .1))
+returns c = let args = c .before .before .before .before .before .before .before .before .before .before .before .before .before .before .before .before .before .args in (then inRoom _ (whileOpen (updates (ifUpdates (args .hz)))) (whileOpen (updates (bandwidthUpdates (args .rate)))) _ _ _ (c .before .before .before .before .before .before .before .before .set-if-bandwidth .ensures .0) (c .before .before .set-bandwidth .ensures .0), omega (arith, c .before .before .before .before .before .before .before .before .set-if-bandwidth .ensures .1, c .before .before .set-bandwidth .ensures .1))
 
 -- antt refused `filter-steps-spec` as it was built: the module's report says why
 pub filter-steps-spec : {M : Type 1} → statement M

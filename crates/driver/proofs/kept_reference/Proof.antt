@@ -3,7 +3,7 @@ use mathlib.Core.Path.{ap, _∙_}
 use native.Mathlib.Omega.{arith}
 use mir.Facts.{toZ-ofZ}
 use Rattle.driver.specs.Record.{xtalBy}
-use Rattle.driver.specs.Calls.{correctionRefusal}
+use Rattle.driver.specs.InCode.{correctionRefusal}
 use Rattle.driver.proofs.Corrections.{reference-changes, reference-stays}
 use borrow.Author.Needs.{needs}
 use Rattle.driver.proofs.kept_reference.Statement.{statement}

@@ -4,7 +4,7 @@ use mathlib.Core.Path.{ap}
 use mathlib.Core.List.{_++_}
 use lib.ListN.{getD}
 use denote.Ref.{now}
-use Rattle.chip.specs.Steps.{inRoom}
+use Rattle.chip.specs.InCode.{inRoom}
 use Rattle.device.specs.Gpio.{bitSteps, outputSteps}
 use Rattle.driver.specs.Programs.{levelFor, tunerPath}
 use Prim.Native.Nat.{ℕ}

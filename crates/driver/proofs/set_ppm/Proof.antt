@@ -54,7 +54,7 @@ use Rattle.r82xx.proofs.Tuner as T
 use Rattle.r82xx.proofs.Tuner.Laws as T′
 use Rattle.driver.specs.declared.Driver.{Driver}
 use Rattle.driver.specs.Record.{withPpm}
-use Rattle.driver.specs.Calls.{correctionAnswer, keptPpm, keptReference}
+use Rattle.driver.specs.InCode.{correctionAnswer, keptPpm, keptReference}
 use Rattle.driver.proofs.Corrections.{correction-left}
 use Rattle.driver.proofs.Lent as driver
 use Rattle.driver.proofs.Lent.{Signed}

@@ -1,6 +1,6 @@
 -- `driver::tuner_path` meets its contract: nothing on R820T, a bracket on R828D. Assumes nothing.
 use native.Mathlib.Omega.{arith}
-use Rattle.chip.specs.Steps.{inRoom}
+use Rattle.chip.specs.InCode.{inRoom}
 use Rattle.driver.proofs.Paths.{own-path, still}
 use Rattle.chip.proofs.Laws.{by-program}
 use Rattle.writes.proofs.Lists.{path-meant, path-meant-in, path-meant-two}

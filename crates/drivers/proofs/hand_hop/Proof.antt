@@ -1,16 +1,16 @@
 -- `drivers::hand_hop` meets its contract: both next records, and a tuning's reply. Assumes nothing.
 use mathlib.Core.Path.{ap, _∙_}
-use Rattle.chip.specs.Entries.{saw}
-use Rattle.replies.specs.declared.Reply.{Reply}
-use Rattle.replies.specs.Replies.{tunedOf}
+use Rattle.chip.specs.Entries.{lockTries}
+use Rattle.reply.specs.declared.Reply.{Reply}
+use Rattle.reply.specs.Replies.{tunedOf}
 use borrow.Author.Needs.{needs}
 use Rattle.drivers.proofs.hand_hop.Statement.{statement}
 use Rattle.drivers.proofs.hand_hop.Tie as tie
 use Rattle.drivers.proofs.hand_hop.Reads as reads
 use Rattle.drivers.proofs.hand_hop.Lts as lts
 use Rattle.drivers.proofs.store.Reads as store-reads
-use Rattle.replies.proofs.numbers.Reads as numbers-reads
-use Rattle.replies.proofs.tuned.Reads as tuned-reads
+use Rattle.reply.proofs.numbers.Reads as numbers-reads
+use Rattle.reply.proofs.tuned.Reads as tuned-reads
 use Rattle.tuners.proofs.store.Reads as store-reads′
 
 store-requires : tie.Need-store-requires
@@ -34,7 +34,7 @@ same-length-2 c = search needs
 returns : tie.Need-returns
 returns c =
     let a = c .before .before .before .before .before .before .before .before .before .before .before .before .args in
-    (c .tuned .ensures ∙ ap (λ (x : Reply). tunedOf x (saw (a .hopped .tries) (a .hopped .locked))) (c .before .numbers .ensures), c .before .before .before .before .before .before .before .before .store .ensures, c .before .before .before .before .store2 .ensures)
+    (c .tuned .ensures ∙ ap (λ (x : Reply). tunedOf x (lockTries (a .hopped .tries) (a .hopped .locked))) (c .before .numbers .ensures), c .before .before .before .before .before .before .before .before .store .ensures, c .before .before .before .before .store2 .ensures)
 
 pub hand-hop-spec : {M : Type 1} → statement M
 hand-hop-spec =

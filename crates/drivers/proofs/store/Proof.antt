@@ -11,8 +11,8 @@ use borrow.Author.Needs.{needs}
 use Rattle.drivers.proofs.store.Statement.{statement}
 use Rattle.drivers.proofs.store.Tie as tie
 
-kept-requires : tie.Need-kept-requires
-kept-requires c κs = search needs
+is-written-requires : tie.Need-is-written-requires
+is-written-requires c κs = search needs
 
 driver-image-requires : tie.Need-driver-image-requires
 driver-image-requires c κs = search needs
@@ -27,16 +27,16 @@ same-length : tie.Need-same-length
 same-length c = search needs
 
 returns : tie.Need-returns
-returns c = c .before .before .copy .ensures ∙ ap (λ (x : List ℕ). sets (now (c .before .before .before .before .before .before .before .before .before .args .next)) 0 x) (c .before .before .before .before .before .driver-image .ensures) ∙ written driverBytes (c .before .before .before .before .before .before .before .before .before .args .answer) (c .before .before .before .before .before .before .before .before .before .args .count) (c .before .before .before .before .before .before .before .before .before .args .driver) (now (c .before .before .before .before .before .before .before .before .before .args .next)) (sym (c .before .before .before .before .before .before .before .kept .ensures) ∙ c .before .before .before .before .before .before .if1 .taken)
+returns c = c .before .before .copy .ensures ∙ ap (λ (x : List ℕ). sets (now (c .before .before .before .before .before .before .before .before .before .args .next)) 0 x) (c .before .before .before .before .before .driver-image .ensures) ∙ written driverBytes (c .before .before .before .before .before .before .before .before .before .args .answer) (c .before .before .before .before .before .before .before .before .before .args .count) (c .before .before .before .before .before .before .before .before .before .args .driver) (now (c .before .before .before .before .before .before .before .before .before .args .next)) (sym (c .before .before .before .before .before .before .before .is-written .ensures) ∙ c .before .before .before .before .before .before .if1 .taken)
 
 returns-2 : tie.Need-returns-2
-returns-2 c = left driverBytes (c .before .before .before .args .answer) (c .before .before .before .args .count) (c .before .before .before .args .driver) (now (c .before .before .before .args .next)) (sym (c .before .kept .ensures) ∙ c .if1 .left)
+returns-2 c = left driverBytes (c .before .before .before .args .answer) (c .before .before .before .args .count) (c .before .before .before .args .driver) (now (c .before .before .before .args .next)) (sym (c .before .is-written .ensures) ∙ c .if1 .left)
 
 pub store-spec : {M : Type 1} → statement M
 store-spec =
     tie.close
     (tie.spec
-    kept-requires
+    is-written-requires
     driver-image-requires
     slice-aggregate-copy
     copy-requires

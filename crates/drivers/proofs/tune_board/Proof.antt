@@ -4,7 +4,7 @@ use native.Mathlib.Omega.{arith}
 use denote.Ref.{now}
 use Rattle.bands.specs.declared.Planned.{Planned}
 use Rattle.bands.specs.Tables.{planBy}
-use Rattle.boards.specs.Hops.{hopRefusal, hopResult, hopSeen}
+use Rattle.boards.specs.Hops.{hopRefusal, hopResult, hopLockTries}
 use Rattle.drivers.specs.Drivers.{hopArgument}
 use Rattle.drivers.proofs.Passed.{fits, handed-back, hop-told, refused-by, told, untold}
 use borrow.Author.Needs.{needs}
@@ -19,7 +19,7 @@ use Rattle.drivers.proofs.hand_hop.Reads as hand-hop-reads
 use Rattle.drivers.proofs.ready.Reads as ready-reads
 use Rattle.records.proofs.decode_driver.Reads as decode-driver-reads
 use Rattle.records.proofs.decode_tuner.Reads as decode-tuner-reads
-use Rattle.replies.proofs.tuned.Reads as tuned-reads
+use Rattle.reply.proofs.tuned.Reads as tuned-reads
 use Rattle.tuners.proofs.refuse.Reads as refuse-reads
 
 decode-driver-requires : tie.Need-decode-driver-requires
@@ -48,7 +48,7 @@ returns c =
     let a = c .before .before .before .before .before .before .before .before .before .before .before .before .before .before .before .before .before .before .before .args in
     hop-told _ _ _ (now (a .room)) (now (a .left)) (now (a .next)) _ _ (c .tuned .ensures)
     (refused-by (hopArgument (now (a .table)) (a .hz)) (λ u v. hopResult (planBy (now (a .table)) (a .hz)) (a .hz) (now (a .replies)) (now (a .outcomes)) u v (now (a .room))) (now (a .driver)) (now (a .tuner)) (now (a .room)) (now (a .left)) (now (a .next)) (c .before .before .before .before .before .before .before .before .before .before .decode-driver .result) (c .before .before .before .before .before .before .before .before .before .decode-tuner .result) _ _ (c .before .before .before .before .before .before .before .before .before .before .decode-driver .ensures) (c .before .before .before .before .before .before .before .before .before .decode-tuner .ensures) (c .before .before .before .before .before .before .hop-refusal .ensures ∙ ap (λ (p : Planned). hopRefusal p (c .before .before .before .before .before .before .before .before .before .decode-tuner .result .tuner .ifreq)) (c .before .before .before .before .before .before .before .before .plan-by-table .ensures)) (c .before .before .before .ready .ensures) _ (λ z. omega arith) (c .before .refuse .ensures))
-    (untold (hopArgument (now (a .table)) (a .hz)) (λ u v. hopResult (planBy (now (a .table)) (a .hz)) (a .hz) (now (a .replies)) (now (a .outcomes)) u v (now (a .room))) (now (a .driver)) (now (a .tuner)) (now (a .room)) (now (a .left)) (now (a .next)) (c .before .before .before .before .before .before .before .before .before .before .decode-driver .result) (c .before .before .before .before .before .before .before .before .before .decode-tuner .result) _ _ (c .before .before .before .before .before .before .before .before .before .before .decode-driver .ensures) (c .before .before .before .before .before .before .before .before .before .decode-tuner .ensures) (c .before .before .before .before .before .before .hop-refusal .ensures ∙ ap (λ (p : Planned). hopRefusal p (c .before .before .before .before .before .before .before .before .before .decode-tuner .result .tuner .ifreq)) (c .before .before .before .before .before .before .before .before .plan-by-table .ensures)) (c .before .before .before .ready .ensures) (λ u v. hopSeen (planBy (now (a .table)) (a .hz)) (a .hz) (now (a .replies)) (now (a .outcomes)) u v (now (a .room))) (λ z. omega arith))
+    (untold (hopArgument (now (a .table)) (a .hz)) (λ u v. hopResult (planBy (now (a .table)) (a .hz)) (a .hz) (now (a .replies)) (now (a .outcomes)) u v (now (a .room))) (now (a .driver)) (now (a .tuner)) (now (a .room)) (now (a .left)) (now (a .next)) (c .before .before .before .before .before .before .before .before .before .before .decode-driver .result) (c .before .before .before .before .before .before .before .before .before .decode-tuner .result) _ _ (c .before .before .before .before .before .before .before .before .before .before .decode-driver .ensures) (c .before .before .before .before .before .before .before .before .before .decode-tuner .ensures) (c .before .before .before .before .before .before .hop-refusal .ensures ∙ ap (λ (p : Planned). hopRefusal p (c .before .before .before .before .before .before .before .before .before .decode-tuner .result .tuner .ifreq)) (c .before .before .before .before .before .before .before .before .plan-by-table .ensures)) (c .before .before .before .ready .ensures) (λ u v. hopLockTries (planBy (now (a .table)) (a .hz)) (a .hz) (now (a .replies)) (now (a .outcomes)) u v (now (a .room))) (λ z. omega arith))
 
 tune-planned-requires : tie.Need-tune-planned-requires
 tune-planned-requires c κs = search needs
@@ -72,7 +72,7 @@ returns-2 c =
     let back = c .before .before .before .before .hand-hop .ensures in
     hop-told _ _ _ _ _ _ _ _ (back .0)
     (handed-back (hopArgument (now (a .table)) (a .hz)) (λ u v. hopResult (planBy (now (a .table)) (a .hz)) (a .hz) (now (a .replies)) (now (a .outcomes)) u v (now (a .room))) (now (a .driver)) (now (a .tuner)) (now (a .room)) (now (a .left)) (now (a .next)) (c .before .before .before .before .before .before .before .before .before .before .before .before .before .before .before .before .before .before .before .decode-driver .result) (c .before .before .before .before .before .before .before .before .before .before .before .before .before .before .before .before .before .before .decode-tuner .result) _ _ (c .before .before .before .before .before .before .before .before .before .before .before .before .before .before .before .before .before .before .before .decode-driver .ensures) (c .before .before .before .before .before .before .before .before .before .before .before .before .before .before .before .before .before .before .decode-tuner .ensures) (c .before .before .before .before .before .before .before .before .before .before .before .before .before .before .before .hop-refusal .ensures ∙ ap (λ (p : Planned). hopRefusal p (c .before .before .before .before .before .before .before .before .before .before .before .before .before .before .before .before .before .before .decode-tuner .result .tuner .ifreq)) (c .before .before .before .before .before .before .before .before .before .before .before .before .before .before .before .before .before .plan-by-table .ensures)) (c .before .before .before .before .before .before .before .before .before .before .before .before .ready .ensures) (omega arith) _ _ _ _ _ (told-of .0 ∙ ap (λ (p : Planned). hopResult p (a .hz) (now (a .replies)) (now (a .outcomes)) (c .before .before .before .before .before .before .before .before .before .before .before .before .before .before .before .before .before .before .decode-tuner .result .tuner) (c .before .before .before .before .before .before .before .before .before .before .before .before .before .before .before .before .before .before .before .decode-driver .result .driver) (now (a .room))) (c .before .before .before .before .before .before .before .before .before .before .before .before .before .before .before .before .before .plan-by-table .ensures)) _ _ _ (refl, back .1, back .2))
-    (told (hopArgument (now (a .table)) (a .hz)) (λ u v. hopResult (planBy (now (a .table)) (a .hz)) (a .hz) (now (a .replies)) (now (a .outcomes)) u v (now (a .room))) (now (a .driver)) (now (a .tuner)) (now (a .room)) (now (a .left)) (now (a .next)) (c .before .before .before .before .before .before .before .before .before .before .before .before .before .before .before .before .before .before .before .decode-driver .result) (c .before .before .before .before .before .before .before .before .before .before .before .before .before .before .before .before .before .before .decode-tuner .result) _ _ (c .before .before .before .before .before .before .before .before .before .before .before .before .before .before .before .before .before .before .before .decode-driver .ensures) (c .before .before .before .before .before .before .before .before .before .before .before .before .before .before .before .before .before .before .decode-tuner .ensures) (c .before .before .before .before .before .before .before .before .before .before .before .before .before .before .before .hop-refusal .ensures ∙ ap (λ (p : Planned). hopRefusal p (c .before .before .before .before .before .before .before .before .before .before .before .before .before .before .before .before .before .before .decode-tuner .result .tuner .ifreq)) (c .before .before .before .before .before .before .before .before .before .before .before .before .before .before .before .before .before .plan-by-table .ensures)) (c .before .before .before .before .before .before .before .before .before .before .before .before .ready .ensures) (λ u v. hopSeen (planBy (now (a .table)) (a .hz)) (a .hz) (now (a .replies)) (now (a .outcomes)) u v (now (a .room))) (omega arith) _ (told-of .1 ∙ ap (λ (p : Planned). hopSeen p (a .hz) (now (a .replies)) (now (a .outcomes)) (c .before .before .before .before .before .before .before .before .before .before .before .before .before .before .before .before .before .before .decode-tuner .result .tuner) (c .before .before .before .before .before .before .before .before .before .before .before .before .before .before .before .before .before .before .before .decode-driver .result .driver) (now (a .room))) (c .before .before .before .before .before .before .before .before .before .before .before .before .before .before .before .before .before .plan-by-table .ensures)))
+    (told (hopArgument (now (a .table)) (a .hz)) (λ u v. hopResult (planBy (now (a .table)) (a .hz)) (a .hz) (now (a .replies)) (now (a .outcomes)) u v (now (a .room))) (now (a .driver)) (now (a .tuner)) (now (a .room)) (now (a .left)) (now (a .next)) (c .before .before .before .before .before .before .before .before .before .before .before .before .before .before .before .before .before .before .before .decode-driver .result) (c .before .before .before .before .before .before .before .before .before .before .before .before .before .before .before .before .before .before .decode-tuner .result) _ _ (c .before .before .before .before .before .before .before .before .before .before .before .before .before .before .before .before .before .before .before .decode-driver .ensures) (c .before .before .before .before .before .before .before .before .before .before .before .before .before .before .before .before .before .before .decode-tuner .ensures) (c .before .before .before .before .before .before .before .before .before .before .before .before .before .before .before .hop-refusal .ensures ∙ ap (λ (p : Planned). hopRefusal p (c .before .before .before .before .before .before .before .before .before .before .before .before .before .before .before .before .before .before .decode-tuner .result .tuner .ifreq)) (c .before .before .before .before .before .before .before .before .before .before .before .before .before .before .before .before .before .plan-by-table .ensures)) (c .before .before .before .before .before .before .before .before .before .before .before .before .ready .ensures) (λ u v. hopLockTries (planBy (now (a .table)) (a .hz)) (a .hz) (now (a .replies)) (now (a .outcomes)) u v (now (a .room))) (omega arith) _ (told-of .1 ∙ ap (λ (p : Planned). hopLockTries p (a .hz) (now (a .replies)) (now (a .outcomes)) (c .before .before .before .before .before .before .before .before .before .before .before .before .before .before .before .before .before .before .decode-tuner .result .tuner) (c .before .before .before .before .before .before .before .before .before .before .before .before .before .before .before .before .before .before .before .decode-driver .result .driver) (now (a .room))) (c .before .before .before .before .before .before .before .before .before .before .before .before .before .before .before .before .before .plan-by-table .ensures)))
 
 pub tune-board-spec : {M : Type 1} → statement M
 tune-board-spec =

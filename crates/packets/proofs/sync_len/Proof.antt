@@ -1,4 +1,4 @@
--- `packets::sync_len` meets its contract: the two tests are those of `told`.
+-- `packets::sync_len` meets its contract: the two tests are those of `heardWith`.
 -- Assumes nothing.
 use mathlib.Core.Path.{refl}
 use native.Mathlib.Omega.{arith}

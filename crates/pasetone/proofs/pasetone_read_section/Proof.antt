@@ -1,6 +1,6 @@
 -- `pasetone::pasetone_read_section` meets its contract: it tells what the call below answers. Assumes nothing.
 use mathlib.Core.Path.{ap, _∙_}
-use Rattle.replies.specs.Replies.{partsOf}
+use Rattle.reply.specs.Replies.{partsOf}
 use borrow.Author.Needs.{needs}
 use Rattle.pasetone.proofs.pasetone_read_section.Statement.{statement}
 use Rattle.pasetone.proofs.pasetone_read_section.Tie as tie

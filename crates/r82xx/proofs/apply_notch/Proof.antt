@@ -50,7 +50,7 @@ use Rattle.chip.proofs.Answer as S
 use Rattle.chip.proofs.Answer.Laws as S′
 use Rattle.r82xx.specs.declared.Tuner.{Tuner}
 use Rattle.r82xx.specs.Record.{withNotch}
-use Rattle.r82xx.specs.Calls.{keptNotch, soundAnswer}
+use Rattle.r82xx.specs.InCode.{keptNotch, soundAnswer}
 use Rattle.r82xx.proofs.Lent.{vals, nominal-fits, corrected-fits, notch-lies, references, hears}
 use Rattle.r82xx.proofs.Tuner as T
 use Rattle.r82xx.proofs.Tuner.Laws as T′

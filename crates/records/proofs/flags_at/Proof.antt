@@ -8,13 +8,13 @@ use lib.ListN.{length, drop, replicate}
 use borrow.Author.Needs.{needs}
 use mathlib.Core.List.{map}
 use lib.Seq.{sets}
-use Rattle.records.specs.Fields.{flagOf}
+use Rattle.records.specs.Fields.{flagRead}
 use Rattle.records.proofs.Turns.{store-turn, store-start, store-end}
 use Rattle.records.proofs.flags_at.Statement.{statement}
 use Rattle.records.proofs.flags_at.Tie as tie
 
 abbrev Inv-loop : tie.InvT-loop
-Inv-loop b at image flags₀ i₀ flags i = (length image ≡ 27) × ((length flags ≡ 27) × (sets flags i (map flagOf (drop i image)) ≡ map flagOf image))
+Inv-loop b at image flags₀ i₀ flags i = (length image ≡ 27) × ((length flags ≡ 27) × (sets flags i (map flagRead (drop i image)) ≡ map flagRead image))
 
 abbrev μ-loop : tie.MeasureT-loop
 μ-loop b at image flags₀ i₀ flags i = 27 - i
@@ -24,7 +24,7 @@ bytes-at-requires c κs = search needs
 
 loop-holds : tie.Need-loop-holds Inv-loop μ-loop
 loop-holds c =
-    (search needs, (refl, store-start flagOf (replicate 27 false) (c .bytes-at .result) (search needs)))
+    (search needs, (refl, store-start flagRead (replicate 27 false) (c .bytes-at .result) (search needs)))
 
 array-read-flags : tie.Need-array-read-flags Inv-loop μ-loop
 array-read-flags c = search needs
@@ -40,11 +40,11 @@ loop-less c = search needs
 
 loop-again : tie.Need-loop-again Inv-loop μ-loop
 loop-again c =
-    (c .before .loop .inv .0, (search needs, store-turn flagOf (c .before .loop .flags) (c .before .loop .i) (c .before .before .bytes-at .result) 0 (omega arith) ∙ c .before .loop .inv .1 .1))
+    (c .before .loop .inv .0, (search needs, store-turn flagRead (c .before .loop .flags) (c .before .loop .i) (c .before .before .bytes-at .result) 0 (omega arith) ∙ c .before .loop .inv .1 .1))
 
 returns : tie.Need-returns Inv-loop μ-loop
 returns c =
-    store-end flagOf (c .before .loop .flags) (c .before .loop .i) (c .before .before .bytes-at .result) (omega arith) ∙ c .before .loop .inv .1 .1 ∙ ap (map flagOf) (c .before .before .bytes-at .ensures)
+    store-end flagRead (c .before .loop .flags) (c .before .loop .i) (c .before .before .bytes-at .result) (omega arith) ∙ c .before .loop .inv .1 .1 ∙ ap (map flagRead) (c .before .before .bytes-at .ensures)
 
 pub flags-at-spec : {M : Type 1} → statement M
 flags-at-spec =

@@ -15,16 +15,16 @@ returns c = number-first _ _ _ (c .before .zero-number .ensures) (c .if1 .taken)
 ratio-requires : tie.Need-ratio-requires
 ratio-requires c κs = none-given (c .before .before .args .rate) (c .before .before .args .xtal) 0 (sym (c .before .zero-number .ensures) ∙ c .if1 .left) .0
 
-held-requires : tie.Need-held-requires
-held-requires c κs = search needs
+ratio-holds-requires : tie.Need-ratio-holds-requires
+ratio-holds-requires c κs = search needs
 
 returns-2 : tie.Need-returns-2
-returns-2 c = sym (ap (λ (b : Bool). cond b 0 13) (c .if2 .taken)) ∙ number-last _ _ _ _ _ (c .before .before .before .before .zero-number .ensures) (c .before .before .before .if1 .left) (c .before .before .ratio .ensures) (c .before .held .ensures)
+returns-2 c = sym (ap (λ (b : Bool). cond b 0 13) (c .if2 .taken)) ∙ number-last _ _ _ _ _ (c .before .before .before .before .zero-number .ensures) (c .before .before .before .if1 .left) (c .before .before .ratio .ensures) (c .before .ratio-holds .ensures)
 
 returns-3 : tie.Need-returns-3
-returns-3 c = sym (ap (λ (b : Bool). cond b 0 13) (c .if2 .left)) ∙ number-last _ _ _ _ _ (c .before .before .before .before .zero-number .ensures) (c .before .before .before .if1 .left) (c .before .before .ratio .ensures) (c .before .held .ensures)
+returns-3 c = sym (ap (λ (b : Bool). cond b 0 13) (c .if2 .left)) ∙ number-last _ _ _ _ _ (c .before .before .before .before .zero-number .ensures) (c .before .before .before .if1 .left) (c .before .before .ratio .ensures) (c .before .ratio-holds .ensures)
 
 pub rate-number-spec : {M : Type 1} → statement M
 rate-number-spec =
     tie.close
-    (tie.spec zero-number-requires returns ratio-requires held-requires returns-2 returns-3)
+    (tie.spec zero-number-requires returns ratio-requires ratio-holds-requires returns-2 returns-3)

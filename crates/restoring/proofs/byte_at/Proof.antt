@@ -14,22 +14,22 @@ returns c =
     let a = c .before .before .before .args in
     slot-past (heldOf (now (a .marks)) (now (a .sent))) (a .i) (a .m) (a .j) (omega arith)
 
-add-held : tie.Need-add-held
-add-held c = search needs
+add-byte-held : tie.Need-add-byte-held
+add-byte-held c = search needs
 
-held-requires : tie.Need-held-requires
-held-requires c κs = search needs
+byte-held-requires : tie.Need-byte-held-requires
+byte-held-requires c κs = search needs
 
 returns-2 : tie.Need-returns-2
 returns-2 c =
     let a = c .before .before .before .before .args in
-    c .held .ensures ∙ slot-in (heldOf (now (a .marks)) (now (a .sent))) (a .i) (a .m) (a .j) (omega arith)
+    c .byte-held .ensures ∙ slot-in (heldOf (now (a .marks)) (now (a .sent))) (a .i) (a .m) (a .j) (omega arith)
 
 pub byte-at-spec : {M : Type 1} → statement M
 byte-at-spec =
     tie.close
     (tie.spec
     returns
-    add-held
-    held-requires
+    add-byte-held
+    byte-held-requires
     returns-2)

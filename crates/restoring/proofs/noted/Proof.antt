@@ -7,13 +7,13 @@ use borrow.Author.Needs.{needs}
 use denote.Ref.{now}
 use lib.Dec.{eqb}
 use lib.ListN.{length, getD}
-use Rattle.restoring.specs.Standing.{only, over, tell, told}
+use Rattle.restoring.specs.Standing.{only, over, knownAs, knownAll}
 use Rattle.restoring.proofs.Telling.{mark-some, other-chip, other-kind, rest, rest-end, rest-start, rest-turn}
 use Rattle.restoring.proofs.noted.Statement.{statement}
 use Rattle.restoring.proofs.noted.Tie as tie
 
 abbrev Inv-loop : tie.InvT-loop
-Inv-loop address marks₀ sent₀ mark n bytes first j₀ marks sent j = (length marks ≡ 32) × ((length sent ≡ 32) × ((j ≤ n) × (over (rest first n mark bytes j) 0 (told marks sent) ≡ over (rest first n mark bytes 0) 0 (told marks₀ sent₀))))
+Inv-loop address marks₀ sent₀ mark n bytes first j₀ marks sent j = (length marks ≡ 32) × ((length sent ≡ 32) × ((j ≤ n) × (over (rest first n mark bytes j) 0 (knownAll marks sent) ≡ over (rest first n mark bytes 0) 0 (knownAll marks₀ sent₀))))
 
 abbrev μ-loop : tie.MeasureT-loop
 μ-loop address marks₀ sent₀ mark n bytes first j₀ marks sent j = n - j
@@ -21,12 +21,12 @@ abbrev μ-loop : tie.MeasureT-loop
 returns : tie.Need-returns Inv-loop μ-loop
 returns c =
     let a = c .before .before .before .before .args in
-    other-kind (a .address) (a .e) (told (now (a .marks)) (now (a .sent))) (c .if1 .taken)
+    other-kind (a .address) (a .e) (knownAll (now (a .marks)) (now (a .sent))) (c .if1 .taken)
 
 returns-2 : tie.Need-returns-2 Inv-loop μ-loop
 returns-2 c =
     let a = c .before .before .before .before .before .before .args in
-    other-chip (a .address) (a .e) (told (now (a .marks)) (now (a .sent))) (c .if2 .taken)
+    other-chip (a .address) (a .e) (knownAll (now (a .marks)) (now (a .sent))) (c .if2 .taken)
 
 mark-of-requires : tie.Need-mark-of-requires Inv-loop μ-loop
 mark-of-requires c κs = search needs
@@ -72,13 +72,13 @@ loop-again c =
     let mark = c .before .before .before .before .before .before .before .before .before .before .before .before .before .mark-of .result in
     let e = c .before .before .before .before .before .before .before .before .before .before .before .before .before .before .before .before .before .before .before .before .before .args .e in
     let byte = getD (e .bytes) (l .j + 1) 0 in
-    let was = c .before .before .before .before .marked .ensures ∙ ap (λ (r : ℕ). over (only r (tell mark byte)) 0 (told (l .marks) (l .sent))) (c .before .before .before .before .before .before .before .upward .ensures) in (
+    let was = c .before .before .before .before .marked .ensures ∙ ap (λ (r : ℕ). over (only r (knownAs mark byte)) 0 (knownAll (l .marks) (l .sent))) (c .before .before .before .before .before .before .before .upward .ensures) in (
       search needs,
       (
         search needs,
         (
           omega arith,
-          rest-turn first n mark (e .bytes) (told (l .marks) (l .sent)) (l .j) _ byte (omega arith) (mark-some mark (eqb (e .outcome) 0) (c .before .before .before .before .before .before .before .before .before .before .before .before .before .mark-of .ensures)) refl was ∙ l .inv .1 .1 .1,
+          rest-turn first n mark (e .bytes) (knownAll (l .marks) (l .sent)) (l .j) _ byte (omega arith) (mark-some mark (eqb (e .outcome) 0) (c .before .before .before .before .before .before .before .before .before .before .before .before .before .mark-of .ensures)) refl was ∙ l .inv .1 .1 .1,
         ),
       ),
     )
@@ -96,9 +96,9 @@ returns-3 c =
     let first = c .before .before .wide2 .result in
     let n = c .before .before .before .before .wide .result in
     let mark = c .before .before .before .before .before .mark-of .result in
-    rest-end first n mark (a .e .bytes) (told (l .marks) (l .sent)) (l .j) (omega arith)
+    rest-end first n mark (a .e .bytes) (knownAll (l .marks) (l .sent)) (l .j) (omega arith)
     ∙ l .inv .1 .1 .1
-    ∙ rest-start (a .address) (a .e) (told (now (a .marks)) (now (a .sent))) first n mark (c .before .before .before .before .before .before .before .before .before .if1 .left) (c .before .before .before .before .before .before .before .if2 .left) (c .before .before .wide2 .ensures .0) (c .before .before .before .before .wide .ensures .0) (c .before .before .before .before .before .mark-of .ensures)
+    ∙ rest-start (a .address) (a .e) (knownAll (now (a .marks)) (now (a .sent))) first n mark (c .before .before .before .before .before .before .before .before .before .if1 .left) (c .before .before .before .before .before .before .before .if2 .left) (c .before .before .wide2 .ensures .0) (c .before .before .before .before .wide .ensures .0) (c .before .before .before .before .before .mark-of .ensures)
 
 pub noted-spec : {M : Type 1} → statement M
 noted-spec =

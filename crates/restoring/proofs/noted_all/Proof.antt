@@ -7,13 +7,13 @@ use borrow.Author.Needs.{needs}
 use denote.Ref.{now}
 use lib.ListN.{length, drop}
 use Rattle.transcript.specs.Sections.{entriesIn}
-use Rattle.restoring.specs.Standing.{over, tellsOf, told}
+use Rattle.restoring.specs.Standing.{over, knownIn, knownAll}
 use Rattle.restoring.proofs.Telling.{entries-end, entry-turn, few}
 use Rattle.restoring.proofs.noted_all.Statement.{statement}
 use Rattle.restoring.proofs.noted_all.Tie as tie
 
 abbrev Inv-loop : tie.InvT-loop
-Inv-loop s start count address marks₀ sent₀ i₀ marks sent i = (i ≤ count) × ((length marks ≡ 32) × ((length sent ≡ 32) × (over (tellsOf address (entriesIn i (drop start s))) 0 (told marks sent) ≡ over (tellsOf address (entriesIn count (drop start s))) 0 (told marks₀ sent₀))))
+Inv-loop s start count address marks₀ sent₀ i₀ marks sent i = (i ≤ count) × ((length marks ≡ 32) × ((length sent ≡ 32) × (over (knownIn address (entriesIn i (drop start s))) 0 (knownAll marks sent) ≡ over (knownIn address (entriesIn count (drop start s))) 0 (knownAll marks₀ sent₀))))
 
 abbrev μ-loop : tie.MeasureT-loop
 μ-loop s start count address marks₀ sent₀ i₀ marks sent i = i
@@ -47,7 +47,7 @@ loop-again : tie.Need-loop-again Inv-loop μ-loop
 loop-again c =
     let a = c .before .before .before .before .before .before .before .before .before .before .before .before .before .args in
     let l = c .before .before .before .before .before .before .before .before .before .loop in
-    (omega arith, (search needs, (search needs, entry-turn (a .address) (now (a .s)) (a .start) (l .i) (told (l .marks) (l .sent)) _ (c .before .before .before .before .before .before .before .get .result) (omega arith) (c .before .before .before .before .before .before .before .get .ensures) (c .before .before .before .before .noted .ensures) ∙ l .inv .1 .1 .1)))
+    (omega arith, (search needs, (search needs, entry-turn (a .address) (now (a .s)) (a .start) (l .i) (knownAll (l .marks) (l .sent)) _ (c .before .before .before .before .before .before .before .get .result) (omega arith) (c .before .before .before .before .before .before .before .get .ensures) (c .before .before .before .before .noted .ensures) ∙ l .inv .1 .1 .1)))
 
 same-length : tie.Need-same-length Inv-loop μ-loop
 same-length c = search needs
@@ -59,7 +59,7 @@ returns : tie.Need-returns Inv-loop μ-loop
 returns c =
     let a = c .before .before .before .before .before .args in
     let l = c .before .loop in
-    entries-end (a .address) (now (a .s)) (a .start) (l .i) (told (l .marks) (l .sent)) (omega arith) ∙ l .inv .1 .1 .1
+    entries-end (a .address) (now (a .s)) (a .start) (l .i) (knownAll (l .marks) (l .sent)) (omega arith) ∙ l .inv .1 .1 .1
 
 pub noted-all-spec : {M : Type 1} → statement M
 noted-all-spec =

@@ -9,13 +9,13 @@ use denote.Ref.{now}
 use Prim.Native.Nat.{ℕ}
 use lib.ListN.{length, take}
 use Rattle.sections.specs.Chain.{chain, chainEntries}
-use Rattle.restoring.specs.Standing.{over, tellsOf, told}
+use Rattle.restoring.specs.Standing.{over, knownIn, knownAll}
 use Rattle.restoring.proofs.Backward.{all-sections, all-told, begin, chain-on, few, fit, lower, not-both, refused, stopped, told-on, within}
 use Rattle.restoring.proofs.walked.Statement.{statement}
 use Rattle.restoring.proofs.walked.Tie as tie
 
 abbrev Inv-loop : tie.InvT-loop
-Inv-loop s address marks₀ sent₀ end₀ marks sent end = (end ≤ length s) × ((length marks ≡ 32) × ((length sent ≡ 32) × ((chain (take end s) ≡ chain s) × (over (tellsOf address (chainEntries (take end s))) 0 (told marks sent) ≡ over (tellsOf address (chainEntries s)) 0 (told marks₀ sent₀)))))
+Inv-loop s address marks₀ sent₀ end₀ marks sent end = (end ≤ length s) × ((length marks ≡ 32) × ((length sent ≡ 32) × ((chain (take end s) ≡ chain s) × (over (knownIn address (chainEntries (take end s))) 0 (knownAll marks sent) ≡ over (knownIn address (chainEntries s)) 0 (knownAll marks₀ sent₀)))))
 
 abbrev μ-loop : tie.MeasureT-loop
 μ-loop s address marks₀ sent₀ end₀ marks sent end = end
@@ -24,7 +24,7 @@ loop-holds : tie.Need-loop-holds Inv-loop μ-loop
 loop-holds c =
     let a = c .before .before .before .args in
     let all = begin (now (a .s)) in
-    (omega arith, (omega arith, (omega arith, (ap chain all, ap (λ (l : List ℕ). over (tellsOf (a .address) (chainEntries l)) 0 (told (now (a .marks)) (now (a .sent)))) all))))
+    (omega arith, (omega arith, (omega arith, (ap chain all, ap (λ (l : List ℕ). over (knownIn (a .address) (chainEntries l)) 0 (knownAll (now (a .marks)) (now (a .sent)))) all))))
 
 sub-part : tie.Need-sub-part Inv-loop μ-loop
 sub-part c = search needs
@@ -80,7 +80,7 @@ loop-again c =
     let p = take (l .end - 0) s in
     let read = sym (c .before .before .before .before .before .before .before .before .start .given .1) ∙ c .before .before .before .before .before .before .before .before .before .before .read-section .ensures in
     let less = lower s p (l .end) refl (omega arith) (l .inv .0) _ _ read in
-    (omega (arith, less), (search needs, (search needs, (chain-on s p (l .end) refl (omega arith) (l .inv .0) _ _ read ∙ l .inv .1 .1 .1 .0, told-on s p (l .end) refl (omega arith) (l .inv .0) _ _ read (a .address) (told (l .marks) (l .sent)) _ (c .before .before .before .before .noted-all .ensures) ∙ l .inv .1 .1 .1 .1))))
+    (omega (arith, less), (search needs, (search needs, (chain-on s p (l .end) refl (omega arith) (l .inv .0) _ _ read ∙ l .inv .1 .1 .1 .0, told-on s p (l .end) refl (omega arith) (l .inv .0) _ _ read (a .address) (knownAll (l .marks) (l .sent)) _ (c .before .before .before .before .noted-all .ensures) ∙ l .inv .1 .1 .1 .1))))
 
 same-length-3 : tie.Need-same-length-3 Inv-loop μ-loop
 same-length-3 c = search needs
@@ -93,7 +93,7 @@ returns-2 c =
     let l = c .before .loop in
     let a = c .before .before .before .before .before .args in
     let s = now (a .s) in
-    (all-sections s (l .end) (omega arith) (l .inv .1 .1 .1 .0), λ h. all-told s (l .end) (omega arith) (l .inv .1 .1 .1 .0) (a .address) (told (l .marks) (l .sent)) ∙ l .inv .1 .1 .1 .1)
+    (all-sections s (l .end) (omega arith) (l .inv .1 .1 .1 .0), λ h. all-told s (l .end) (omega arith) (l .inv .1 .1 .1 .0) (a .address) (knownAll (l .marks) (l .sent)) ∙ l .inv .1 .1 .1 .1)
 
 pub walked-spec : {M : Type 1} → statement M
 walked-spec =

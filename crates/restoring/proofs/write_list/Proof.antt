@@ -10,7 +10,7 @@ use denote.Ref.{now}
 use lib.ListN.{length}
 use lib.Seq.{sets}
 use Rattle.transcript.specs.Sections.{entriesBytes}
-use Rattle.restore.specs.Restore.{Run, run, runs, writeOf}
+use Rattle.restore.specs.Restore.{Run, runOf, runs, writeOf}
 use Rattle.restoring.specs.Standing.{heldOf, sureOf}
 use Rattle.restoring.proofs.Laying.{few-runs, laid-all, laid-on, later, left, none-above, none-left, one-run, run-size, skipped, stands-sure}
 use Rattle.restoring.proofs.write_list.Statement.{statement}
@@ -101,7 +101,7 @@ loop-again c =
         stands-sure sure (l .i + m) next (c .next-sure2 .ensures),
         (
           omega (arith, ap length one, l .inv .1 .1 .0),
-          laid-on (a .address) held (l .room) _ (l .k) (run (l .i) m) (left sure next) (left sure (l .i)) (c .before .before .before .before .before .write-of .result) one (c .before .before .before .before .before .write-of .ensures) (c .before .before .before .put .ensures) ∙ l .inv .1 .1 .1,
+          laid-on (a .address) held (l .room) _ (l .k) (runOf (l .i) m) (left sure next) (left sure (l .i)) (c .before .before .before .before .before .write-of .result) one (c .before .before .before .before .before .write-of .ensures) (c .before .before .before .put .ensures) ∙ l .inv .1 .1 .1,
         ),
       ),
     )

@@ -10,15 +10,15 @@ use borrow.Author.Needs.{needs}
 use Rattle.stream.proofs.gather.Statement.{statement}
 use Rattle.stream.proofs.gather.Tie as tie
 
-held-in-requires : tie.Need-held-in-requires
-held-in-requires c κs = search needs
+pending-count-requires : tie.Need-pending-count-requires
+pending-count-requires c κs = search needs
 
 returns : tie.Need-returns
-returns c = none-gathered (now (c .before .before .before .before .args .stream)) (now (c .before .before .before .before .args .chunk)) _ (c .before .held-in .ensures) (c .if1 .taken)
+returns c = none-gathered (now (c .before .before .before .before .args .stream)) (now (c .before .before .before .before .args .chunk)) _ (c .before .pending-count .ensures) (c .if1 .taken)
 
 sub-least : tie.Need-sub-least
 sub-least c =
-    let h : c .before .held-in .result ≤ 8 = at-most-eight (now (c .before .before .before .before .args .stream)) (now (c .before .before .before .before .args .chunk)) _ (c .before .held-in .ensures) (c .if1 .left) in
+    let h : c .before .pending-count .result ≤ 8 = at-most-eight (now (c .before .before .before .before .args .stream)) (now (c .before .before .before .before .args .chunk)) _ (c .before .pending-count .ensures) (c .if1 .left) in
     omega arith
 
 least-requires : tie.Need-least-requires
@@ -29,7 +29,7 @@ slice-aggregate-copy c = search needs
 
 add-copy : tie.Need-add-copy
 add-copy c =
-    let h : c .before .before .before .held-in .result ≤ 8 = at-most-eight (now (c .before .before .before .before .before .before .args .stream)) (now (c .before .before .before .before .before .before .args .chunk)) _ (c .before .before .before .held-in .ensures) (c .before .before .if1 .left) in
+    let h : c .before .before .before .pending-count .result ≤ 8 = at-most-eight (now (c .before .before .before .before .before .before .args .stream)) (now (c .before .before .before .before .before .before .args .chunk)) _ (c .before .before .before .pending-count .ensures) (c .before .before .if1 .left) in
     omega arith
 
 sub-copy : tie.Need-sub-copy
@@ -42,13 +42,13 @@ part-copy-end : tie.Need-part-copy-end
 part-copy-end c =
     let b = now (c .before .before .before .before .before .before .args .stream) in
     let chunk = now (c .before .before .before .before .before .before .args .chunk) in
-    let h : c .before .before .before .held-in .result ≤ 8 = at-most-eight b chunk _ (c .before .before .before .held-in .ensures) (c .before .before .if1 .left) in
-    let n : length b ≡ 9 = nine-bytes b chunk _ (c .before .before .before .held-in .ensures) (c .before .before .if1 .left) in
+    let h : c .before .before .before .pending-count .result ≤ 8 = at-most-eight b chunk _ (c .before .before .before .pending-count .ensures) (c .before .before .if1 .left) in
+    let n : length b ≡ 9 = nine-bytes b chunk _ (c .before .before .before .pending-count .ensures) (c .before .before .if1 .left) in
     omega arith
 
 copy-requires : tie.Need-copy-requires
 copy-requires c κs =
-    let h : c .before .before .before .before .held-in .result ≤ 8 = at-most-eight (now (c .before .before .before .before .before .before .before .args .stream)) (now (c .before .before .before .before .before .before .before .args .chunk)) _ (c .before .before .before .before .held-in .ensures) (c .before .before .before .if1 .left) in
+    let h : c .before .before .before .before .pending-count .result ≤ 8 = at-most-eight (now (c .before .before .before .before .before .before .before .args .stream)) (now (c .before .before .before .before .before .before .before .args .chunk)) _ (c .before .before .before .before .pending-count .ensures) (c .before .before .before .if1 .left) in
     simp length-take (omega arith)
 
 slice-aggregate-copy-2 : tie.Need-slice-aggregate-copy-2
@@ -62,33 +62,33 @@ part-copy-start-2 c = search needs
 
 part-copy-end-2 : tie.Need-part-copy-end-2
 part-copy-end-2 c =
-    used-bounds (now (c .before .before .before .before .before .before .before .before .before .before .args .stream)) (now (c .before .before .before .before .before .before .before .before .before .before .args .chunk)) _ (c .before .before .before .before .before .before .before .held-in .ensures) (c .before .before .before .before .before .before .if1 .left) _ (c .before .before .before .before .before .least .ensures) .0
+    used-bounds (now (c .before .before .before .before .before .before .before .before .before .before .args .stream)) (now (c .before .before .before .before .before .before .before .before .before .before .args .chunk)) _ (c .before .before .before .before .before .before .before .pending-count .ensures) (c .before .before .before .before .before .before .if1 .left) _ (c .before .before .before .before .before .least .ensures) .0
 
 copy-requires-2 : tie.Need-copy-requires-2
 copy-requires-2 c κs =
     let b = now (c .before .before .before .before .before .before .before .before .before .before .before .args .stream) in
     let chunk = now (c .before .before .before .before .before .before .before .before .before .before .before .args .chunk) in
-    let u : c .before .before .before .before .before .before .before .before .held-in .result + c .before .before .before .before .before .before .least .result ≤ 9 = used-bounds b chunk _ (c .before .before .before .before .before .before .before .before .held-in .ensures) (c .before .before .before .before .before .before .before .if1 .left) _ (c .before .before .before .before .before .before .least .ensures) .1 in
-    let k : length (take (c .before .before .before .before .before .before .least .result) chunk) ≡ c .before .before .before .before .before .before .least .result = part-length b chunk _ (c .before .before .before .before .before .before .before .before .held-in .ensures) (c .before .before .before .before .before .before .before .if1 .left) _ (c .before .before .before .before .before .before .least .ensures) in
+    let u : c .before .before .before .before .before .before .before .before .pending-count .result + c .before .before .before .before .before .before .least .result ≤ 9 = used-bounds b chunk _ (c .before .before .before .before .before .before .before .before .pending-count .ensures) (c .before .before .before .before .before .before .before .if1 .left) _ (c .before .before .before .before .before .before .least .ensures) .1 in
+    let k : length (take (c .before .before .before .before .before .before .least .result) chunk) ≡ c .before .before .before .before .before .before .least .result = part-length b chunk _ (c .before .before .before .before .before .before .before .before .pending-count .ensures) (c .before .before .before .before .before .before .before .if1 .left) _ (c .before .before .before .before .before .before .least .ensures) in
     let n : length (c .before .before .before .copy .last .0) ≡ 9 = ap length (c .before .before .before .copy .ensures) ∙ simp length-sets in
     omega arith
 
 add-t8 : tie.Need-add-t8
 add-t8 c =
-    let u : c .before .before .before .before .before .before .before .before .before .before .held-in .result + c .before .before .before .before .before .before .before .before .least .result ≤ 9 = used-bounds (now (c .before .before .before .before .before .before .before .before .before .before .before .before .before .args .stream)) (now (c .before .before .before .before .before .before .before .before .before .before .before .before .before .args .chunk)) _ (c .before .before .before .before .before .before .before .before .before .before .held-in .ensures) (c .before .before .before .before .before .before .before .before .before .if1 .left) _ (c .before .before .before .before .before .before .before .before .least .ensures) .1 in
+    let u : c .before .before .before .before .before .before .before .before .before .before .pending-count .result + c .before .before .before .before .before .before .before .before .least .result ≤ 9 = used-bounds (now (c .before .before .before .before .before .before .before .before .before .before .before .before .before .args .stream)) (now (c .before .before .before .before .before .before .before .before .before .before .before .before .before .args .chunk)) _ (c .before .before .before .before .before .before .before .before .before .before .pending-count .ensures) (c .before .before .before .before .before .before .before .before .before .if1 .left) _ (c .before .before .before .before .before .before .before .before .least .ensures) .1 in
     omega arith
 
 returns-2 : tie.Need-returns-2
 returns-2 c =
     let b = now (c .before .before .before .before .before .before .before .before .before .before .before .before .before .args .stream) in
     let chunk = now (c .before .before .before .before .before .before .before .before .before .before .before .before .before .args .chunk) in
-    all-gathered b chunk _ (c .before .before .before .before .before .before .before .before .before .before .held-in .ensures) (c .before .before .before .before .before .before .before .before .before .if1 .left) _ (c .before .before .before .before .before .before .before .before .least .ensures) _ _ (c .before .before .before .before .before .copy .ensures) (c .before .copy2 .ensures)
+    all-gathered b chunk _ (c .before .before .before .before .before .before .before .before .before .before .pending-count .ensures) (c .before .before .before .before .before .before .before .before .before .if1 .left) _ (c .before .before .before .before .before .before .before .before .least .ensures) _ _ (c .before .before .before .before .before .copy .ensures) (c .before .copy2 .ensures)
 
 pub gather-spec : {M : Type 1} → statement M
 gather-spec =
     tie.close
     (tie.spec
-    held-in-requires
+    pending-count-requires
     returns
     sub-least
     least-requires

@@ -4,7 +4,7 @@ use mathlib.Core.Path.{refl, sym, _∙_}
 use native.Mathlib.Omega.{arith}
 use borrow.Author.Needs.{needs}
 use denote.Ref.{now}
-use Rattle.r82xx.specs.Orders.{courseOf, resultOf, seenOf}
+use Rattle.r82xx.specs.Orders.{courseOf, resultOf, lockTriesOf}
 use Rattle.r82xx.specs.Orders.Order.{Tune}
 use Rattle.tuners.proofs.Passed.{fits, handed-tried, refused-untried}
 use Rattle.tuners.proofs.set_frequency.Statement.{statement}
@@ -47,7 +47,7 @@ same-length-2 : tie.Need-same-length-2
 same-length-2 c = search needs
 
 returns-2 : tie.Need-returns-2
-unfolding resultOf seenOf
+unfolding resultOf lockTriesOf
 returns-2 c =
     let a = c .before .before .before .before .before .before .before .before .before .before .before .before .before .before .before .before .before .before .before .args in
     handed-tried (courseOf (Tune (a .hz) (now (a .replies)))) (now (a .outcomes)) (now (a .tuner)) (now (a .room)) (now (a .next)) _ (c .before .before .before .before .before .before .before .before .before .before .before .hz-refusal .result) _ (c .before .before .before .before .before .before .before .before .before .before .before .before .before .decode-tuner .ensures) (c .before .before .before .before .before .before .before .before .before .before .before .hz-refusal .ensures) (c .before .before .before .before .before .before .before .before .before .before .ready .ensures) (omega arith) _ _ _ _ _ (c .before .before .before .before .before .before .before .set-frequency .ensures) _ _ (c .before .before .before .hand .ensures) _ (c .tuned2 .ensures)

@@ -12,8 +12,8 @@ use borrow.Author.Needs.{needs}
 use Rattle.tuners.proofs.store.Statement.{statement}
 use Rattle.tuners.proofs.store.Tie as tie
 
-kept-requires : tie.Need-kept-requires
-kept-requires c κs = search needs
+is-written-requires : tie.Need-is-written-requires
+is-written-requires c κs = search needs
 
 tuner-image-requires : tie.Need-tuner-image-requires
 tuner-image-requires c κs = search needs
@@ -28,16 +28,16 @@ same-length : tie.Need-same-length
 same-length c = search needs
 
 returns : tie.Need-returns
-returns c = c .before .before .copy .ensures ∙ ap (λ (x : List ℕ). sets (now (c .before .before .before .before .before .before .before .before .before .args .next)) 0 x) (c .before .before .before .before .before .tuner-image .ensures) ∙ written tunerBytes (c .before .before .before .before .before .before .before .before .before .args .answer) (c .before .before .before .before .before .before .before .before .before .args .count) (c .before .before .before .before .before .before .before .before .before .args .tuner) (now (c .before .before .before .before .before .before .before .before .before .args .next)) (sym (c .before .before .before .before .before .before .before .kept .ensures) ∙ c .before .before .before .before .before .before .if1 .taken)
+returns c = c .before .before .copy .ensures ∙ ap (λ (x : List ℕ). sets (now (c .before .before .before .before .before .before .before .before .before .args .next)) 0 x) (c .before .before .before .before .before .tuner-image .ensures) ∙ written tunerBytes (c .before .before .before .before .before .before .before .before .before .args .answer) (c .before .before .before .before .before .before .before .before .before .args .count) (c .before .before .before .before .before .before .before .before .before .args .tuner) (now (c .before .before .before .before .before .before .before .before .before .args .next)) (sym (c .before .before .before .before .before .before .before .is-written .ensures) ∙ c .before .before .before .before .before .before .if1 .taken)
 
 returns-2 : tie.Need-returns-2
-returns-2 c = left tunerBytes (c .before .before .before .args .answer) (c .before .before .before .args .count) (c .before .before .before .args .tuner) (now (c .before .before .before .args .next)) (sym (c .before .kept .ensures) ∙ c .if1 .left)
+returns-2 c = left tunerBytes (c .before .before .before .args .answer) (c .before .before .before .args .count) (c .before .before .before .args .tuner) (now (c .before .before .before .args .next)) (sym (c .before .is-written .ensures) ∙ c .if1 .left)
 
 pub store-spec : {M : Type 1} → statement M
 store-spec =
     tie.close
     (tie.spec
-    kept-requires
+    is-written-requires
     tuner-image-requires
     slice-aggregate-copy
     copy-requires

@@ -3,7 +3,8 @@ use mathlib.Core.Path.{ap}
 use native.Mathlib.Omega.{arith}
 use mathlib.Core.List.{[], _∷_}
 use Rattle.chip.specs.declared.Update.{Update}
-use Rattle.chip.specs.Steps.{inRange, inRoom, updates}
+use Rattle.chip.specs.InCode.{inRoom}
+use Rattle.chip.specs.Steps.{inRange, updates}
 use Rattle.chip.proofs.Laws.{swap}
 use borrow.Author.Needs.{needs}
 use Rattle.tuning.proofs.after_lock.Statement.{statement}

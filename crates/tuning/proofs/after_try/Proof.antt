@@ -4,7 +4,8 @@ use native.Mathlib.Omega.{arith}
 use mathlib.Core.List.{[], _∷_}
 use borrow.Author.Tests.{ne-eqb}
 use Rattle.chip.specs.Entries.{wait}
-use Rattle.chip.specs.Steps.{every, inRange, inRoom, updates}
+use Rattle.chip.specs.InCode.{inRoom}
+use Rattle.chip.specs.Steps.{every, inRange, updates}
 use Rattle.chip.specs.Steps.Step.{Plain}
 use Rattle.chip.proofs.Laws.{parts, swap}
 use Rattle.tuning.specs.Tries.{again}

@@ -2,9 +2,10 @@
 use native.Mathlib.Omega.{arith}
 use mathlib.Core.List.{_++_}
 use denote.Ref.{now}
-use Rattle.chip.specs.Steps.{inRoom, inner, updates}
+use Rattle.chip.specs.InCode.{inRoom}
+use Rattle.chip.specs.Steps.{inner, updates}
 use Rattle.chip.proofs.Laws.{parts}
-use Rattle.tuning.specs.Fixes.{fixUpdates}
+use Rattle.tuning.specs.InCode.{fixUpdates}
 use Rattle.tuning.specs.Tries.{statusSteps, triesFrom}
 use Rattle.tuning.proofs.Programs.{every-app, inner-tries, inner-updates}
 use borrow.Author.Needs.{needs}

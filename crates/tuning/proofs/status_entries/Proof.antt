@@ -1,8 +1,9 @@
 -- `tuning::status_entries` meets its contract. Its steps one after the other, each looked at. Assumes nothing.
 use mathlib.Core.Path.{refl, ap}
 use native.Mathlib.Omega.{arith}
-use Rattle.chip.specs.Steps.{every, goes, inRoom}
-use Rattle.chip.proofs.Laws.{by-entry, cut-here, ended-here, went-on}
+use Rattle.chip.specs.InCode.{inRoom}
+use Rattle.chip.specs.Steps.{every, goes}
+use Rattle.chip.proofs.Laws.{by-entry, cut-here, ended-here, progress-on}
 use borrow.Author.Needs.{needs}
 use Rattle.tuning.proofs.status_entries.Statement.{statement}
 use Rattle.tuning.proofs.status_entries.Tie as tie
@@ -49,7 +50,7 @@ same-length-2 c = search needs
 
 returns-2 : tie.Need-returns-2
 unfolding every
-returns-2 c = (λ chip. went-on inRoom _ _ _ _ _ _ (by-entry inRoom _ _ _ _ _ (c .before .before .before .before .before .before .before .before .before .before .before .before .before .before .before .before .before .wait .ensures) (c .before .before .before .before .before .before .before .before .before .before .before .before .before .before .before .log-plain .ensures .0 chip)) (cut-here inRoom _ _ _ _ _ _ (by-entry inRoom _ _ _ _ _ (c .before .before .before .before .before .before .before .before .before .before .pointer .ensures) (c .before .before .before .before .before .before .before .before .log-plain2 .ensures .0 chip)) (ap goes (c .before .before .before .before .enum-told4 .given .1)) refl (c .before .before .log-close2 .ensures .0 chip)), omega (arith, c .before .before .before .before .before .before .before .before .before .before .before .before .before .before .before .log-plain .ensures .1, c .before .before .before .before .before .before .before .before .before .before .before .before .before .before .before .log-plain .kept, c .before .before .before .before .before .before .before .before .log-plain2 .ensures .1, c .before .before .before .before .before .before .before .before .log-plain2 .kept, c .before .before .log-close2 .ensures .1, c .before .before .log-close2 .kept, c .before .before .before .before .before .before .before .before .before .before .before .before .before .before .before .before .before .before .before .before .pre))
+returns-2 c = (λ chip. progress-on inRoom _ _ _ _ _ _ (by-entry inRoom _ _ _ _ _ (c .before .before .before .before .before .before .before .before .before .before .before .before .before .before .before .before .before .wait .ensures) (c .before .before .before .before .before .before .before .before .before .before .before .before .before .before .before .log-plain .ensures .0 chip)) (cut-here inRoom _ _ _ _ _ _ (by-entry inRoom _ _ _ _ _ (c .before .before .before .before .before .before .before .before .before .before .pointer .ensures) (c .before .before .before .before .before .before .before .before .log-plain2 .ensures .0 chip)) (ap goes (c .before .before .before .before .enum-told4 .given .1)) refl (c .before .before .log-close2 .ensures .0 chip)), omega (arith, c .before .before .before .before .before .before .before .before .before .before .before .before .before .before .before .log-plain .ensures .1, c .before .before .before .before .before .before .before .before .before .before .before .before .before .before .before .log-plain .kept, c .before .before .before .before .before .before .before .before .log-plain2 .ensures .1, c .before .before .before .before .before .before .before .before .log-plain2 .kept, c .before .before .log-close2 .ensures .1, c .before .before .log-close2 .kept, c .before .before .before .before .before .before .before .before .before .before .before .before .before .before .before .before .before .before .before .before .pre))
 
 read-entry-requires : tie.Need-read-entry-requires
 read-entry-requires c κs = search needs
@@ -64,7 +65,7 @@ same-length-3 : tie.Need-same-length-3
 same-length-3 c = omega (arith, c .before .before .before .before .before .before .before .before .before .before .before .before .before .before .before .before .before .before .before .before .log-plain .kept, c .before .before .before .before .before .before .before .before .before .before .before .before .before .log-plain2 .kept, c .before .before .before .before .before .before .log-plain3 .kept, c .before .before .log-end .kept)
 
 returns-3 : tie.Need-returns-3
-returns-3 c = (λ chip. went-on inRoom _ _ _ _ _ _ (by-entry inRoom _ _ _ _ _ (c .before .before .before .before .before .before .before .before .before .before .before .before .before .before .before .before .before .before .before .before .before .before .wait .ensures) (c .before .before .before .before .before .before .before .before .before .before .before .before .before .before .before .before .before .before .before .before .log-plain .ensures .0 chip)) (went-on inRoom _ _ _ _ _ _ (by-entry inRoom _ _ _ _ _ (c .before .before .before .before .before .before .before .before .before .before .before .before .before .before .before .pointer .ensures) (c .before .before .before .before .before .before .before .before .before .before .before .before .before .log-plain2 .ensures .0 chip)) (ended-here inRoom _ _ _ _ _ (by-entry inRoom _ _ _ _ _ (c .before .before .before .before .before .before .before .before .read-entry .ensures) (c .before .before .before .before .before .before .log-plain3 .ensures .0 chip)) (c .before .before .log-end .ensures .0 chip))), omega (arith, c .before .before .before .before .before .before .before .before .before .before .before .before .before .before .before .before .before .before .before .before .log-plain .ensures .1, c .before .before .before .before .before .before .before .before .before .before .before .before .before .before .before .before .before .before .before .before .log-plain .kept, c .before .before .before .before .before .before .before .before .before .before .before .before .before .log-plain2 .ensures .1, c .before .before .before .before .before .before .before .before .before .before .before .before .before .log-plain2 .kept, c .before .before .before .before .before .before .log-plain3 .ensures .1, c .before .before .before .before .before .before .log-plain3 .kept, c .before .before .log-end .ensures .1, c .before .before .log-end .kept, c .before .before .before .before .before .before .before .before .before .before .before .before .before .before .before .before .before .before .before .before .before .before .before .before .before .pre))
+returns-3 c = (λ chip. progress-on inRoom _ _ _ _ _ _ (by-entry inRoom _ _ _ _ _ (c .before .before .before .before .before .before .before .before .before .before .before .before .before .before .before .before .before .before .before .before .before .before .wait .ensures) (c .before .before .before .before .before .before .before .before .before .before .before .before .before .before .before .before .before .before .before .before .log-plain .ensures .0 chip)) (progress-on inRoom _ _ _ _ _ _ (by-entry inRoom _ _ _ _ _ (c .before .before .before .before .before .before .before .before .before .before .before .before .before .before .before .pointer .ensures) (c .before .before .before .before .before .before .before .before .before .before .before .before .before .log-plain2 .ensures .0 chip)) (ended-here inRoom _ _ _ _ _ (by-entry inRoom _ _ _ _ _ (c .before .before .before .before .before .before .before .before .read-entry .ensures) (c .before .before .before .before .before .before .log-plain3 .ensures .0 chip)) (c .before .before .log-end .ensures .0 chip))), omega (arith, c .before .before .before .before .before .before .before .before .before .before .before .before .before .before .before .before .before .before .before .before .log-plain .ensures .1, c .before .before .before .before .before .before .before .before .before .before .before .before .before .before .before .before .before .before .before .before .log-plain .kept, c .before .before .before .before .before .before .before .before .before .before .before .before .before .log-plain2 .ensures .1, c .before .before .before .before .before .before .before .before .before .before .before .before .before .log-plain2 .kept, c .before .before .before .before .before .before .log-plain3 .ensures .1, c .before .before .before .before .before .before .log-plain3 .kept, c .before .before .log-end .ensures .1, c .before .before .log-end .kept, c .before .before .before .before .before .before .before .before .before .before .before .before .before .before .before .before .before .before .before .before .before .before .before .before .before .pre))
 
 pub status-entries-spec : {M : Type 1} → statement M
 status-entries-spec =

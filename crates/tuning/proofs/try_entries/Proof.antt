@@ -1,8 +1,9 @@
 -- `tuning::try_entries` meets its contract. Its steps one after the other, each looked at. Assumes nothing.
 use mathlib.Core.Path.{refl, ap}
 use native.Mathlib.Omega.{arith}
-use Rattle.chip.specs.Steps.{every, goes, inRoom}
-use Rattle.chip.proofs.Laws.{by-entry, cut-here, ended-here, went-on}
+use Rattle.chip.specs.InCode.{inRoom}
+use Rattle.chip.specs.Steps.{every, goes}
+use Rattle.chip.proofs.Laws.{by-entry, cut-here, ended-here, progress-on}
 use borrow.Author.Needs.{needs}
 use Rattle.tuning.proofs.try_entries.Statement.{statement}
 use Rattle.tuning.proofs.try_entries.Tie as tie
@@ -42,7 +43,7 @@ same-length-2 : tie.Need-same-length-2
 same-length-2 c = search needs
 
 returns-2 : tie.Need-returns-2
-returns-2 c = (λ chip. went-on inRoom _ _ _ _ _ _ (by-entry inRoom _ _ _ _ _ (c .before .before .before .before .before .before .before .before .before .before .before .before .before .before .before .pointer .ensures) (c .before .before .before .before .before .before .before .before .before .before .before .before .before .log-plain .ensures .0 chip)) (ended-here inRoom _ _ _ _ _ (by-entry inRoom _ _ _ _ _ (c .before .before .before .before .before .before .before .before .read-entry .ensures) (c .before .before .before .before .before .before .log-plain2 .ensures .0 chip)) (c .before .before .log-end .ensures .0 chip)), omega (arith, c .before .before .before .before .before .before .before .before .before .before .before .before .before .log-plain .ensures .1, c .before .before .before .before .before .before .before .before .before .before .before .before .before .log-plain .kept, c .before .before .before .before .before .before .log-plain2 .ensures .1, c .before .before .before .before .before .before .log-plain2 .kept, c .before .before .log-end .ensures .1, c .before .before .log-end .kept, c .before .before .before .before .before .before .before .before .before .before .before .before .before .before .before .before .before .before .pre))
+returns-2 c = (λ chip. progress-on inRoom _ _ _ _ _ _ (by-entry inRoom _ _ _ _ _ (c .before .before .before .before .before .before .before .before .before .before .before .before .before .before .before .pointer .ensures) (c .before .before .before .before .before .before .before .before .before .before .before .before .before .log-plain .ensures .0 chip)) (ended-here inRoom _ _ _ _ _ (by-entry inRoom _ _ _ _ _ (c .before .before .before .before .before .before .before .before .read-entry .ensures) (c .before .before .before .before .before .before .log-plain2 .ensures .0 chip)) (c .before .before .log-end .ensures .0 chip)), omega (arith, c .before .before .before .before .before .before .before .before .before .before .before .before .before .log-plain .ensures .1, c .before .before .before .before .before .before .before .before .before .before .before .before .before .log-plain .kept, c .before .before .before .before .before .before .log-plain2 .ensures .1, c .before .before .before .before .before .before .log-plain2 .kept, c .before .before .log-end .ensures .1, c .before .before .log-end .kept, c .before .before .before .before .before .before .before .before .before .before .before .before .before .before .before .before .before .before .pre))
 
 pub try-entries-spec : {M : Type 1} → statement M
 try-entries-spec =

@@ -2,7 +2,8 @@
 use mathlib.Core.Path.{ap, _∙_}
 use native.Mathlib.Omega.{arith}
 use denote.Ref.{now}
-use Rattle.chip.specs.Steps.{goes, inRoom}
+use Rattle.chip.specs.InCode.{inRoom}
+use Rattle.chip.specs.Steps.{goes}
 use Rattle.chip.proofs.Laws.{bracketed, unopened}
 use Rattle.tuning.specs.Program.{innerSteps}
 use Rattle.tuning.proofs.Programs.{inner-inner}

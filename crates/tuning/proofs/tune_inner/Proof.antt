@@ -7,7 +7,8 @@ use lib.ListN.{getD, take}
 use denote.Ref.{now}
 use Rattle.chip.specs.declared.Update.{Update}
 use Rattle.pll.specs.declared.Pll.{Pll}
-use Rattle.chip.specs.Steps.{Step, every, inRange, inRoom, updates}
+use Rattle.chip.specs.InCode.{inRoom}
+use Rattle.chip.specs.Steps.{Step, every, inRange, updates}
 use Rattle.chip.proofs.Laws.{parts, swap}
 use Rattle.tuning.specs.Program.{pllSteps, dividerNumber}
 use Rattle.tuning.specs.Tries.{statusSteps, triesFrom}

@@ -8,8 +8,8 @@ use borrow.Author.Needs.{needs}
 use Rattle.tuning.proofs.tune_updates.Statement.{statement}
 use Rattle.tuning.proofs.tune_updates.Tie as tie
 
-drained-requires : tie.Need-drained-requires
-drained-requires c κs = search needs
+opendrain-for-requires : tie.Need-opendrain-for-requires
+opendrain-for-requires c κs = search needs
 
 whole-only-requires : tie.Need-whole-only-requires
 whole-only-requires c κs = search needs
@@ -72,7 +72,7 @@ masked-requires-16 : tie.Need-masked-requires-16
 masked-requires-16 c κs = search needs
 
 returns : tie.Need-returns
-returns c = λ i. c .before .before .before .before .before .before .before .before .before .before .before .before .before .before .before .before .masked .ensures i ∷ (c .before .before .before .before .before .before .before .before .before .before .before .before .before .before .before .masked2 .ensures ∙ ap (λ (x : ℕ). masked 0x17 x 0x08) (c .before .before .before .before .before .before .before .before .before .before .before .before .before .before .before .before .before .before .before .before .drained .ensures)) i ∷ c .before .before .before .before .before .before .before .before .before .before .before .before .before .before .masked3 .ensures i ∷ c .before .before .before .before .before .before .before .before .before .before .before .before .before .masked4 .ensures i ∷ c .before .before .before .before .before .before .before .before .before .before .before .before .masked5 .ensures i ∷ c .before .before .before .before .before .before .before .before .before .before .before .masked6 .ensures i ∷ c .before .before .before .before .before .before .before .before .before .before .masked7 .ensures i ∷ c .before .before .before .before .before .before .before .before .before .masked8 .ensures i ∷ c .before .before .before .before .before .before .before .before .masked9 .ensures i ∷ c .before .before .before .before .before .before .before .masked10 .ensures i ∷ c .before .before .before .before .before .before .masked11 .ensures i ∷ c .before .before .before .before .masked12 .ensures i ∷ c .before .before .before .masked13 .ensures i ∷ c .before .before .masked14 .ensures i ∷ c .before .masked15 .ensures i ∷ (c .masked16 .ensures ∙ ap (λ (x : ℕ). masked 0x12 x 0x08) (c .before .before .before .before .before .before .before .before .before .before .before .before .before .before .before .before .before .before .before .whole-only .ensures)) i ∷ []
+returns c = λ i. c .before .before .before .before .before .before .before .before .before .before .before .before .before .before .before .before .masked .ensures i ∷ (c .before .before .before .before .before .before .before .before .before .before .before .before .before .before .before .masked2 .ensures ∙ ap (λ (x : ℕ). masked 0x17 x 0x08) (c .before .before .before .before .before .before .before .before .before .before .before .before .before .before .before .before .before .before .before .before .opendrain-for .ensures)) i ∷ c .before .before .before .before .before .before .before .before .before .before .before .before .before .before .masked3 .ensures i ∷ c .before .before .before .before .before .before .before .before .before .before .before .before .before .masked4 .ensures i ∷ c .before .before .before .before .before .before .before .before .before .before .before .before .masked5 .ensures i ∷ c .before .before .before .before .before .before .before .before .before .before .before .masked6 .ensures i ∷ c .before .before .before .before .before .before .before .before .before .before .masked7 .ensures i ∷ c .before .before .before .before .before .before .before .before .before .masked8 .ensures i ∷ c .before .before .before .before .before .before .before .before .masked9 .ensures i ∷ c .before .before .before .before .before .before .before .masked10 .ensures i ∷ c .before .before .before .before .before .before .masked11 .ensures i ∷ c .before .before .before .before .masked12 .ensures i ∷ c .before .before .before .masked13 .ensures i ∷ c .before .before .masked14 .ensures i ∷ c .before .masked15 .ensures i ∷ (c .masked16 .ensures ∙ ap (λ (x : ℕ). masked 0x12 x 0x08) (c .before .before .before .before .before .before .before .before .before .before .before .before .before .before .before .before .before .before .before .whole-only .ensures)) i ∷ []
 
 pub tune-updates-spec : {M : Type 1} → statement M
-tune-updates-spec = tie.close (tie.spec drained-requires whole-only-requires cast-high cast-low masked-requires masked-requires-2 masked-requires-3 masked-requires-4 masked-requires-5 masked-requires-6 masked-requires-7 masked-requires-8 masked-requires-9 masked-requires-10 masked-requires-11 mul-masked masked-requires-12 masked-requires-13 masked-requires-14 masked-requires-15 masked-requires-16 returns)
+tune-updates-spec = tie.close (tie.spec opendrain-for-requires whole-only-requires cast-high cast-low masked-requires masked-requires-2 masked-requires-3 masked-requires-4 masked-requires-5 masked-requires-6 masked-requires-7 masked-requires-8 masked-requires-9 masked-requires-10 masked-requires-11 mul-masked masked-requires-12 masked-requires-13 masked-requires-14 masked-requires-15 masked-requires-16 returns)

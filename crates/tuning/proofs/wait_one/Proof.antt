@@ -1,6 +1,6 @@
 -- `tuning::wait_one` meets its contract: the wait over the log, at any chip, and its end. Assumes nothing.
 use native.Mathlib.Omega.{arith}
-use Rattle.chip.specs.Steps.{inRoom}
+use Rattle.chip.specs.InCode.{inRoom}
 use Rattle.chip.proofs.Laws.{by-entry, ended-here}
 use borrow.Author.Needs.{needs}
 use Rattle.tuning.proofs.wait_one.Statement.{statement}

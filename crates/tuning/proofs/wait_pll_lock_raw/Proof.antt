@@ -5,7 +5,8 @@ use Prim.Native.Nat.{_+_, _*_, _-_, _≤_, min}
 use lib.ListN.{length}
 use denote.Ref.{now}
 use Rattle.chip.specs.Chips.{chipOf}
-use Rattle.chip.specs.Steps.{closing, due, goes, inRoom, onLog, run}
+use Rattle.chip.specs.InCode.{closing, inRoom, onLog}
+use Rattle.chip.specs.Steps.{closingOwed, goes, run}
 use Rattle.chip.proofs.Laws.{closing-closing, closing-going, stop}
 use Rattle.tuning.specs.Tries.{triesFrom}
 use Rattle.tuning.proofs.Turns.{cut-try, end-try, lock-try, next-try}
@@ -15,7 +16,7 @@ use Rattle.tuning.proofs.wait_pll_lock_raw.Statement.{statement}
 use Rattle.tuning.proofs.wait_pll_lock_raw.Tie as tie
 
 abbrev Inv-loop : tie.InvT-loop
-Inv-loop address shadow₀ doubtful₀ outcomes replies room₀ l₀ i₀ shadow doubtful room l i = (i ≤ 10) × ((length room ≡ length room₀) × ((l .count + due (l .held) ≤ l₀ .count + (3 * i + min i 1) + due (l₀ .held)) × ((closing inRoom outcomes (onLog (chipOf address shadow doubtful) l room) ≡ onLog (chipOf address shadow doubtful) l room) × (closing inRoom outcomes (run inRoom outcomes (triesFrom address replies (10 - i) i) (onLog (chipOf address shadow doubtful) l room)) ≡ closing inRoom outcomes (run inRoom outcomes (triesFrom address replies 10 0) (onLog (chipOf address shadow₀ doubtful₀) l₀ room₀))))))
+Inv-loop address shadow₀ doubtful₀ outcomes replies room₀ l₀ i₀ shadow doubtful room l i = (i ≤ 10) × ((length room ≡ length room₀) × ((l .count + closingOwed (l .opened) ≤ l₀ .count + (3 * i + min i 1) + closingOwed (l₀ .opened)) × ((closing inRoom outcomes (onLog (chipOf address shadow doubtful) l room) ≡ onLog (chipOf address shadow doubtful) l room) × (closing inRoom outcomes (run inRoom outcomes (triesFrom address replies (10 - i) i) (onLog (chipOf address shadow doubtful) l room)) ≡ closing inRoom outcomes (run inRoom outcomes (triesFrom address replies 10 0) (onLog (chipOf address shadow₀ doubtful₀) l₀ room₀))))))
 
 abbrev μ-loop : tie.MeasureT-loop
 μ-loop address shadow₀ doubtful₀ outcomes replies room₀ l₀ i₀ shadow doubtful room l i = 10 - i

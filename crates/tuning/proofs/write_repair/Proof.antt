@@ -1,7 +1,8 @@
 -- `tuning::write_repair` meets its contract: the one write, or none. Assumes nothing.
 use mathlib.Core.Path.{ap}
 use native.Mathlib.Omega.{arith}
-use Rattle.chip.specs.Steps.{inRange, inRoom}
+use Rattle.chip.specs.InCode.{inRoom}
+use Rattle.chip.specs.Steps.{inRange}
 use Rattle.chip.proofs.Laws.{swap}
 use Rattle.tuning.proofs.Turns.{fix-made, no-fix}
 use borrow.Author.Needs.{needs}

@@ -1,7 +1,8 @@
 -- `writes::gain_steps` meets its contract: an opening, the five writes and a closing, over the chip's lists. Assumes nothing.
 use mathlib.Core.Path.{ap, _∙_}
 use native.Mathlib.Omega.{arith}
-use Rattle.chip.specs.Steps.{goes, inRoom, updateStep, updates}
+use Rattle.chip.specs.InCode.{inRoom}
+use Rattle.chip.specs.Steps.{goes, updateStep, updates}
 use Rattle.chip.proofs.Laws.{bracketed, unopened}
 use Rattle.chip.proofs.Lists.{every-inner, inner-update}
 use Rattle.writes.specs.Lists.{gainUpdates}

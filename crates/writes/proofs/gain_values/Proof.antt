@@ -1,8 +1,9 @@
 -- `writes::gain_values` meets its contract. Its steps one after the other, each looked at. Assumes nothing.
 use mathlib.Core.Path.{refl, ap}
 use native.Mathlib.Omega.{arith}
-use Rattle.chip.specs.Steps.{every, goes, inRange, inRoom}
-use Rattle.chip.proofs.Laws.{cut-here, ended-here, went-on}
+use Rattle.chip.specs.InCode.{inRoom}
+use Rattle.chip.specs.Steps.{every, goes, inRange}
+use Rattle.chip.proofs.Laws.{cut-here, ended-here, progress-on}
 use Rattle.chip.proofs.Lists.{by-masked}
 use borrow.Author.Needs.{needs}
 use Rattle.writes.proofs.gain_values.Statement.{statement}
@@ -50,7 +51,7 @@ same-length-2 c = search needs
 
 returns-2 : tie.Need-returns-2
 unfolding every
-returns-2 c = (went-on inRoom _ _ _ _ _ _ (by-masked inRoom _ _ _ _ _ (c .before .before .before .before .before .before .before .before .before .before .before .before .before .before .before .before .before .before .before .before .before .masked .ensures) (c .before .before .before .before .before .before .before .before .before .before .before .before .before .before .before .before .before .write-reg-mask-raw .ensures .0)) (cut-here inRoom _ _ _ _ _ _ (by-masked inRoom _ _ _ _ _ (c .before .before .before .before .before .before .before .before .before .before .before .before .masked2 .ensures) (c .before .before .before .before .before .before .before .before .write-reg-mask-raw2 .ensures .0)) (ap goes (c .before .before .before .before .enum-told4 .given .1)) refl (c .before .before .log-close2 .ensures .0 _)), omega (arith, c .before .before .before .before .before .before .before .before .before .before .before .before .before .before .before .before .before .write-reg-mask-raw .ensures .1, c .before .before .before .before .before .before .before .before .before .before .before .before .before .before .before .before .before .write-reg-mask-raw .kept, c .before .before .before .before .before .before .before .before .write-reg-mask-raw2 .ensures .1, c .before .before .before .before .before .before .before .before .write-reg-mask-raw2 .kept, c .before .before .log-close2 .ensures .1, c .before .before .log-close2 .kept, c .before .before .before .before .before .before .before .before .before .before .before .before .before .before .before .before .before .before .before .before .before .before .before .before .pre))
+returns-2 c = (progress-on inRoom _ _ _ _ _ _ (by-masked inRoom _ _ _ _ _ (c .before .before .before .before .before .before .before .before .before .before .before .before .before .before .before .before .before .before .before .before .before .masked .ensures) (c .before .before .before .before .before .before .before .before .before .before .before .before .before .before .before .before .before .write-reg-mask-raw .ensures .0)) (cut-here inRoom _ _ _ _ _ _ (by-masked inRoom _ _ _ _ _ (c .before .before .before .before .before .before .before .before .before .before .before .before .masked2 .ensures) (c .before .before .before .before .before .before .before .before .write-reg-mask-raw2 .ensures .0)) (ap goes (c .before .before .before .before .enum-told4 .given .1)) refl (c .before .before .log-close2 .ensures .0 _)), omega (arith, c .before .before .before .before .before .before .before .before .before .before .before .before .before .before .before .before .before .write-reg-mask-raw .ensures .1, c .before .before .before .before .before .before .before .before .before .before .before .before .before .before .before .before .before .write-reg-mask-raw .kept, c .before .before .before .before .before .before .before .before .write-reg-mask-raw2 .ensures .1, c .before .before .before .before .before .before .before .before .write-reg-mask-raw2 .kept, c .before .before .log-close2 .ensures .1, c .before .before .log-close2 .kept, c .before .before .before .before .before .before .before .before .before .before .before .before .before .before .before .before .before .before .before .before .before .before .before .before .pre))
 
 masked-requires-3 : tie.Need-masked-requires-3
 masked-requires-3 c κs = search needs
@@ -65,7 +66,7 @@ same-length-3 : tie.Need-same-length-3
 same-length-3 c = omega (arith, c .before .before .before .before .before .before .before .before .before .before .before .before .before .before .before .before .before .before .before .before .before .before .before .before .write-reg-mask-raw .kept, c .before .before .before .before .before .before .before .before .before .before .before .before .before .before .before .write-reg-mask-raw2 .kept, c .before .before .before .before .before .before .write-reg-mask-raw3 .kept, c .before .before .log-end .kept)
 
 returns-3 : tie.Need-returns-3
-returns-3 c = (went-on inRoom _ _ _ _ _ _ (by-masked inRoom _ _ _ _ _ (c .before .before .before .before .before .before .before .before .before .before .before .before .before .before .before .before .before .before .before .before .before .before .before .before .before .before .before .before .masked .ensures) (c .before .before .before .before .before .before .before .before .before .before .before .before .before .before .before .before .before .before .before .before .before .before .before .before .write-reg-mask-raw .ensures .0)) (went-on inRoom _ _ _ _ _ _ (by-masked inRoom _ _ _ _ _ (c .before .before .before .before .before .before .before .before .before .before .before .before .before .before .before .before .before .before .before .masked2 .ensures) (c .before .before .before .before .before .before .before .before .before .before .before .before .before .before .before .write-reg-mask-raw2 .ensures .0)) (ended-here inRoom _ _ _ _ _ (by-masked inRoom _ _ _ _ _ (c .before .before .before .before .before .before .before .before .before .before .masked3 .ensures) (c .before .before .before .before .before .before .write-reg-mask-raw3 .ensures .0)) (c .before .before .log-end .ensures .0 _))), omega (arith, c .before .before .before .before .before .before .before .before .before .before .before .before .before .before .before .before .before .before .before .before .before .before .before .before .write-reg-mask-raw .ensures .1, c .before .before .before .before .before .before .before .before .before .before .before .before .before .before .before .before .before .before .before .before .before .before .before .before .write-reg-mask-raw .kept, c .before .before .before .before .before .before .before .before .before .before .before .before .before .before .before .write-reg-mask-raw2 .ensures .1, c .before .before .before .before .before .before .before .before .before .before .before .before .before .before .before .write-reg-mask-raw2 .kept, c .before .before .before .before .before .before .write-reg-mask-raw3 .ensures .1, c .before .before .before .before .before .before .write-reg-mask-raw3 .kept, c .before .before .log-end .ensures .1, c .before .before .log-end .kept, c .before .before .before .before .before .before .before .before .before .before .before .before .before .before .before .before .before .before .before .before .before .before .before .before .before .before .before .before .before .before .before .pre))
+returns-3 c = (progress-on inRoom _ _ _ _ _ _ (by-masked inRoom _ _ _ _ _ (c .before .before .before .before .before .before .before .before .before .before .before .before .before .before .before .before .before .before .before .before .before .before .before .before .before .before .before .before .masked .ensures) (c .before .before .before .before .before .before .before .before .before .before .before .before .before .before .before .before .before .before .before .before .before .before .before .before .write-reg-mask-raw .ensures .0)) (progress-on inRoom _ _ _ _ _ _ (by-masked inRoom _ _ _ _ _ (c .before .before .before .before .before .before .before .before .before .before .before .before .before .before .before .before .before .before .before .masked2 .ensures) (c .before .before .before .before .before .before .before .before .before .before .before .before .before .before .before .write-reg-mask-raw2 .ensures .0)) (ended-here inRoom _ _ _ _ _ (by-masked inRoom _ _ _ _ _ (c .before .before .before .before .before .before .before .before .before .before .masked3 .ensures) (c .before .before .before .before .before .before .write-reg-mask-raw3 .ensures .0)) (c .before .before .log-end .ensures .0 _))), omega (arith, c .before .before .before .before .before .before .before .before .before .before .before .before .before .before .before .before .before .before .before .before .before .before .before .before .write-reg-mask-raw .ensures .1, c .before .before .before .before .before .before .before .before .before .before .before .before .before .before .before .before .before .before .before .before .before .before .before .before .write-reg-mask-raw .kept, c .before .before .before .before .before .before .before .before .before .before .before .before .before .before .before .write-reg-mask-raw2 .ensures .1, c .before .before .before .before .before .before .before .before .before .before .before .before .before .before .before .write-reg-mask-raw2 .kept, c .before .before .before .before .before .before .write-reg-mask-raw3 .ensures .1, c .before .before .before .before .before .before .write-reg-mask-raw3 .kept, c .before .before .log-end .ensures .1, c .before .before .log-end .kept, c .before .before .before .before .before .before .before .before .before .before .before .before .before .before .before .before .before .before .before .before .before .before .before .before .before .before .before .before .before .before .before .pre))
 
 pub gain-values-spec : {M : Type 1} → statement M
 gain-values-spec = tie.close (tie.spec masked-requires write-reg-mask-raw-requires enum-told enum-told-2 log-close-requires same-length returns masked-requires-2 write-reg-mask-raw-requires-2 enum-told-3 enum-told-4 log-close-requires-2 same-length-2 returns-2 masked-requires-3 write-reg-mask-raw-requires-3 log-end-requires same-length-3 returns-3)

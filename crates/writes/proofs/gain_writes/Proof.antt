@@ -1,7 +1,8 @@
 -- `writes::gain_writes` meets its contract: two programs, one after the other. Assumes nothing.
 use mathlib.Core.Path.{refl, ap}
 use native.Mathlib.Omega.{arith}
-use Rattle.chip.specs.Steps.{every, inRoom, updates}
+use Rattle.chip.specs.InCode.{inRoom}
+use Rattle.chip.specs.Steps.{every, updates}
 use Rattle.chip.proofs.Laws.{parts, swap}
 use Rattle.gain.specs.declared.GainEntry.{GainEntry}
 use Rattle.gain.specs.Table.{entryAt}

@@ -1,5 +1,5 @@
 -- `writes::init_updates` meets its contract: row by row. Assumes nothing.
-use Rattle.chip.specs.Steps.{listed}
+use Rattle.chip.specs.InCode.{listed}
 use mathlib.Core.List.{[], _∷_}
 use borrow.Author.Needs.{needs}
 use Rattle.writes.proofs.init_updates.Statement.{statement}

@@ -1,7 +1,7 @@
 -- `writes::path_updates` meets its contract. Each return is one law of the definition, with what the calls before it ensure. Assumes nothing.
 use mathlib.Core.Path.{sym, ap, _∙_}
 use Rattle.board.specs.declared.Path.{Path}
-use Rattle.chip.specs.Steps.{listed}
+use Rattle.chip.specs.InCode.{listed}
 use Rattle.chip.proofs.Lists.{two-made}
 use Rattle.writes.specs.Lists.{pathUpdates}
 use borrow.Author.Needs.{needs}

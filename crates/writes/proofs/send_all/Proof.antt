@@ -1,6 +1,7 @@
 -- `writes::send_all` meets its contract. Each return is one law of the definition, with what the calls before it ensure. Assumes nothing.
 use native.Mathlib.Omega.{arith}
-use Rattle.chip.specs.Steps.{inRoom, tunerWrite}
+use Rattle.chip.specs.InCode.{inRoom}
+use Rattle.chip.specs.Steps.{tunerWrite}
 use Rattle.chip.proofs.Laws.{then}
 use borrow.Author.Needs.{needs}
 use Rattle.writes.proofs.send_all.Statement.{statement}

@@ -3,7 +3,8 @@ use Prim.Native.Nat.{ℕ}
 use mathlib.Core.Path.{_≡_, ap, _∙_}
 use mathlib.Core.List.{[], _∷_}
 use native.Mathlib.Omega.{arith}
-use Rattle.chip.specs.Steps.{goes, inRange, inRoom, masked, updateStep, updates}
+use Rattle.chip.specs.InCode.{inRoom}
+use Rattle.chip.specs.Steps.{goes, inRange, masked, updateStep, updates}
 use Rattle.chip.proofs.Laws.{bracketed, swap, unopened}
 use Rattle.chip.proofs.Lists.{every-inner, inner-update}
 use Rattle.writes.specs.Lists.{bandwidthUpdates}

@@ -1,6 +1,6 @@
 -- `r82xx::Tuner::get_gain` meets its contract. Each return is one law of the definition, with what the calls before it ensure. Assumes nothing.
 use mathlib.Core.Path.{ap, _∙_}
-use Rattle.r82xx.specs.Calls.{soundAnswer}
+use Rattle.r82xx.specs.InCode.{soundAnswer}
 use Rattle.r82xx.proofs.Tuned.{gain-told}
 use borrow.Author.Needs.{needs}
 use Rattle.r82xx.proofs.Tuner.get_gain.Statement.{statement}

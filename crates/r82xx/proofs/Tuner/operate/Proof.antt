@@ -7,7 +7,8 @@ use Rattle.chip.proofs.Refusals.{taken-by}
 use Rattle.r82xx.proofs.Whole.{bracket-eight, perform-by, refuse-by, same-ended}
 use denote.Ref.{now}
 use lib.ListN.{length}
-use Rattle.chip.specs.Steps.{Line, Logged, behind, meantOf, updates}
+use Rattle.chip.specs.InCode.{Logged, meantOf}
+use Rattle.chip.specs.Steps.{Line, whileOpen, updates}
 use Rattle.r82xx.specs.Orders.{bracket}
 use Rattle.chip.specs.Courses.{leftBy}
 use borrow.Author.Needs.{needs}
@@ -38,7 +39,7 @@ same-length c = search needs
 
 returns-2 : tie.Need-returns-2
 unfolding leftBy bracket
-returns-2 c = let us = meantOf (c .before .before .before .before .before .before .before .before .before .before .before .before .before .before .before .args .us) in let next = c .before .before .before .before .before .before .before .before .before .before .before .before .before .before .before .args .next in perform-by _ _ _ _ (behind (updates us)) _ _ (λ (w : Line Logged). endedBy next next (w .went) (w .chip)) _ _ _ (c .before .before .before .before .before .before .before .with-repeater .result) _ _ _ (c .before .before .before .before .before .before .before .before .before .before .before .refusal .ensures) (c .before .before .before .before .before .before .before .before .before .before .if1 .left) (bracket-eight us) (c .before .before .before .before .before .before .before .with-repeater .ensures .0) (c .before .before .before .finish .ensures .1) (c .before .before .before .finish .ensures .0) (same-ended next (c .before .before .before .before .before .before .before .with-repeater .result .log .went) (c .before .before .before .before .before .before .before .with-repeater .result .chip)) refl
+returns-2 c = let us = meantOf (c .before .before .before .before .before .before .before .before .before .before .before .before .before .before .before .args .us) in let next = c .before .before .before .before .before .before .before .before .before .before .before .before .before .before .before .args .next in perform-by _ _ _ _ (whileOpen (updates us)) _ _ (λ (w : Line Logged). endedBy next next (w .progress) (w .chip)) _ _ _ (c .before .before .before .before .before .before .before .with-repeater .result) _ _ _ (c .before .before .before .before .before .before .before .before .before .before .before .refusal .ensures) (c .before .before .before .before .before .before .before .before .before .before .if1 .left) (bracket-eight us) (c .before .before .before .before .before .before .before .with-repeater .ensures .0) (c .before .before .before .finish .ensures .1) (c .before .before .before .finish .ensures .0) (same-ended next (c .before .before .before .before .before .before .before .with-repeater .result .log .progress) (c .before .before .before .before .before .before .before .with-repeater .result .chip)) refl
 
 pub operate-spec : {M : Type 1} → statement M
 operate-spec = tie.close (tie.spec add-refusal refusal-requires refused-requires returns with-repeater-requires finish-requires same-length returns-2)

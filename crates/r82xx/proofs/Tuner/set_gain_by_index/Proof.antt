@@ -3,7 +3,8 @@ use mathlib.Core.Path.{refl, sym, _∙_}
 use native.Mathlib.Omega.{arith}
 use denote.Ref.{now}
 use lib.ListN.{length}
-use Rattle.chip.specs.Steps.{Line, Logged, behind, updates}
+use Rattle.chip.specs.InCode.{Logged}
+use Rattle.chip.specs.Steps.{Line, whileOpen, updates}
 use Rattle.writes.specs.Lists.{gainUpdates}
 use Rattle.r82xx.specs.Record.{endedBy, sound, withGain}
 use Rattle.chip.proofs.Refusals.{taken-by}
@@ -51,7 +52,7 @@ same-length c = search needs
 
 returns-2 : tie.Need-returns-2
 unfolding resultOf leftBy bracket
-returns-2 c = let t = c .before .before .before .before .before .before .before .before .before .before .before .before .before .before .before .before .before .before .before .args .self in let k = c .before .before .before .before .before .before .before .before .before .before .before .before .before .before .before .before .choose-index .result in let actual = c .before .before .before .before .before .before .before .before .before .before .before .before .before .gain-at .result in at-step _ _ _ _ _ _ (c .before .before .before .before .before .before .before .before .before .before .before .before .before .before .before .before .choose-index .ensures) (step-by k _ _ (gainUpdates k) (now (c .before .before .before .before .before .before .before .before .before .before .before .before .before .before .before .before .before .before .before .args .outcomes)) t (now (c .before .before .before .before .before .before .before .before .before .before .before .before .before .before .before .before .before .before .before .args .room)) _ refl (c .before .before .before .before .before .before .before .before .before .before .before .before .before .gain-at .ensures) (c .before .before .before .before .before .before .before .before .before .before .before .before .bits-of .ensures) (perform-by _ _ _ _ (behind (updates (gainUpdates k))) _ _ (λ (w : Line Logged). endedBy t (withGain t actual) (w .went) (w .chip)) _ _ _ (c .before .before .before .before .before .before .before .before .before .gain-steps .result) _ _ _ (c .before .before .before .before .before .before .before .before .before .before .before .before .before .before .before .refusal .ensures) (c .before .before .before .before .before .before .before .before .before .before .before .before .before .before .if1 .left) (bracket-eight (gainUpdates k)) (c .before .before .before .before .before .before .before .before .before .gain-steps .ensures .0) (c .before .before .before .before .before .finish .ensures .1) (c .before .before .before .before .before .finish .ensures .0) (gain-kept t actual (c .kept-gain .result) (c .before .before .before .before .before .before .before .before .before .gain-steps .result .log .went) (c .before .before .before .before .before .before .before .before .before .gain-steps .result .chip) (c .kept-gain .ensures)) refl))
+returns-2 c = let t = c .before .before .before .before .before .before .before .before .before .before .before .before .before .before .before .before .before .before .before .args .self in let k = c .before .before .before .before .before .before .before .before .before .before .before .before .before .before .before .before .choose-index .result in let actual = c .before .before .before .before .before .before .before .before .before .before .before .before .before .gain-at .result in at-step _ _ _ _ _ _ (c .before .before .before .before .before .before .before .before .before .before .before .before .before .before .before .before .choose-index .ensures) (step-by k _ _ (gainUpdates k) (now (c .before .before .before .before .before .before .before .before .before .before .before .before .before .before .before .before .before .before .before .args .outcomes)) t (now (c .before .before .before .before .before .before .before .before .before .before .before .before .before .before .before .before .before .before .before .args .room)) _ refl (c .before .before .before .before .before .before .before .before .before .before .before .before .before .gain-at .ensures) (c .before .before .before .before .before .before .before .before .before .before .before .before .bits-of .ensures) (perform-by _ _ _ _ (whileOpen (updates (gainUpdates k))) _ _ (λ (w : Line Logged). endedBy t (withGain t actual) (w .progress) (w .chip)) _ _ _ (c .before .before .before .before .before .before .before .before .before .gain-steps .result) _ _ _ (c .before .before .before .before .before .before .before .before .before .before .before .before .before .before .before .refusal .ensures) (c .before .before .before .before .before .before .before .before .before .before .before .before .before .before .if1 .left) (bracket-eight (gainUpdates k)) (c .before .before .before .before .before .before .before .before .before .gain-steps .ensures .0) (c .before .before .before .before .before .finish .ensures .1) (c .before .before .before .before .before .finish .ensures .0) (gain-kept t actual (c .kept-gain .result) (c .before .before .before .before .before .before .before .before .before .gain-steps .result .log .progress) (c .before .before .before .before .before .before .before .before .before .gain-steps .result .chip) (c .kept-gain .ensures)) refl))
 
 pub set-gain-by-index-spec : {M : Type 1} → statement M
 set-gain-by-index-spec = tie.close (tie.spec choose-index-requires refusal-requires refused-requires returns gain-at-requires bits-of-requires gain-steps-requires cast-t24 finish-requires kept-gain-requires same-length returns-2)
