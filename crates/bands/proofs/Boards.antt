@@ -140,7 +140,13 @@ module _ (b : Band) (h : fine b ≡ true) (hz : ℕ) (from : b .first ≤ hz) (t
 
   notch : inNotch hz ≡ inNotch (b .first)
   notch =
-      rw (same-to b hz from to 2_200_000 (edge 2 (omega arith)), same-from b hz from to 85_000_000 (edge 3 (omega arith)), same-to b hz from to 112_000_000 (edge 4 (omega arith)), same-from b hz from to 172_000_000 (edge 5 (omega arith)), same-to b hz from to 242_000_000 (edge 6 (omega arith)))
+      rw (
+        same-to b hz from to 2_200_000 (edge 2 (omega arith)),
+        same-from b hz from to 85_000_000 (edge 3 (omega arith)),
+        same-to b hz from to 112_000_000 (edge 4 (omega arith)),
+        same-from b hz from to 172_000_000 (edge 5 (omega arith)),
+        same-to b hz from to 242_000_000 (edge 6 (omega arith)),
+      )
 
   -- what the band's numbers are
   numbers : (b .shift ≡ cond (below-up hz) 28_800_000 0) × (b .inverted ≡ bit (below-up hz)) × (b .path ≡ pathNumber (pathAt hz)) × (b .notch ≡ bit (inNotch hz))

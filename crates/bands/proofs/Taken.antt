@@ -81,7 +81,8 @@ ascending-made least [] each apart above = refl
 ascending-made least (b ∷ bs) each apart above =
     let here : least ≤ b .first = above (omega arith) in
     rw (good-fits b (each 0 (omega arith)), le-leb least (b .first) here)
-    (ascending-made (suc (b .last)) bs (λ i l. each (suc i) (omega (arith, l))) (λ i j l m. apart (suc i) (suc j) (omega (arith, l)) (omega (arith, m))) (λ l. apart 0 1 (omega arith) (omega (arith, l))))
+    (ascending-made (suc (b .last)) bs (λ i l. each (suc i) (omega (arith, l))) (λ i j l m. apart (suc i) (suc j) (omega (arith, l)) (omega (arith, m)))
+    (λ l. apart 0 1 (omega arith) (omega (arith, l))))
 
 pub formed-taken : (s : List ℕ) (bs : List Band) → Formed s bs → tableOk s ≡ true
 unfolding tableOk

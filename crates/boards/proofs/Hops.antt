@@ -129,10 +129,13 @@ hop-by os rs room hz t d later p by f mid after answer whole lock k w q a l hear
     let seen : f .log .lock ≡ lockTriesIn (tr .log) = ap (λ (x : Line Logged). x .log .lock) all ∙ seen-in (tr .log) (omega arith) in
     let chip : f .chip ≡ tr .chip = ap (λ (x : Line Logged). x .chip) all in
     let told : answer ≡ answerOf (tuneAnswer by hz) (f .log .progress) = a ∙ ap (λ (x : Answer). answerOf x (f .log .progress)) w in
-    let progress : answerOf (tuneAnswer by hz) (f .log .progress) ≡ answerOf (tuneAnswer by hz) (tr .progress) = ap (λ (x : Line Logged). answerOf (tuneAnswer by hz) (x .progress)) all in
+    let progress : answerOf (tuneAnswer by hz) (f .log .progress) ≡ answerOf (tuneAnswer by hz) (tr .progress) =
+    ap (λ (x : Line Logged). answerOf (tuneAnswer by hz) (x .progress)) all in
     let same : both (withLock (withChip (withNotch t (p .notch)) (f .chip)) lock) later ≡ hopKept t d p (tuneAnswer by hz) hz tr =
-    λ i. both (withLock (withChip (withNotch t (p .notch)) (chip i)) ((l ∙ ap (λ (s : LockTries). lockBy s (t .lock)) seen) i)) ((heard ∙ ap (heardBy d hz) (told ∙ progress)) i) in (
-      handed os room ss (t .chip) (hopKept t d p (tuneAnswer by hz) hz) (tuneAnswer by hz) (both (withLock (withChip (withNotch t (p .notch)) (f .chip)) lock) later) f mid after answer eights k q told same,
+    λ i. both (withLock (withChip (withNotch t (p .notch)) (chip i)) ((l ∙ ap (λ (s : LockTries). lockBy s (t .lock)) seen) i))
+    ((heard ∙ ap (heardBy d hz) (told ∙ progress)) i) in (
+      handed os room ss (t .chip) (hopKept t d p (tuneAnswer by hz) hz) (tuneAnswer by hz)
+          (both (withLock (withChip (withNotch t (p .notch)) (f .chip)) lock) later) f mid after answer eights k q told same,
       seen,
     )
 

@@ -167,7 +167,9 @@ slot-long ok number slot next z = go ok (eqb number 0) refl (ltb slot 29) refl (
 module _ (d : Driver) (r : RangedDriver d) (t : Tuner) (c : Called Both) (s : Settled Heard (both t d) c) (few : c .count ≤ 64) (room slot next : List ℕ) where
   -- turned away, or made, as crate drivers decides it
   kept-both : (n : ℕ) → (eqb n 0 ≡ true → 29 ≤ length slot)
-      → Kept (taking29 (unlessRefused n (λ m. ratesRefused m room slot next) (ratesMade c slot next) .answer) (unlessRefused n (λ m. ratesRefused m room slot next) (ratesMade c slot next) .driver) (driverBytes d))
+      → Kept
+      (taking29 (unlessRefused n (λ m. ratesRefused m room slot next) (ratesMade c slot next) .answer)
+      (unlessRefused n (λ m. ratesRefused m room slot next) (ratesMade c slot next) .driver) (driverBytes d))
   unfolding unlessRefused nextOf image
   kept-both n long = go (eqb n 0) refl
     where

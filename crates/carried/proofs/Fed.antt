@@ -145,7 +145,9 @@ module _ (b : List ℕ) (es : List Entry) (c : Carried b es) (table rs os d room
         let is = over-is table rs os d b room driver-bytes good whole x o row known taken in
         let run = by-tuner table rs os d b room driver-bytes good whole x o row known taken none x refl b refl (a .answer) (a .room) (a .next) refl (tunedOf (a .answer) noTries) refl in
         let there : byAfter a b .bytes ≡ a .next =
-        ap (λ (z : After). byAfter z b .bytes) is ∙ taken-there (left table rs os d b room driver-bytes good whole x o row known taken) b (few-of o h) (long b es c) ∙ sym (ap (λ (z : After). z .next) is) in
+        ap (λ (z : After). byAfter z b .bytes) is
+        ∙ taken-there (left table rs os d b room driver-bytes good whole x o row known taken) b (few-of o h) (long b es c)
+        ∙ sym (ap (λ (z : After). z .next) is) in
         subst (Goes es) run
         (subst (λ (bs : List ℕ). Carried bs (es ++ readBy (a .answer) (a .room))) there
         (subst (λ (z : Left). Carried (z .bytes) (es ++ readBy (z .reply) (z .room))) l (next b es c (lent (Own o) os room b) h)))
@@ -160,7 +162,9 @@ module _ (b : List ℕ) (es : List Entry) (c : Carried b es) (table rs os d room
         let is = over-is table rs os d b room driver-bytes good whole (Frequency hz) o refl refl refl in
         let run = by-tuning table rs os d b room driver-bytes good whole hz (Frequency hz) refl b refl (v .answer) (v .room) (v .next) refl in
         let there : byAfter a b .bytes ≡ a .next =
-        ap (λ (z : After). byAfter z b .bytes) is ∙ taken-there (left table rs os d b room driver-bytes good whole (Frequency hz) o refl refl refl) b (few-of o replies) (long b es c) ∙ sym (ap (λ (z : After). z .next) is) in
+        ap (λ (z : After). byAfter z b .bytes) is
+        ∙ taken-there (left table rs os d b room driver-bytes good whole (Frequency hz) o refl refl refl) b (few-of o replies) (long b es c)
+        ∙ sym (ap (λ (z : After). z .next) is) in
         subst (Goes es) run
         (subst (λ (bs : List ℕ). Carried bs (es ++ readBy (a .answer) (a .room))) there (next b es c (lent (Own o) os room b) replies))
 

@@ -87,18 +87,35 @@ worked-carried =
     (next first _ (between first _ (next new [] (fresh 1 0x74 28_800_000 (replicate 80 0xff) (omega arith) refl) tuning refl) pin refl) rating refl) hopping refl
 
 pub tuned : leaves tuning new .reply .refusal ≡ 0
-unfolding madeOf lentTo tunerBytes joined leBytes overTuning overTuner unlessRefused readyOf tunerOf isTuner tunerFits flagsOnly leValue leftBy callOf tooShort trace run step inVco firstMixer settingOf turnOf turnsOf planWith planOf innerSteps repairUpdates triesFrom replyBytes rangeOf lastAt reversed attemptedBy maskOf toBits ofBits
+unfolding madeOf lentTo tunerBytes joined leBytes overTuning overTuner unlessRefused readyOf tunerOf isTuner tunerFits
+    flagsOnly leValue leftBy callOf tooShort trace run step inVco firstMixer settingOf turnOf turnsOf planWith planOf
+    innerSteps repairUpdates triesFrom replyBytes rangeOf lastAt reversed attemptedBy maskOf toBits ofBits
 tuned = refl
 
 pub rated : leaves rating first .reply .refusal ≡ 0
-unfolding madeOf lentTo tunerBytes joined leBytes overTuning overTuner unlessRefused readyOf tunerOf isTuner tunerFits flagsOnly leValue leftBy callOf tooShort trace run step inVco firstMixer settingOf turnOf turnsOf planWith planOf innerSteps repairUpdates triesFrom replyBytes rangeOf lastAt reversed attemptedBy maskOf resultOf nextOf lockTriesOver overBoth bothReady driverOf isDriver driverFits driverBytes rateResult xtalBy correctedOf ratioHolds rateNumber resetSteps rateSteps ifSteps ddcSteps accessStep planBy tableOk ascending bandsIn planIn triesIn lockedIn toBits ofBits
+unfolding madeOf lentTo tunerBytes joined leBytes overTuning overTuner unlessRefused readyOf tunerOf isTuner tunerFits
+    flagsOnly leValue leftBy callOf tooShort trace run step inVco firstMixer settingOf turnOf turnsOf planWith planOf
+    innerSteps repairUpdates triesFrom replyBytes rangeOf lastAt reversed attemptedBy maskOf resultOf nextOf
+    lockTriesOver overBoth bothReady driverOf isDriver driverFits driverBytes rateResult xtalBy correctedOf ratioHolds
+    rateNumber resetSteps rateSteps ifSteps ddcSteps accessStep planBy tableOk ascending bandsIn planIn triesIn lockedIn
+    toBits ofBits
 rated = refl
 
 -- entry 11 failed, which is no closing, and of the mux's registers 0x17 alone is in doubt
 pub hopped : (leaves hopping second .reply .refusal ≡ 11) × (leaves hopping second .reply .index ≡ 11)
-unfolding madeOf lentTo tunerBytes joined leBytes overTuning overTuner unlessRefused readyOf tunerOf isTuner tunerFits flagsOnly leValue leftBy callOf tooShort trace run step inVco firstMixer settingOf turnOf turnsOf planWith planOf innerSteps repairUpdates triesFrom replyBytes rangeOf lastAt reversed attemptedBy maskOf resultOf nextOf lockTriesOver overBoth bothReady driverOf isDriver driverFits driverBytes rateResult xtalBy correctedOf ratioHolds rateNumber resetSteps rateSteps ifSteps ddcSteps accessStep planBy tableOk ascending bandsIn planIn triesIn lockedIn hopResult lockTriesBoth bandOf planAt outputSteps bitSteps toBits ofBits
+unfolding madeOf lentTo tunerBytes joined leBytes overTuning overTuner unlessRefused readyOf tunerOf isTuner tunerFits
+    flagsOnly leValue leftBy callOf tooShort trace run step inVco firstMixer settingOf turnOf turnsOf planWith planOf
+    innerSteps repairUpdates triesFrom replyBytes rangeOf lastAt reversed attemptedBy maskOf resultOf nextOf
+    lockTriesOver overBoth bothReady driverOf isDriver driverFits driverBytes rateResult xtalBy correctedOf ratioHolds
+    rateNumber resetSteps rateSteps ifSteps ddcSteps accessStep planBy tableOk ascending bandsIn planIn triesIn lockedIn
+    hopResult lockTriesBoth bandOf planAt outputSteps bitSteps toBits ofBits
 hopped = (refl, refl)
 
 pub doubted : (getD third (51 + 18) 1 ≡ 1) × (getD third (51 + 21) 1 ≡ 0)
-unfolding madeOf lentTo tunerBytes joined leBytes overTuning overTuner unlessRefused readyOf tunerOf isTuner tunerFits flagsOnly leValue leftBy callOf tooShort trace run step inVco firstMixer settingOf turnOf turnsOf planWith planOf innerSteps repairUpdates triesFrom replyBytes rangeOf lastAt reversed attemptedBy maskOf resultOf nextOf lockTriesOver overBoth bothReady driverOf isDriver driverFits driverBytes rateResult xtalBy correctedOf ratioHolds rateNumber resetSteps rateSteps ifSteps ddcSteps accessStep planBy tableOk ascending bandsIn planIn triesIn lockedIn hopResult lockTriesBoth bandOf planAt outputSteps bitSteps toBits ofBits
+unfolding madeOf lentTo tunerBytes joined leBytes overTuning overTuner unlessRefused readyOf tunerOf isTuner tunerFits
+    flagsOnly leValue leftBy callOf tooShort trace run step inVco firstMixer settingOf turnOf turnsOf planWith planOf
+    innerSteps repairUpdates triesFrom replyBytes rangeOf lastAt reversed attemptedBy maskOf resultOf nextOf
+    lockTriesOver overBoth bothReady driverOf isDriver driverFits driverBytes rateResult xtalBy correctedOf ratioHolds
+    rateNumber resetSteps rateSteps ifSteps ddcSteps accessStep planBy tableOk ascending bandsIn planIn triesIn lockedIn
+    hopResult lockTriesBoth bandOf planAt outputSteps bitSteps toBits ofBits
 doubted = (refl, refl)

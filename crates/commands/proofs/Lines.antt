@@ -25,11 +25,14 @@ module _ (table : List ℕ) (lends : ℕ → Lends) where
   -- the exported call on the bytes of a stream that waits so
   call-by : (chunk : List ℕ) (w : Fed Records CommandResult) → length (w .pending) ≤ 8
       → feedsOf table lends chunk (lineOf w)
-      ≡ gottenOver (usedBy (w .pending) chunk) (gathered (w .pending) chunk) table (lends (w .number) .replies) (lends (w .number) .outcomes) (w .state .driver) (w .state .tuner) (lends (w .number) .room)
+      ≡ gottenOver (usedBy (w .pending) chunk) (gathered (w .pending) chunk) table (lends (w .number) .replies) (lends (w .number) .outcomes) (w .state .driver)
+      (w .state .tuner) (lends (w .number) .room)
   unfolding feedOver
   call-by chunk w h =
       rw (kept (w .pending) h)
-      (ap (λ (p : List ℕ). gottenOver (usedBy p chunk) (gathered p chunk) table (lends (w .number) .replies) (lends (w .number) .outcomes) (w .state .driver) (w .state .tuner) (lends (w .number) .room)) (back (w .pending)))
+      (ap
+      (λ (p : List ℕ). gottenOver (usedBy p chunk) (gathered p chunk) table (lends (w .number) .replies) (lends (w .number) .outcomes) (w .state .driver)
+      (w .state .tuner) (lends (w .number) .room)) (back (w .pending)))
 
   -- one call leaves the line as one call of the definition does, and uses as much of the chunk
   same-call : (chunk : List ℕ) (w : Fed Records CommandResult) → length (w .pending) ≤ 8
@@ -55,7 +58,9 @@ module _ (table : List ℕ) (lends : ℕ → Lends) where
       still : Feeds
       still = waitingBy u bytes (w .state .driver) (w .state .tuner) (l .room)
 
-      go : (b : Bool) → (afterCall (cond b (completedBy u ran) still) (lineOf w) ≡ lineOf (cond b (completed exec bytes w) (waiting exec bytes w))) × (cond b (completedBy u ran) still .answer .used ≡ u)
+      go : (b : Bool)
+          → (afterCall (cond b (completedBy u ran) still) (lineOf w) ≡ lineOf (cond b (completed exec bytes w) (waiting exec bytes w)))
+          × (cond b (completedBy u ran) still .answer .used ≡ u)
       go true = (refl, refl)
       go false = (ap (λ (n : ℕ). record { stream = streamBytes bytes; records = w .state; number = n; told = w .told }) (add-zero (w .number)), refl)
 
@@ -71,7 +76,9 @@ module _ (table : List ℕ) (lends : ℕ → Lends) where
       ((λ i. hostCalls table lends turns (drop (s .1 i) chunk) (s .0 i)) ∙ again)
     where
       go : (b : Bool)
-          → hostCalls table lends turns (drop (feedsOf table lends chunk (lineOf w) .answer .used) chunk) (afterCall (feedsOf table lends chunk (lineOf w)) (lineOf w)) ≡ lineOf (calls exec turns (drop (usedBy (w .pending) chunk) chunk) (callOnce exec chunk w))
+          → hostCalls table lends turns (drop (feedsOf table lends chunk (lineOf w) .answer .used) chunk)
+          (afterCall (feedsOf table lends chunk (lineOf w)) (lineOf w))
+          ≡ lineOf (calls exec turns (drop (usedBy (w .pending) chunk) chunk) (callOnce exec chunk w))
           → cond b (lineOf w) (hostCalls table lends turns (drop (feedsOf table lends chunk (lineOf w) .answer .used) chunk) (afterCall (feedsOf table lends chunk (lineOf w)) (lineOf w)))
           ≡ lineOf (cond b w (calls exec turns (drop (usedBy (w .pending) chunk) chunk) (callOnce exec chunk w)))
       go true e = refl

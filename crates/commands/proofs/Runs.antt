@@ -188,7 +188,8 @@ module _ (table rs os d t room : List ℕ) (driver-bytes : Bytes d) (good-tuner 
         → hops (tunedOf (a .answer) s) (a .room) d (a .next) ≡ runOver x table rs os d t room
     handed-run a s e f =
         ap (λ (b : After). hops (tunedOf (b .answer) s) (b .room) d (b .next)) (e ∙ over-is)
-        ∙ ap (λ (l : List ℕ). hops (tunedOf (callReply left) s) (left .room) l (nextOf tunerBytes (left .answer) (left .count) (left .next) t)) (driver-same d driver-bytes driver-ok (left .answer) (left .count))
+        ∙ ap (λ (l : List ℕ). hops (tunedOf (callReply left) s) (left .room) l (nextOf tunerBytes (left .answer) (left .count) (left .next) t))
+        (driver-same d driver-bytes driver-ok (left .answer) (left .count))
         ∙ ap (λ (c : Called Both). hopsBy (ratesMade c d t) s) (beside-left D (courseOf o T) os (T .chip) T room ∙ ap (λ (w : Course Both). leftBy true w os (T .chip) (both T D) room) (sym row))
         ∙ ap (hopsBy (ratesMade (leftBy true (commandRow x table rs T D) os (T .chip) (both T D) room) d t)) f
         ∙ run-is x known
@@ -225,7 +226,8 @@ module _ (table rs os d t room : List ℕ) (driver-bytes : Bytes d) (good-tuner 
   unfolding overBoth rateResult
   rate-is rate =
       rw (whole, good)
-      (both-taken (rateRow rate (planBy table (D .frequency)) T D) refl os (T .chip) (both T D) room d t (length d) (length t) (omega (arith, driver-exact d driver-ok)) (omega (arith, tuner-exact t tuner-ok)))
+      (both-taken (rateRow rate (planBy table (D .frequency)) T D) refl os (T .chip) (both T D) room d t (length d) (length t)
+      (omega (arith, driver-exact d driver-ok)) (omega (arith, tuner-exact t tuner-ok)))
 
   pub by-rate : (rate : ℕ) (y : Command) → y ≡ Rate rate → (before given : List ℕ) → before ≡ d → given ≡ t
       → (q : Reply) (lent wd wt : List ℕ) → rates q lent wd wt ≡ rateOver os rate table before given room d t → (r : TuneReply) → r ≡ tunedOf q noTries

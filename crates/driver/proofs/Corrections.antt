@@ -116,7 +116,10 @@ module _ (ppm : ℤ) (t : Tuner) (d : Driver) where
   unfolding correctionResult leftBy
   not-sound h = go Taken
     where
-      go : (b : Bool) → leftBy (sound t && soundDriver d) (cond b (Still (both (withCorrected t (xtalBy (t .nominal) ppm)) (withPpm d ppm)) (Done 0)) (Still (both t d) (Refused 4))) [] (t .chip) (both t d) [] ≡ called (both t d) [] 0 (Refused 1)
+      go : (b : Bool)
+          → leftBy (sound t && soundDriver d)
+          (cond b (Still (both (withCorrected t (xtalBy (t .nominal) ppm)) (withPpm d ppm)) (Done 0)) (Still (both t d) (Refused 4))) [] (t .chip) (both t d) []
+          ≡ called (both t d) [] 0 (Refused 1)
       go true = rw h
       go false = rw h
 
@@ -139,8 +142,10 @@ module _ (ppm : ℤ) (t : Tuner) (d : Driver) where
           × (correctedOf (d .nominal) ppm ≡ corrected-variants.Is (xtalOf (correctionCall ppm t d .next .driver)))
       go true true h k =
           let is = in-range h k in (
-            xtal-is (t .nominal) ppm (and-left (leb 1 (xtalBy (t .nominal) ppm)) (leb 1 (xtalBy (d .nominal) ppm)) k) ∙ ap (λ (x : Called Both). corrected-variants.Is (x .next .tuner .corrected)) (sym is),
-            xtal-is (d .nominal) ppm (and-right (leb 1 (xtalBy (t .nominal) ppm)) (leb 1 (xtalBy (d .nominal) ppm)) k) ∙ ap (λ (x : Called Both). corrected-variants.Is (xtalOf (x .next .driver))) (sym is),
+            xtal-is (t .nominal) ppm (and-left (leb 1 (xtalBy (t .nominal) ppm)) (leb 1 (xtalBy (d .nominal) ppm)) k)
+                ∙ ap (λ (x : Called Both). corrected-variants.Is (x .next .tuner .corrected)) (sym is),
+            xtal-is (d .nominal) ppm (and-right (leb 1 (xtalBy (t .nominal) ppm)) (leb 1 (xtalBy (d .nominal) ppm)) k)
+                ∙ ap (λ (x : Called Both). corrected-variants.Is (xtalOf (x .next .driver))) (sym is),
           )
       go true false h k = let other : Refused 4 ≡ Done 0 = sym (ap (λ (x : Called Both). x .answer) (out-of-range h k)) ∙ done in let never : _≡_ {A = ℕ} 0 1 = cc in absurd (omega arith)
       go false b h k = let other : Refused 1 ≡ Done 0 = sym (ap (λ (x : Called Both). x .answer) (not-sound h)) ∙ done in let never : _≡_ {A = ℕ} 0 1 = cc in absurd (omega arith)

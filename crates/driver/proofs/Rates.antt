@@ -93,7 +93,10 @@ module _ (os room : List ℕ) (rate : ℕ) (t : Tuner) (d : Driver) (p : Planned
     (by-tuner : s ≡ sound t) (by-driver : xtal ≡ xtalOf d) (by-rate : ratio ≡ rateNumber rate xtal) (by-table : argument ≡ cond (eqb (p .refusal) 19) 19 ratio)
     (by-all : given ≡ refusalWith (s && leb 1 xtal) argument 17 0 (length room) (length os) 0) where
   number : given ≡ refusalWith (sound t && soundDriver d) (rateArgument rate p d) 17 0 (length room) (length os) 0
-  number = by-all ∙ (λ i. refusalWith (by-tuner i && leb 1 (by-driver i)) ((by-table ∙ ap (λ (n : ℕ). cond (eqb (p .refusal) 19) 19 n) (by-rate ∙ ap (rateNumber rate) by-driver)) i) 17 0 (length room) (length os) 0)
+  number =
+      by-all
+      ∙ (λ i. refusalWith (by-tuner i && leb 1 (by-driver i))
+      ((by-table ∙ ap (λ (n : ℕ). cond (eqb (p .refusal) 19) 19 n) (by-rate ∙ ap (rateNumber rate) by-driver)) i) 17 0 (length room) (length os) 0)
 
   pub rate-refused : (given ≡ 0 → ⊥) → called (both t d) room 0 (Refused given) ≡ rateResult rate p os t d room
   unfolding rateResult leftBy

@@ -81,7 +81,8 @@ module _ (argument : Tuner → Driver → ℕ) (result : Tuner → Driver → Ca
   made = ratesMade (result (tunerOf t .tuner) (driverOf d .driver)) driver tuner
 
   -- what is read, and the number that it is refused by, as the code has them
-  module _ (dr : DriverRead) (tr : TunerRead) (k n : ℕ) (is-driver : dr ≡ driverOf d) (is-tuner : tr ≡ tunerOf t) (argued : k ≡ argument (tr .tuner) (dr .driver)) (said : n ≡ bothReady (dr .ok && tr .ok) k (length driver) (length tuner)) where
+  module _ (dr : DriverRead) (tr : TunerRead) (k n : ℕ) (is-driver : dr ≡ driverOf d) (is-tuner : tr ≡ tunerOf t)
+      (argued : k ≡ argument (tr .tuner) (dr .driver)) (said : n ≡ bothReady (dr .ok && tr .ok) k (length driver) (length tuner)) where
     number-is : n ≡ number
     number-is =
         said

@@ -111,7 +111,15 @@ pub fine-chunk : (bs : List ℕ) (k : Chunk) → within k ≡ true → fine (chu
 unfolding fineSend
 fine-chunk bs k h =
     let first : getD (chunkBytes bs (k .at) (k .size)) 0 0 ≡ 5 + k .at = first-register bs (k .at) (k .size) in
-    rw (le-leb 2 (k .size + 1) (omega (arith, some k h)), le-leb (k .size + 1) 8 (omega (arith, seven k h)), first, le-leb 5 (5 + k .at) (omega arith), le-leb (5 + k .at + (k .size + 1)) 33 (omega (arith, inside k h)), eq-eqb (length (chunkBytes bs (k .at) (k .size))) 8 (chunk-eight bs (k .at) (k .size)), chunk-padded bs (k .at) (k .size))
+    rw (
+      le-leb 2 (k .size + 1) (omega (arith, some k h)),
+      le-leb (k .size + 1) 8 (omega (arith, seven k h)),
+      first,
+      le-leb 5 (5 + k .at) (omega arith),
+      le-leb (5 + k .at + (k .size + 1)) 33 (omega (arith, inside k h)),
+      eq-eqb (length (chunkBytes bs (k .at) (k .size))) 8 (chunk-eight bs (k .at) (k .size)),
+      chunk-padded bs (k .at) (k .size),
+    )
 
 pub table-part : (from to : ℕ) → every within (drop from (take to chunkTable)) ≡ true
 table-part from to = every-drop within from (take to chunkTable) (every-take within to chunkTable table-within)

@@ -88,7 +88,9 @@ row-failed k t n a b d w z h =
 first-fits : (k t n a b : ℕ) → rowFits k 0 t n a b ≡ true → leb b (getD firstMost k 0) ≡ true
 unfolding rowFits
 first-fits k t n a b h =
-    both (leb k 9 && leb 1 k && leb 0 (getD outcomeMost k 0) && leb t (getD targetMost k 0) && leb (getD nLow k 0) n && leb n (getD nHigh k 0) && leb a (getD addressMost k 0)) (leb b (getD firstMost k 0)) h .1
+    both
+    (leb k 9 && leb 1 k && leb 0 (getD outcomeMost k 0) && leb t (getD targetMost k 0) && leb (getD nLow k 0) n && leb n (getD nHigh k 0) && leb a
+    (getD addressMost k 0)) (leb b (getD firstMost k 0)) h .1
 
 abbrev entry : ℕ → ℕ → ℕ → ℕ → ℕ → List ℕ → Entry
 entry k o t n a bs = record { kind = k; outcome = o; target = t; n = n; address = a; bytes = bs }

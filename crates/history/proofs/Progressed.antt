@@ -81,7 +81,10 @@ module _ (os : List ℕ) where
       let e : Entry = emit Close (t .chip) ok in
       record {
         counted = counted-taken os Close t ok (r .counted);
-        told = r .told ∙ sym (next-closing (progressIn (t .log)) (0 + length (t .log))) ∙ sym (progress-snoc 0 (t .log) e ∙ ap (λ (b : Bool). next (progressIn (t .log)) b (0 + length (t .log))) (or-true (done e)));
+        told =
+            r .told
+            ∙ sym (next-closing (progressIn (t .log)) (0 + length (t .log)))
+            ∙ sym (progress-snoc 0 (t .log) e ∙ ap (λ (b : Bool). next (progressIn (t .log)) b (0 + length (t .log))) (or-true (done e)));
       }
 
   read-step : (s : Step) (t : Trace) → fine s ≡ true → acts s (t .progress) (t .opened) ≡ true → Read t → Read (taken inList os (okFor os (t .count) s) s t)

@@ -92,7 +92,16 @@ unfolding rowFits
 row-fine k o t n a f low high one small table address first =
     let c = wide-columns k low high in
     let r = table-row k n table in
-    rw (le-leb k 9 (omega arith), le-leb 1 k (omega arith), le-leb o (getD outcomeMost k 0) (omega (arith, c .0)), le-leb t (getD targetMost k 0) (omega (arith, c .1 .0)), le-leb (getD nLow k 0) n (r .0), le-leb n (getD nHigh k 0) (r .1), le-leb a (getD addressMost k 0) address, le-leb f (getD firstMost k 0) (omega (arith, c .1 .1)))
+    rw (
+      le-leb k 9 (omega arith),
+      le-leb 1 k (omega arith),
+      le-leb o (getD outcomeMost k 0) (omega (arith, c .0)),
+      le-leb t (getD targetMost k 0) (omega (arith, c .1 .0)),
+      le-leb (getD nLow k 0) n (r .0),
+      le-leb n (getD nHigh k 0) (r .1),
+      le-leb a (getD addressMost k 0) address,
+      le-leb f (getD firstMost k 0) (omega (arith, c .1 .1)),
+    )
 
 -- eight bytes that begin with some are zeros after them
 zeros-behind : (xs : List ℕ) → length xs ≤ 8 → zeros (drop (length xs) (sets zeros8 0 xs)) ≡ true
@@ -232,7 +241,9 @@ module _ (b : List ℕ) (h : packetsStand b ≡ true) where
         let o : ℕ = cond (isDemod (e .kind) && not (syncIn rest)) 1 0 in
         let laid = sets zeros8 0 (take sent (drop 8 b)) in
         let first : getD laid 0 0 ≤ 255 = first-byte (take sent (drop 8 b)) (bytes-take sent (drop 8 b) (bytes-drop 8 b bytes)) (omega (arith, data-long, few)) in
-        let row = row-fine (e .kind) o (e .target) (e .n) (e .address) (getD laid 0 0) (k .0) (k .1) (one-at-most (isDemod (e .kind) && not (syncIn rest))) (f .target) (standing b h .table) (f .address) first in
+        let row =
+        row-fine (e .kind) o (e .target) (e .n) (e .address) (getD laid 0 0) (k .0) (k .1) (one-at-most (isDemod (e .kind) && not (syncIn rest)))
+        (f .target) (standing b h .table) (f .address) first in
         let room : sent ≤ length (drop 8 b) = omega (arith, length-drop 8 b, standing b h .room) in
         rw (row, eq-eqb (length laid) 8 (length-sets zeros8 0 (take sent (drop 8 b)))) (kept-zeros (isRead (e .kind)) o (e .n) (drop 8 b) (table-most (e .kind) (e .n) (standing b h .table)) room)
 

@@ -101,37 +101,46 @@ unfolding nLow nHigh addressMost expands wValueOf wIndexOf
 said zero t n a x y p q r s h = absurd (omega arith)
 said (suc zero) t n a x y p q r s h = absurd (omega arith)
 said (suc (suc zero)) t n a x y p q r s h =
-    said-i2c 2 t n a 0x40 0x10 (fields (leValue (setup (entryNamed 2 t n a))) 0x40 t 0x10 6 n (setup-value (entryNamed 2 t n a) ∙ omega arith) (omega arith) (omega arith) (omega arith) (omega arith) (omega arith)) refl (omega arith) (omega arith)
+    said-i2c 2 t n a 0x40 0x10
+    (fields (leValue (setup (entryNamed 2 t n a))) 0x40 t 0x10 6 n (setup-value (entryNamed 2 t n a) ∙ omega arith) (omega arith) (omega arith) (omega arith)
+    (omega arith) (omega arith)) refl (omega arith) (omega arith)
 said (suc (suc (suc zero))) t n a x y p q r s h =
-    said-i2c 3 t n a 0xc0 0 (fields (leValue (setup (entryNamed 3 t n a))) 0xc0 t 0 6 n (setup-value (entryNamed 3 t n a) ∙ omega arith) (omega arith) (omega arith) (omega arith) (omega arith) (omega arith)) refl (omega arith) (omega arith)
+    said-i2c 3 t n a 0xc0 0
+    (fields (leValue (setup (entryNamed 3 t n a))) 0xc0 t 0 6 n (setup-value (entryNamed 3 t n a) ∙ omega arith) (omega arith) (omega arith) (omega arith)
+    (omega arith) (omega arith)) refl (omega arith) (omega arith)
 said (suc (suc (suc (suc zero)))) t n a x y p q r s h =
     let g = both (leb a 255) (leb t 15) h in
     let ga : a ≤ 255 = leb-true a 255 (g .0) in
     let gt : t ≤ 15 = leb-true t 15 (g .1) in
     let one : n ≡ 1 = omega arith in
-    said-page 4 t n a (a * 256 + 32) (t + 16) (fields (leValue (setup (entryNamed 4 t n a))) 0x40 (a * 256 + 32) (t + 16) 0 n (setup-value (entryNamed 4 t n a) ∙ omega arith) (omega arith) (omega arith) (omega arith) (omega arith) (omega arith))
-    (rw one) (omega arith) (omega arith)
+    said-page 4 t n a (a * 256 + 32) (t + 16)
+    (fields (leValue (setup (entryNamed 4 t n a))) 0x40 (a * 256 + 32) (t + 16) 0 n (setup-value (entryNamed 4 t n a) ∙ omega arith) (omega arith) (omega arith)
+    (omega arith) (omega arith) (omega arith)) (rw one) (omega arith) (omega arith)
 said (suc (suc (suc (suc (suc zero))))) t n a x y p q r s h =
     let g = both (leb a 255) (leb t 15) h in
     let ga : a ≤ 255 = leb-true a 255 (g .0) in
     let gt : t ≤ 15 = leb-true t 15 (g .1) in
     let two : n ≡ 2 = omega arith in
-    said-page 5 t n a (a * 256 + 32) (t + 16) (fields (leValue (setup (entryNamed 5 t n a))) 0x40 (a * 256 + 32) (t + 16) 0 n (setup-value (entryNamed 5 t n a) ∙ omega arith) (omega arith) (omega arith) (omega arith) (omega arith) (omega arith))
-    (rw two) (omega arith) (omega arith)
+    said-page 5 t n a (a * 256 + 32) (t + 16)
+    (fields (leValue (setup (entryNamed 5 t n a))) 0x40 (a * 256 + 32) (t + 16) 0 n (setup-value (entryNamed 5 t n a) ∙ omega arith) (omega arith) (omega arith)
+    (omega arith) (omega arith) (omega arith)) (rw two) (omega arith) (omega arith)
 said (suc (suc (suc (suc (suc (suc zero)))))) t n a x y p q r s h =
     let g = both (not (eqb t 0)) (not (eqb t 6)) h in
     let one : n ≡ 1 = omega arith in
-    said-block 6 t n a 0x40 0x10 (fields (leValue (setup (entryNamed 6 t n a))) 0x40 a 0x10 t n (setup-value (entryNamed 6 t n a) ∙ omega arith) (omega arith) (omega arith) (omega arith) (omega arith) (omega arith))
-    (rw one) (eqb-false t 0 (not-so (eqb t 0) (g .0))) (eqb-false t 6 (not-so (eqb t 6) (g .1)))
+    said-block 6 t n a 0x40 0x10
+    (fields (leValue (setup (entryNamed 6 t n a))) 0x40 a 0x10 t n (setup-value (entryNamed 6 t n a) ∙ omega arith) (omega arith) (omega arith) (omega arith)
+    (omega arith) (omega arith)) (rw one) (eqb-false t 0 (not-so (eqb t 0) (g .0))) (eqb-false t 6 (not-so (eqb t 6) (g .1)))
 said (suc (suc (suc (suc (suc (suc (suc zero))))))) t n a x y p q r s h =
     let g = both (not (eqb t 0)) (not (eqb t 6)) h in
     let two : n ≡ 2 = omega arith in
-    said-block 7 t n a 0x40 0x10 (fields (leValue (setup (entryNamed 7 t n a))) 0x40 a 0x10 t n (setup-value (entryNamed 7 t n a) ∙ omega arith) (omega arith) (omega arith) (omega arith) (omega arith) (omega arith))
-    (rw two) (eqb-false t 0 (not-so (eqb t 0) (g .0))) (eqb-false t 6 (not-so (eqb t 6) (g .1)))
+    said-block 7 t n a 0x40 0x10
+    (fields (leValue (setup (entryNamed 7 t n a))) 0x40 a 0x10 t n (setup-value (entryNamed 7 t n a) ∙ omega arith) (omega arith) (omega arith) (omega arith)
+    (omega arith) (omega arith)) (rw two) (eqb-false t 0 (not-so (eqb t 0) (g .0))) (eqb-false t 6 (not-so (eqb t 6) (g .1)))
 said (suc (suc (suc (suc (suc (suc (suc (suc zero)))))))) t n a x y p q r s h =
     let g = both (not (eqb t 0)) (not (eqb t 6)) h in
-    said-block 8 t n a 0xc0 0 (fields (leValue (setup (entryNamed 8 t n a))) 0xc0 a 0 t n (setup-value (entryNamed 8 t n a) ∙ omega arith) (omega arith) (omega arith) (omega arith) (omega arith) (omega arith))
-    refl (eqb-false t 0 (not-so (eqb t 0) (g .0))) (eqb-false t 6 (not-so (eqb t 6) (g .1)))
+    said-block 8 t n a 0xc0 0
+    (fields (leValue (setup (entryNamed 8 t n a))) 0xc0 a 0 t n (setup-value (entryNamed 8 t n a) ∙ omega arith) (omega arith) (omega arith) (omega arith)
+    (omega arith) (omega arith)) refl (eqb-false t 0 (not-so (eqb t 0) (g .0))) (eqb-false t 6 (not-so (eqb t 6) (g .1)))
 said (suc (suc (suc (suc (suc (suc (suc (suc (suc k))))))))) t n a x y p q r s h = absurd (omega arith)
 
 -- ---- an entry of a transfer that fits the table and expands
@@ -286,9 +295,22 @@ module _ (e : Entry) (fit : entryFits e ≡ true) (low : 2 ≤ e .kind) (high : 
     unfolding packetsStand inTable
     unit-stands =
         let c = columns e fit in
-        rw (names, le-leb 8 (length all) (omega (arith, long)), le-leb (getD nLow (e .kind) 0) (e .n) (c .0), le-leb (e .n) (getD nHigh (e .kind) 0) (c .1 .0), eq-eqb (leValue (setup bare-step)) (word all) (ap leValue setup-same ∙ sym worded), le-leb (8 + sent) (length all) long)
+        rw (
+          names,
+          le-leb 8 (length all) (omega (arith, long)),
+          le-leb (getD nLow (e .kind) 0) (e .n) (c .0),
+          le-leb (e .n) (getD nHigh (e .kind) 0) (c .1 .0),
+          eq-eqb (leValue (setup bare-step)) (word all) (ap leValue setup-same ∙ sym worded),
+          le-leb (8 + sent) (length all) long,
+        )
 
     pub unit-read : syncIn r ≡ false → entryIn all ≡ core e
     unfolding entryIn
     unit-read clean =
-        rw (names, last, given, ended (isDemod (e .kind)) (e .outcome) r (row-of e fit .outcome) clean, padded-by (isRead (e .kind)) (e .outcome) (e .n) (e .bytes) (row-of e fit .eight) (row-of e fit .n) (row-of e fit .padded))
+        rw (
+          names,
+          last,
+          given,
+          ended (isDemod (e .kind)) (e .outcome) r (row-of e fit .outcome) clean,
+          padded-by (isRead (e .kind)) (e .outcome) (e .n) (e .bytes) (row-of e fit .eight) (row-of e fit .n) (row-of e fit .padded),
+        )

@@ -134,7 +134,14 @@ module _ (e : Entry) (eight : length (e .bytes) ≡ 8) (few : e .n ≤ 8) where
   unfolding packets
   transfer-laid out at =
       let all = take sent (e .bytes) in
-      rw (setup-back e, behind-laid (isDemod (e .kind) && eqb (e .outcome) 0), sets-append out at (setup e) (all ++ followed e), setup-long e, sets-append (sets out at (setup e)) (at + 8) all (followed e), sent-long)
+      rw (
+        setup-back e,
+        behind-laid (isDemod (e .kind) && eqb (e .outcome) 0),
+        sets-append out at (setup e) (all ++ followed e),
+        setup-long e,
+        sets-append (sets out at (setup e)) (at + 8) all (followed e),
+        sent-long,
+      )
 
   -- as the code stores them
   pub transfer-stored : (out first second third : List ℕ) (at k j v : ℕ) → k ≡ sent → j ≡ behind → v ≡ leValue (setup e)

@@ -64,7 +64,14 @@ pub entries-same : (e f : Entry) → e ≡ f → equalEntries e f ≡ true
 unfolding equalEntries
 entries-same e f h =
     subst (λ (g : Entry). equalEntries e g ≡ true) h
-    (rw (eq-eqb (e .kind) (e .kind) refl, eq-eqb (e .outcome) (e .outcome) refl, eq-eqb (e .target) (e .target) refl, eq-eqb (e .n) (e .n) refl, eq-eqb (e .address) (e .address) refl, bytes-same (e .bytes)))
+    (rw (
+      eq-eqb (e .kind) (e .kind) refl,
+      eq-eqb (e .outcome) (e .outcome) refl,
+      eq-eqb (e .target) (e .target) refl,
+      eq-eqb (e .n) (e .n) refl,
+      eq-eqb (e .address) (e .address) refl,
+      bytes-same (e .bytes),
+    ))
 
 -- ---- they part where `agree` says, and nowhere else
 

@@ -118,7 +118,11 @@ first-later lo m ms number m′ k e f =
     earlier zero h = e
     earlier (suc i) h = f .before i (le-of-suc-le-suc h)
 
-step : (lo m : ℕ) (ms : List ℕ) (number m′ k : ℕ) (b : Bool) → inVco lo m ≡ b → cond b (By m number) (firstMixer lo ms (number + 1)) ≡ By m′ k → (firstMixer lo ms (number + 1) ≡ By m′ k → First lo ms (number + 1) m′ k) → First lo (m ∷ ms) number m′ k
+step : (lo m : ℕ) (ms : List ℕ) (number m′ k : ℕ) (b : Bool)
+    → inVco lo m ≡ b
+    → cond b (By m number) (firstMixer lo ms (number + 1)) ≡ By m′ k
+    → (firstMixer lo ms (number + 1) ≡ By m′ k → First lo ms (number + 1) m′ k)
+    → First lo (m ∷ ms) number m′ k
 step lo m ms number m′ k true e same later = first-here lo m ms number m′ k e same
 step lo m ms number m′ k false e same later = first-later lo m ms number m′ k e (later same)
 
@@ -132,7 +136,11 @@ first lo (x ∷ ms) number m k e = step lo x ms number m k (inVco lo x) refl e (
 abbrev pub AllWrong : ℕ → List ℕ → Type 0
 AllWrong lo ms = (i : ℕ) → i < length ms → inVco lo (getD ms i 0) ≡ false
 
-none-step : (lo m : ℕ) (ms : List ℕ) (number : ℕ) (b : Bool) → inVco lo m ≡ b → cond b (By m number) (firstMixer lo ms (number + 1)) ≡ Missing → (firstMixer lo ms (number + 1) ≡ Missing → AllWrong lo ms) → AllWrong lo (m ∷ ms)
+none-step : (lo m : ℕ) (ms : List ℕ) (number : ℕ) (b : Bool)
+    → inVco lo m ≡ b
+    → cond b (By m number) (firstMixer lo ms (number + 1)) ≡ Missing
+    → (firstMixer lo ms (number + 1) ≡ Missing → AllWrong lo ms)
+    → AllWrong lo (m ∷ ms)
 none-step lo m ms number true t e later i h = let z : _≡_ {A = ℕ} 0 1 = cc in absurd (omega arith)
 none-step lo m ms number false t e later zero h = t
 none-step lo m ms number false t e later (suc i) h = later e i (le-of-suc-le-suc h)

@@ -49,7 +49,11 @@ unfolding planOf planWith
 planned kind lo r m k nz e l h = simp (ne-eqb r 0 nz, e, le-leb _ _ l, le-leb _ _ h)
 
 -- a plan put together from a byte and a sum that are the definitions'
-pub put-together : (vco m k r b : ℕ) (s : Sum) → b ≡ settingOf (wholeOf vco r) → s ≡ sumOf (r / 1000) (fractionOf vco r) → Planned (record { m = m; number = k; n = wholeOf vco r; setting = b; fraction = fractionOf vco r; sum = s .sum; rest = s .rest }) ≡ Planned (madeOf vco m k r)
+pub put-together : (vco m k r b : ℕ) (s : Sum)
+    → b ≡ settingOf (wholeOf vco r)
+    → s ≡ sumOf (r / 1000) (fractionOf vco r)
+    → Planned (record { m = m; number = k; n = wholeOf vco r; setting = b; fraction = fractionOf vco r; sum = s .sum; rest = s .rest })
+    ≡ Planned (madeOf vco m k r)
 put-together vco m k r b s e f =
     λ i. Planned (record { m = m; number = k; n = wholeOf vco r; setting = e i; fraction = fractionOf vco r; sum = f i .sum; rest = f i .rest })
 
@@ -83,7 +87,12 @@ known-of kind lo r m k h e w l =
       taken = sum-keeps _ _;
     }
 
-by-test : (kind : Kind) (lo r m k : ℕ) (p : Plan) (b : Bool) → 0 < r → dividerOf lo ≡ By m k → taken kind (wholeOf (lo * m) r) ≡ b → cond b (Planned (madeOf (lo * m) m k r)) Refused ≡ Planned p → Known kind lo r p
+by-test : (kind : Kind) (lo r m k : ℕ) (p : Plan) (b : Bool)
+    → 0 < r
+    → dividerOf lo ≡ By m k
+    → taken kind (wholeOf (lo * m) r) ≡ b
+    → cond b (Planned (madeOf (lo * m) m k r)) Refused ≡ Planned p
+    → Known kind lo r p
 by-test kind lo r m k p false h d e is = let z : _≡_ {A = ℕ} 0 1 = cc in absurd (omega arith)
 by-test kind lo r m k p true h d e is =
     let n : ℕ = wholeOf (lo * m) r in

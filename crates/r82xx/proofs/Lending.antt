@@ -53,17 +53,25 @@ use Rattle.r82xx.proofs.TunerResult.Laws as R′
 
 -- the function's MIR, by the second argument's type and the callee's name
 abbrev function : Ty → Name → Fn
-function τ callee = record {
-  lifetimes = 0;
-  outlives = [];
-  params = 2;
-  locals = local R′.mir valueLocal ∷ local T′.mir valueLocal ∷ local τ valueLocal ∷ local T′.mir memorySlot ∷ local S′.mir valueLocal ∷ local (tyRef erased mut (pointee (T.the-row .written))) valueLocal ∷ local T′.mir valueLocal ∷ [];
-  body = seq (assign (place 3 []) (rvOpd (copy (place 1 []))))
-      (seq (assign (place 5 []) (addrOf (place 3 [])))
-      (seq (call callee (copy (place 5 []) ∷ copy (place 2 []) ∷ []) (place 4 []))
-      (seq (assign (place 6 []) (rvOpd (copy (place 3 []))))
-      (seq (assign (place 0 []) (aggregate (copy (place 6 []) ∷ copy (place 4 []) ∷ int w64 0 ∷ []))) return))));
-}
+function τ callee =
+    record {
+      lifetimes = 0;
+      outlives = [];
+      params = 2;
+      locals = local R′.mir valueLocal
+          ∷ local T′.mir valueLocal
+          ∷ local τ valueLocal
+          ∷ local T′.mir memorySlot
+          ∷ local S′.mir valueLocal
+          ∷ local (tyRef erased mut (pointee (T.the-row .written))) valueLocal
+          ∷ local T′.mir valueLocal
+          ∷ [];
+      body = seq (assign (place 3 []) (rvOpd (copy (place 1 []))))
+          (seq (assign (place 5 []) (addrOf (place 3 [])))
+          (seq (call callee (copy (place 5 []) ∷ copy (place 2 []) ∷ []) (place 4 []))
+          (seq (assign (place 6 []) (rvOpd (copy (place 3 []))))
+          (seq (assign (place 0 []) (aggregate (copy (place 6 []) ∷ copy (place 4 []) ∷ int w64 0 ∷ []))) return))));
+    }
 
 abbrev mach : Tuner → Val
 mach t = LL.tuple-val T.the-type T′.the-laws (T.the-type .to t)
@@ -96,7 +104,8 @@ still P =
     record { Denot = P .Denot; mir = P .mir; written = P .written; reaches = P .reaches; own = P .own; exit = λ k. unchanged; coded = P .coded }
 
 -- The second argument's type, as MIR has it, and its machine value; the call that is made, which makes no entry; the callee
-module _ (P : RattleType) (τ : Ty) (value : P .Denot → Val) (tells : Tells P (Is P) (λ p. value p ∷ [])) (made : Tuner → P .Denot → Called Tuner) (alone : (t : Tuner) (p : P .Denot) → called (made t p .next) [] 0 (made t p .answer) ≡ made t p) (callee : Name) where
+module _ (P : RattleType) (τ : Ty) (value : P .Denot → Val) (tells : Tells P (Is P) (λ p. value p ∷ [])) (made : Tuner → P .Denot → Called Tuner)
+    (alone : (t : Tuner) (p : P .Denot) → called (made t p .next) [] 0 (made t p .answer) ≡ made t p) (callee : Name) where
   abbrev left : Tuner → P .Denot → Tuner
   left t p = made t p .next
 
@@ -125,7 +134,8 @@ module _ (P : RattleType) (τ : Ty) (value : P .Denot → Val) (tells : Tells P 
   abbrev stayed : Stays (holding .signature .params) (holding .kept)
   stayed = (stay-none (λ _. T.the-row) yes, (stay-none (λ _. still P) yes, tt))
 
-  module _ {M : Type 1} (𝓤 : URA M) (H : Heap 𝓤) (A : Atoms 𝓤) (W : Given 𝓤 H A) (makes : Makes 𝓤 H A P (Is P)) (fits : (p : P .Denot) → Is P p (value p ∷ []) → Holds (hasTy τ (value p)) × WT (value p)) where
+  module _ {M : Type 1} (𝓤 : URA M) (H : Heap 𝓤) (A : Atoms 𝓤) (W : Given 𝓤 H A) (makes : Makes 𝓤 H A P (Is P))
+      (fits : (p : P .Denot) → Is P p (value p ∷ []) → Holds (hasTy τ (value p)) × WT (value p)) where
     abbrev Callee : Contract 𝓤
     Callee = tripleOf 𝓤 H A (lending .signature) (closing 𝓤 H A lending (lends 𝓤))
 
@@ -140,7 +150,10 @@ module _ (P : RattleType) (τ : Ty) (value : P .Denot → Val) (tells : Tells P 
       abbrev to : ℕ → ℕ → GName → Callee .Ghost
       to α l δ = (((α ∷ [], tt), (fullShare, tt), tt, (lent h l δ, (p, tt)), (vptr l 0 ∷ [], (value p ∷ [], tt))), tt)
 
-      goes : Is P p (value p ∷ []) → (α l : ℕ) (δ : GName) → ent 𝓤 (sep 𝓤 (A .lft (α ∷ []) fullShare) (sem 𝓤 H A (MutRef (named 0) (α ∷ []) T.the-row .own (lent h l δ) (vptr l 0 ∷ [])))) (Callee .pre (to α l δ))
+      goes : Is P p (value p ∷ [])
+          → (α l : ℕ) (δ : GName)
+          → ent 𝓤 (sep 𝓤 (A .lft (α ∷ []) fullShare) (sem 𝓤 H A (MutRef (named 0) (α ∷ []) T.the-row .own (lent h l δ) (vptr l 0 ∷ []))))
+          (Callee .pre (to α l δ))
       goes gp α l δ =
           qed W (‵ (flft (α ∷ []) fullShare) ∷ ‵ (MutRef (named 0) (α ∷ []) T.the-row .own (lent h l δ) (vptr l 0 ∷ [])) ∷ []) ∵
           nothing ! $ owned ! P (Is P) makes p _ gp $ fjoin ! $ move ! (2 ∷ 0 ∷ []) $ fjoin ! $
@@ -159,7 +172,9 @@ module _ (P : RattleType) (τ : Ty) (value : P .Denot → Val) (tells : Tells P 
 
       exits : Lies h → Is P p (value p ∷ []) → (r : Answer) → r ≡ answer h p → Back (left h p) r → ent 𝓤 (emp 𝓤) (Post (whole (left h p) r))
       exits gh gp r e is =
-          qed W [] ∵ suffices ! _ (ends-at 𝓤 H A holding stayed (holds 𝓤) W ((tt, tt, tt, (h, (p, tt)), at), tt) (whole (left h p) r) (told (left h p) r) (tt, (tt, tt)) (tt, (tt, tt))) $ says ! (ap (called (left h p) [] 0) e ∙ alone h p) $
+          qed W [] ∵ suffices ! _
+          (ends-at 𝓤 H A holding stayed (holds 𝓤) W ((tt, tt, tt, (h, (p, tt)), at), tt) (whole (left h p) r) (told (left h p) r) (tt, (tt, tt))
+          (tt, (tt, tt))) $ says ! (ap (called (left h p) [] 0) e ∙ alone h p) $
           nothing ! $ owned ! P (Is P) makes p _ gp $ fjoin ! $ owned ! T.the-row (Is T.the-row) (LL.makes T.the-type T′.the-plain 𝓤 H A) h _ gh $ fjoin ! $
           owned ! R.the-row (Is R.the-row) (LL.makes R.the-type R′.the-plain 𝓤 H A) (told (left h p) r) _ is $ move ! (1 ∷ 0 ∷ []) $ nothing ! $ done !
 
@@ -174,12 +189,16 @@ module _ (P : RattleType) (τ : Ty) (value : P .Denot → Val) (tells : Tells P 
             -- _3 is lent for a new lifetime
             move ! (6 ∷ []) $ use1 W (‵ (partAt T.the-row fullShare h l₃ 0)) (lies-in T.the-type T′.the-laws T′.the-plain 𝓤 H A W T′.mir h l₃ (W .laws .at-raw fullShare T′.mir l₃ 0 (mach h)) gh) $
             lft-new ! tt (λ α. move ! (1 ∷ []) $
-            use1 W (later (some (λ (δ : GName). ‵ (MutRef (named 0) (α ∷ []) T.the-row .own (lent h l₃ δ) (vptr l₃ 0 ∷ [])) ⊛ ‵ (flent (α ∷ []) (Body (mem T.the-row) l₃ 0 δ))))) (lends-ref 𝓤 H A W T.the-row (named 0) (α ∷ []) h l₃ 0) $
+            use1 W
+            (later (some (λ (δ : GName). ‵ (MutRef (named 0) (α ∷ []) T.the-row .own (lent h l₃ δ) (vptr l₃ 0 ∷ [])) ⊛ ‵
+            (flent (α ∷ []) (Body (mem T.the-row) l₃ 0 δ))))) (lends-ref 𝓤 H A W T.the-row (named 0) (α ∷ []) h l₃ 0) $
             await ! tt $ pick ! (λ δ. split ! $ move ! (2 ∷ 0 ∷ []) $
             use2 W (raw (Callee .pre (to α l₃ δ))) (goes gp α l₃ δ) $
             -- [what is asked; the lender's part; _6; …; _5; …; _4; …; of _3 what frees it; _2; …; _1; …; room for _0; …]
             calls-at ! fm Callee known (to α l₃ δ) (and-then ! (load ! (from ! (stop !)) (look ! 4 refl)) (and-then ! (load ! (from ! (stop !)) (look ! 9 refl)) (no-more !))) (λ v.
-            use1 W (later (some (λ (r : Answer). ((‵ (flft (α ∷ []) fullShare) ⊛ ‵ ftrue) ⊛ ‵ (S.the-row .own r (v ∷ []))) ⊛ raw (ensured 𝓤 H A lending (lends 𝓤) (α ∷ [], tt) (lent h l₃ δ, (p, tt)) tt r)))) (id⊢ 𝓤 _) $
+            use1 W
+            (later (some (λ (r : Answer). ((‵ (flft (α ∷ []) fullShare) ⊛ ‵ ftrue) ⊛ ‵ (S.the-row .own r (v ∷ []))) ⊛ raw
+            (ensured 𝓤 H A lending (lends 𝓤) (α ∷ [], tt) (lent h l₃ δ, (p, tt)) tt r)))) (id⊢ 𝓤 _) $
             await ! tt $ pick ! (λ r. split ! $ move ! (1 ∷ []) $
             use1 W (given (r ≡ answer h p) (‵ (fres δ (T.the-row .coded .code (left h p))))) (said α l₃ δ r) $ learn ! (λ e.
             move ! (1 ∷ []) $ split ! $ split ! $ move ! (2 ∷ []) $
@@ -192,9 +211,14 @@ module _ (P : RattleType) (τ : Ty) (value : P .Denot → Val) (tells : Tells P 
             -- [_3; true; _6; …; _5; …; _4; …; of _3 what frees it; _2; …; _1; …; room for _0; …]
             assigns ! (of-opd ! (load ! (from ! (stop !)) (look ! 0 refl))) (from ! (stop !)) (init ! 2 refl (typed 𝓤 H A W (left h p) lies)) $
             rewrite ! 6 (λ (u : Val). ‵ (fat fullShare S′.mir l₄ 0 u)) (ap only (EL.tells S.the-type S′.the-laws r _ is)) refl $
-            assigns ! (agg ! (and-then ! (load ! (from ! (stop !)) (look ! 2 refl)) (and-then ! (load ! (from ! (stop !)) (look ! 6 refl)) (and-then ! (lit ! tt) (no-more !))))) (from ! (stop !)) (init ! 13 refl (LL.lawful R.the-type R′.the-laws 𝓤 H A W .typed (told (left h p) r) _ (back (left h p) r v lies is) .0)) $
+            assigns !
+            (agg !
+            (and-then ! (load ! (from ! (stop !)) (look ! 2 refl))
+            (and-then ! (load ! (from ! (stop !)) (look ! 6 refl)) (and-then ! (lit ! tt) (no-more !))))) (from ! (stop !))
+            (init ! 13 refl (LL.lawful R.the-type R′.the-laws 𝓤 H A W .typed (told (left h p) r) _ (back (left h p) r v lies is) .0)) $
             returns ! (look ! 13 refl) $ forget ! 0 refl $ forget ! 2 refl $ forget ! 4 refl $ forget ! 6 refl $ forget ! 9 refl $ forget ! 11 refl $ forget ! 13 refl $
-            move ! (13 ∷ 14 ∷ []) $ free1 ! $ move ! (11 ∷ 12 ∷ []) $ free1 ! $ move ! (9 ∷ 10 ∷ []) $ free1 ! $ move ! (0 ∷ 8 ∷ []) $ free1 ! $ move ! (5 ∷ 6 ∷ []) $ free1 ! $ move ! (3 ∷ 4 ∷ []) $ free1 ! $ move ! (1 ∷ 2 ∷ []) $ free1 ! $ free0 ! $
+            move ! (13 ∷ 14 ∷ []) $ free1 ! $ move ! (11 ∷ 12 ∷ []) $ free1 ! $ move ! (9 ∷ 10 ∷ []) $ free1 ! $ move ! (0 ∷ 8 ∷ []) $ free1 ! $
+            move ! (5 ∷ 6 ∷ []) $ free1 ! $ move ! (3 ∷ 4 ∷ []) $ free1 ! $ move ! (1 ∷ 2 ∷ []) $ free1 ! $ free0 ! $
             keep ! [] $ by ! (exits gh gp r e (back (left h p) r v lies is))))))))))))))))
 
     walks : (C : Calls 𝓤 H) (Λ : Loops 𝓤 H) → FmC 𝓤 H (W .laws) C → Triple 𝓤 (C callee) Callee → Walks 𝓤 H A holding stayed (WpFn 𝓤 H C Λ (function τ callee)) (holds 𝓤)
@@ -205,4 +229,6 @@ module _ (P : RattleType) (τ : Ty) (value : P .Denot → Val) (tells : Tells P 
     all-go = (goes-none 𝓤 H A W 0 (λ _. T.the-row) yes (λ κs x f. refl), (goes-none 𝓤 H A W 0 (λ _. still P) yes (λ κs x f. refl), tt))
 
     pub meets : (𝓣 : Tables 𝓤 H) → Triple 𝓤 (𝓣 .C callee) Callee → Meets 𝓤 H A (holding .signature) (WpFn 𝓤 H (𝓣 .C) (𝓣 .Λ) (function τ callee)) (closing 𝓤 H A holding (holds 𝓤))
-    meets 𝓣 known = walk-meets 𝓤 H A holding stayed W all-go (holds 𝓤) (WpFn 𝓤 H (𝓣 .C) (𝓣 .Λ) (function τ callee)) (WpFn-mono 𝓤 H (W .laws) 𝓣 (function τ callee)) (walks (𝓣 .C) (𝓣 .Λ) (fmOf 𝓤 H (W .laws) 𝓣) known)
+    meets 𝓣 known =
+        walk-meets 𝓤 H A holding stayed W all-go (holds 𝓤) (WpFn 𝓤 H (𝓣 .C) (𝓣 .Λ) (function τ callee)) (WpFn-mono 𝓤 H (W .laws) 𝓣 (function τ callee))
+        (walks (𝓣 .C) (𝓣 .Λ) (fmOf 𝓤 H (W .laws) 𝓣) known)

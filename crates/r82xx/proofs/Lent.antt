@@ -58,7 +58,8 @@ module _ {M : Type 1} {𝓤 : URA M} {H : Heap 𝓤} {A : Atoms 𝓤} {K : Type 
   pub references : K → (t : Tuner) → Lies t → {F : Fml}
       → Step K W (‵ (fsep (u32 .own (t .nominal) (vint w32 (t .nominal) ∷ [])) (fsep (u32 .own (t .corrected) (vint w32 (t .corrected) ∷ [])) F)) ∷ Γ) G (‵ F ∷ Γ) G
   references k t is =
-      step (λ s. owned k u32 (Is u32) (uint-makes 𝓤 H A W w32) (t .corrected) _ (refl, corrected-fits t is) $ fjoin k $ owned k u32 (Is u32) (uint-makes 𝓤 H A W w32) (t .nominal) _ (refl, nominal-fits t is) $ fjoin k $ s)
+      step (λ s. owned k u32 (Is u32) (uint-makes 𝓤 H A W w32) (t .corrected) _ (refl, corrected-fits t is) $ fjoin k $
+      owned k u32 (Is u32) (uint-makes 𝓤 H A W w32) (t .nominal) _ (refl, nominal-fits t is) $ fjoin k $ s)
 
   -- what a callee leaves, of which its clause says φ
   pub hears : K → Soaks G → {D : Type 0} (own : D → Fml) (said : D → SProp 𝓤) (φ : D → Type 0) → ((r : D) → ent 𝓤 (said r) (fact 𝓤 (φ r)))

@@ -150,7 +150,16 @@ module _ (b : List ℕ) (bytes : Bytes b) (good : isDriver b ≡ true) where
 
   parts-written : driverParts (driverFrom (partsFrom 0 driverWidths b)) ≡ partsFrom 0 driverWidths b
   parts-written =
-      rw (board-written (leValue (take 1 b)) (tests .0), number 1 0 (omega arith), number 4 1 (omega arith), ofZ-toZ (word-fits (leValue (take 4 (drop 5 b))) word), number 4 5 (omega arith), number 8 9 (omega arith), number 4 17 (omega arith), number 8 21 (omega arith))
+      rw (
+        board-written (leValue (take 1 b)) (tests .0),
+        number 1 0 (omega arith),
+        number 4 1 (omega arith),
+        ofZ-toZ (word-fits (leValue (take 4 (drop 5 b))) word),
+        number 4 5 (omega arith),
+        number 8 9 (omega arith),
+        number 4 17 (omega arith),
+        number 8 21 (omega arith),
+      )
 
   taken : driverOf b ≡ driverRead true (driverFrom (partsFrom 0 driverWidths b))
   unfolding driverOf

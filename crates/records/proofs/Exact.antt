@@ -149,7 +149,18 @@ module _ (t : Tuner) (h : Ranged t) where
   parts-fit : tunerFits (tunerParts t) ≡ true
   unfolding tunerFits
   parts-fit =
-      rw (kind-fits (t .kind), nominal-read, le-leb 1 (t .nominal) (h .known), corrected-read, le-leb 1 (t .corrected) (h .right), flag-fits (t .lock), gain-bits, gain-fits (t .gain) (h .gain), flag-fits (t .notch), flags-fit (t .chip .doubtful))
+      rw (
+        kind-fits (t .kind),
+        nominal-read,
+        le-leb 1 (t .nominal) (h .known),
+        corrected-read,
+        le-leb 1 (t .corrected) (h .right),
+        flag-fits (t .lock),
+        gain-bits,
+        gain-fits (t .gain) (h .gain),
+        flag-fits (t .notch),
+        flags-fit (t .chip .doubtful),
+      )
 
   long : length (tunerBytes t) ≡ 78
   unfolding tunerBytes
@@ -212,7 +223,21 @@ module _ (b : List ℕ) (bytes : Bytes b) (good : isTuner b ≡ true) where
   parts-written : tunerParts (tunerFrom (partsFrom 0 tunerWidths b)) ≡ partsFrom 0 tunerWidths b
   parts-written =
       let h = tests in
-      rw (kind-written (leValue (take 1 b)) (h .kind), number 1 0 (omega arith), number 1 1 (omega arith), number 4 29 (omega arith), number 4 33 (omega arith), flag-written (leValue (take 1 (drop 37 b))) (h .lock), number 1 37 (omega arith), gain-written (leValue (take 4 (drop 38 b))) (one-below 4 38 b bytes (omega (arith, size))) (h .gain), number 4 38 (omega arith), number 8 42 (omega arith), flag-written (leValue (take 1 (drop 50 b))) (h .notch), number 1 50 (omega arith), flags-written (take 27 (drop 51 b)) (h .flags))
+      rw (
+        kind-written (leValue (take 1 b)) (h .kind),
+        number 1 0 (omega arith),
+        number 1 1 (omega arith),
+        number 4 29 (omega arith),
+        number 4 33 (omega arith),
+        flag-written (leValue (take 1 (drop 37 b))) (h .lock),
+        number 1 37 (omega arith),
+        gain-written (leValue (take 4 (drop 38 b))) (one-below 4 38 b bytes (omega (arith, size))) (h .gain),
+        number 4 38 (omega arith),
+        number 8 42 (omega arith),
+        flag-written (leValue (take 1 (drop 50 b))) (h .notch),
+        number 1 50 (omega arith),
+        flags-written (take 27 (drop 51 b)) (h .flags),
+      )
 
   taken : tunerOf b ≡ tunerRead true (tunerFrom (partsFrom 0 tunerWidths b))
   unfolding tunerOf

@@ -121,7 +121,9 @@ module _ (first n mark : ℕ) (bytes : List ℕ) (l : List Known) (j : ℕ) wher
       ∙ over-over (only (first + j) (knownAs mark byte)) (rest first n mark bytes (j + 1)) 0 l
       ∙ over-same (λ q. newer (only (first + j) (knownAs mark byte) q) (rest first n mark bytes (j + 1) q)) (rest first n mark bytes j) (λ q. go q (counts q) (eqb q (first + j)) refl refl) 0 l
     where
-      later : (q : ℕ) (b : Bool) → leb (first + j) q && ltb q (first + (n - 1)) ≡ b → newer none (cond b (knownAs mark (getD bytes (q - first + 1) 0)) none) ≡ cond b (knownAs mark (getD bytes (q - first + 1) 0)) none
+      later : (q : ℕ) (b : Bool)
+          → leb (first + j) q && ltb q (first + (n - 1)) ≡ b
+          → newer none (cond b (knownAs mark (getD bytes (q - first + 1) 0)) none) ≡ cond b (knownAs mark (getD bytes (q - first + 1) 0)) none
       later q true e = fresh none (knownAs mark (getD bytes (q - first + 1) 0)) refl some
       later q false e = quiet none none refl
 
@@ -195,7 +197,10 @@ entry-turn address s start k l next e some is was =
     let there : e ≡ entryOf (take 16 (drop (16 * i) (drop start s))) = is ∙ ap (λ (b : List ℕ). entryOf (take 16 b)) (sym (drop-drop (16 * i) start s)) in
     ap (over (knownIn address (entriesIn i (drop start s))) 0) was
     ∙ over-both address (entriesIn i (drop start s)) (e ∷ []) l
-    ∙ ap (λ (es : List Entry). over (knownIn address es) 0 l) (ap (λ (x : Entry). entriesIn i (drop start s) ++ (x ∷ [])) there ∙ sym (entries-snoc i (drop start s)) ∙ ap (λ (m : ℕ). entriesIn m (drop start s)) one-more)
+    ∙ ap (λ (es : List Entry). over (knownIn address es) 0 l)
+    (ap (λ (x : Entry). entriesIn i (drop start s) ++ (x ∷ [])) there
+    ∙ sym (entries-snoc i (drop start s))
+    ∙ ap (λ (m : ℕ). entriesIn m (drop start s)) one-more)
 
 -- an entry of those that fit the table has eight data bytes at most
 fits-at : (k i : ℕ) (l : List ℕ) → i < k → allFit k l ≡ true → fits (take 16 (drop (16 * i) l)) ≡ true

@@ -133,7 +133,9 @@ abbrev pub hop : Order
 hop = BoardTune 100_000_000 (replicate 8 0 ++ (replicate 8 255 ++ (replicate 8 0 ++ (0 ∷ 1 ∷ 0 ∷ [])))) (replicate 38 0) (driver Generic 28_800_000 (pos 0) 0 0 0)
 
 pub hop-reached : length (entries (lent hop) fresh) ≡ most hop fresh
-unfolding trace run step tooShort accessStep outputSteps bitSteps xtalBy correctedOf ddcSteps inVco firstMixer settingOf turnOf turnsOf planWith pllOf innerSteps repairUpdates triesFrom reversed planBy tableOk ascending bandsIn bandOf planIn planAt leValue
+unfolding trace run step tooShort accessStep outputSteps bitSteps xtalBy correctedOf ddcSteps inVco firstMixer settingOf
+    turnOf turnsOf planWith pllOf innerSteps repairUpdates triesFrom reversed planBy tableOk ascending bandsIn bandOf
+    planIn planAt leValue
 hop-reached = refl
 
 -- and of those that touch no record
@@ -173,7 +175,9 @@ pub tune-by-plan : (t : Tuner) (hz : ℕ) (os rs room : List ℕ) → resultOf (
 unfolding resultOf leftBy
 tune-by-plan t hz os rs room = refl
 
-pub progress-on : {R : Type 0} (number : ℕ) (whole : Answer) (os : List ℕ) (ss : List Step) (c : Chip) (keep : Trace → R) (old : R) (room : List ℕ) → number ≡ 0 → callOf number whole os ss c keep old room ≡ performed whole keep room (trace os ss c)
+pub progress-on : {R : Type 0} (number : ℕ) (whole : Answer) (os : List ℕ) (ss : List Step) (c : Chip) (keep : Trace → R) (old : R) (room : List ℕ)
+    → number ≡ 0
+    → callOf number whole os ss c keep old room ≡ performed whole keep room (trace os ss c)
 unfolding callOf
 progress-on number whole os ss c keep old room e = rw (eq-eqb number 0 e)
 

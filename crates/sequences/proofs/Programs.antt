@@ -5,7 +5,7 @@ use mathlib.Core.Bool.{Bool, true, false, cond}
 use mathlib.Core.List.{List, [], _∷_, _++_}
 use native.Mathlib.Omega.{arith}
 use borrow.Author.Tests.{leb-true, ne-eqb}
-use lib.Dec.{eqb}
+use lib.Dec.{eqb, ltb}
 use lib.ListN.{length, getD, take, drop, length-append, length-map}
 use lib.Seq.{sets, length-sets}
 use Rattle.transcript.specs.Entries.{zeros, zeros8}
@@ -22,9 +22,9 @@ use Rattle.pll.specs.declared.Plan.{Plan}
 use Rattle.pll.specs.declared.Pll.{Pll}
 use Rattle.pll.specs.declared.Pll.the-variants.{Planned, Refused}
 use Rattle.tuning.specs.Mux.{muxUpdates, pllUpdates, rangeOf}
-use Rattle.tuning.specs.Tries.{afterTry, again, locked, locksAt, repairUpdates, replyBytes, statusSteps, triesFrom, tryRead}
+use Rattle.tuning.specs.Tries.{afterTry, again, fineOf, locked, locksAt, powerOf, repairUpdates, replyBytes, statusSteps, triesFrom, tryRead}
 use Rattle.tuning.specs.Program.{innerSteps, pllSteps, tuneSteps}
-use Rattle.tuning.proofs.Turns.{pick-every, repair-in, repair-most}
+use Rattle.tuning.proofs.Turns.{pick-every}
 use Rattle.writes.specs.Lists.{bandwidthUpdates, ifUpdates, initArray, initUpdates, pathUpdates}
 use Rattle.writes.specs.Programs.{initSteps, sendAll}
 use Rattle.writes.proofs.Lists.{bandwidth-in, if-in, init-in, path-in}
@@ -55,6 +55,30 @@ fine-init =
     (fine-bracket (ifUpdates 2_300_000) (if-in 2_300_000)))
 
 -- ---- a tuning
+
+pick-most : (b : Bool) (xs ys : List Update) (n : ℕ) → length xs ≤ n → length ys ≤ n → length (cond b xs ys) ≤ n
+pick-most true xs ys n h k = h
+pick-most false xs ys n h k = k
+
+-- the repair is of the record's registers, and one write at most
+module _ (kind : Kind) (number byte : ℕ) where
+  abbrev down : List Update
+  down = masked 0x10 ((number - 1) * 32) 0xe0 ∷ []
+
+  abbrev up : List Update
+  up = masked 0x10 ((number + 1) * 32) 0xe0 ∷ []
+
+  repair-in : allIn (repairUpdates kind number byte) ≡ true
+  unfolding repairUpdates every
+  repair-in =
+      pick-every inRange (ltb (powerOf kind) (fineOf byte)) down (cond (ltb (fineOf byte) (powerOf kind)) up []) refl
+      (pick-every inRange (ltb (fineOf byte) (powerOf kind)) up [] refl refl)
+
+  repair-most : length (repairUpdates kind number byte) ≤ 1
+  unfolding repairUpdates
+  repair-most =
+      pick-most (ltb (powerOf kind) (fineOf byte)) down (cond (ltb (fineOf byte) (powerOf kind)) up []) 1 (omega arith)
+      (pick-most (ltb (fineOf byte) (powerOf kind)) up [] 1 (omega arith) (omega arith))
 
 tune-in : (notch : Bool) (hz : ℕ) (p : Plan) → allIn (muxUpdates notch (rangeOf hz) ++ pllUpdates p) ≡ true
 unfolding every
@@ -109,12 +133,22 @@ module _ (address : ℕ) (rs : List ℕ) (small : address ≤ 255) (bytes : ever
   fine-status : every fine (statusSteps address rs) ≡ true
   unfolding every replyBytes
   fine-status =
-      rw (fine-wait 2 (omega arith), fine-pointer address small, fine-read address 5 (sets zeros8 0 (take 5 (drop 0 rs))) small (omega arith) (omega arith) (five-small (drop 0 rs) (every-drop isByte 0 rs bytes)) (length-sets zeros8 0 (take 5 (drop 0 rs))) (five-padded (drop 0 rs)))
+      rw (
+        fine-wait 2 (omega arith),
+        fine-pointer address small,
+        fine-read address 5 (sets zeros8 0 (take 5 (drop 0 rs))) small (omega arith) (omega arith) (five-small (drop 0 rs) (every-drop isByte 0 rs bytes))
+            (length-sets zeros8 0 (take 5 (drop 0 rs))) (five-padded (drop 0 rs)),
+      )
 
   fine-try : (i : ℕ) → every fine (tryRead address rs i) ≡ true
   unfolding every replyBytes
   fine-try i =
-      rw (fine-pointer address small, fine-read address 3 (sets zeros8 0 (take 3 (drop (5 + 3 * i) rs))) small (omega arith) (omega arith) (three-small (drop (5 + 3 * i) rs) (every-drop isByte (5 + 3 * i) rs bytes)) (length-sets zeros8 0 (take 3 (drop (5 + 3 * i) rs))) (three-padded (drop (5 + 3 * i) rs)))
+      rw (
+        fine-pointer address small,
+        fine-read address 3 (sets zeros8 0 (take 3 (drop (5 + 3 * i) rs))) small (omega arith) (omega arith)
+            (three-small (drop (5 + 3 * i) rs) (every-drop isByte (5 + 3 * i) rs bytes)) (length-sets zeros8 0 (take 3 (drop (5 + 3 * i) rs)))
+            (three-padded (drop (5 + 3 * i) rs)),
+      )
 
   fine-after : (i : ℕ) → every fine (afterTry i) ≡ true
   unfolding every
@@ -252,4 +286,11 @@ ddc-part-length (Planned p) inverted = omega arith
 pub hop-length : (kind : Kind) (address : ℕ) (p : board-plan.Plan) (plan : Pll) (rs : List ℕ) → length (hopSteps kind address p plan rs) ≤ 64
 hop-length kind address p plan rs =
     let tail : List Step = tuneSteps address kind (p .notch) plan (p .hz) (drop (pathReplies kind (p .path)) rs) in
-    omega (arith, length-append (pathPart kind (p .path) rs) (tail ++ ddcPart plan (p .inverted)), length-append tail (ddcPart plan (p .inverted)), path-part-length kind (p .path) rs, tune-length address kind (p .notch) plan (p .hz) (drop (pathReplies kind (p .path)) rs), ddc-part-length plan (p .inverted))
+    omega (
+      arith,
+      length-append (pathPart kind (p .path) rs) (tail ++ ddcPart plan (p .inverted)),
+      length-append tail (ddcPart plan (p .inverted)),
+      path-part-length kind (p .path) rs,
+      tune-length address kind (p .notch) plan (p .hz) (drop (pathReplies kind (p .path)) rs),
+      ddc-part-length plan (p .inverted),
+    )

@@ -93,7 +93,9 @@ module _ (os : List ℕ) where
   told-taken (Plain e) t f a h =
       let ok : Bool = okFor os (t .count) (Plain e) in
       let other : eqb (e .kind) 1 ≡ false = aside-of e f .kind in
-      h ∙ sym (opened-snoc false (t .log) (emit (Plain e) (t .chip) ok) ∙ ap (λ (b : Bool). cond b (eqb (firstOf (emit (Plain e) (t .chip) ok)) 1 && done (emit (Plain e) (t .chip) ok)) (openedIn (t .log))) other)
+      h
+      ∙ sym (opened-snoc false (t .log) (emit (Plain e) (t .chip) ok)
+      ∙ ap (λ (b : Bool). cond b (eqb (firstOf (emit (Plain e) (t .chip) ok)) 1 && done (emit (Plain e) (t .chip) ok)) (openedIn (t .log))) other)
 
 pub opened-trace : (os : List ℕ) (ss : List Step) (c : Chip) → every fine ss ≡ true → trace os ss c .opened ≡ openedIn (trace os ss c .log)
 unfolding trace openedFrom
@@ -137,7 +139,8 @@ module _ (os : List ℕ) where
       by (Send n bytes) g b = no-more t (emit (Send n bytes) (t .chip) (okFor os (t .count) (Send n bytes))) refl (o .only)
       by (Mask r v m) g b = no-more t (emit (Mask r v m) (t .chip) (okFor os (t .count) (Mask r v m))) refl (o .only)
       by (Plain e) g b =
-          no-more t (emit (Plain e) (t .chip) (okFor os (t .count) (Plain e))) (ap (λ (c : Bool). c && eqb (firstOf (emit (Plain e) (t .chip) (okFor os (t .count) (Plain e)))) 0) (aside-of e g .kind)) (o .only)
+          no-more t (emit (Plain e) (t .chip) (okFor os (t .count) (Plain e)))
+          (ap (λ (c : Bool). c && eqb (firstOf (emit (Plain e) (t .chip) (okFor os (t .count) (Plain e)))) 0) (aside-of e g .kind)) (o .only)
 
 pub only-trace : (os : List ℕ) (ss : List Step) (c : Chip) → every fine ss ≡ true → closesOpen false (trace os ss c .log) ≡ true
 unfolding trace openedFrom closesOpen

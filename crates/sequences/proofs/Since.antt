@@ -134,8 +134,15 @@ if-set t hz os room = go (eqb (refusalWith (sound t) 0 4 0 (length room) (length
     ended (Refused11 k) c = refl
 
     go : (b : Bool)
-        → 0 < cond b (performed (Done 0) (λ tr. endedBy (withIf t hz) (withIf t hz) (tr .progress) (tr .chip)) room (trace os (whileOpen (updates (ifUpdates hz))) (t .chip))) (called t room 0 (Refused (refusalWith (sound t) 0 4 0 (length room) (length os) 0))) .count
-        → cond b (performed (Done 0) (λ tr. endedBy (withIf t hz) (withIf t hz) (tr .progress) (tr .chip)) room (trace os (whileOpen (updates (ifUpdates hz))) (t .chip))) (called t room 0 (Refused (refusalWith (sound t) 0 4 0 (length room) (length os) 0))) .next .ifreq
+        → 0
+        < cond b
+        (performed (Done 0) (λ tr. endedBy (withIf t hz) (withIf t hz) (tr .progress) (tr .chip)) room
+        (trace os (whileOpen (updates (ifUpdates hz))) (t .chip)))
+        (called t room 0 (Refused (refusalWith (sound t) 0 4 0 (length room) (length os) 0))) .count
+        → cond b
+        (performed (Done 0) (λ tr. endedBy (withIf t hz) (withIf t hz) (tr .progress) (tr .chip)) room
+        (trace os (whileOpen (updates (ifUpdates hz))) (t .chip)))
+        (called t room 0 (Refused (refusalWith (sound t) 0 4 0 (length room) (length os) 0))) .next .ifreq
         ≡ hz
     go true h = ended (trace os (whileOpen (updates (ifUpdates hz))) (t .chip) .progress) (trace os (whileOpen (updates (ifUpdates hz))) (t .chip) .chip)
     go false h = absurd (omega arith)

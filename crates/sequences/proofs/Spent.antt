@@ -150,7 +150,14 @@ needed-all bs = omega (arith, needed-append (tunerWrite bs 0 3) (tunerWrite bs 3
 
 needed-init : needed initSteps ≡ 0
 needed-init =
-    omega (arith, needed-append (sendAll initArray) (whileOpen (updates initUpdates) ++ whileOpen (updates (ifUpdates 2_300_000))), needed-append (whileOpen (updates initUpdates)) (whileOpen (updates (ifUpdates 2_300_000))), needed-all initArray, needed-bracket initUpdates, needed-bracket (ifUpdates 2_300_000))
+    omega (
+      arith,
+      needed-append (sendAll initArray) (whileOpen (updates initUpdates) ++ whileOpen (updates (ifUpdates 2_300_000))),
+      needed-append (whileOpen (updates initUpdates)) (whileOpen (updates (ifUpdates 2_300_000))),
+      needed-all initArray,
+      needed-bracket initUpdates,
+      needed-bracket (ifUpdates 2_300_000),
+    )
 
 -- ---- a tuning: five, then three per try
 
@@ -185,7 +192,16 @@ module _ (address : ℕ) (rs : List ℕ) where
   unfolding innerSteps
   needed-inner kind notch pll-variants.Refused hz = omega (arith, needed-updates (muxUpdates notch (rangeOf hz)))
   needed-inner kind notch (pll-variants.Planned p) hz =
-      omega (arith, needed-append (updates (muxUpdates notch (rangeOf hz) ++ pllUpdates p)) (pllSteps address kind (p .number) rs), needed-updates (muxUpdates notch (rangeOf hz) ++ pllUpdates p), needed-append (statusSteps address rs) (updates (repairUpdates kind (p .number) (getD rs 4 0)) ++ triesFrom address rs 10 0), needed-status, needed-append (updates (repairUpdates kind (p .number) (getD rs 4 0))) (triesFrom address rs 10 0), needed-updates (repairUpdates kind (p .number) (getD rs 4 0)), needed-tries 10 0)
+      omega (
+        arith,
+        needed-append (updates (muxUpdates notch (rangeOf hz) ++ pllUpdates p)) (pllSteps address kind (p .number) rs),
+        needed-updates (muxUpdates notch (rangeOf hz) ++ pllUpdates p),
+        needed-append (statusSteps address rs) (updates (repairUpdates kind (p .number) (getD rs 4 0)) ++ triesFrom address rs 10 0),
+        needed-status,
+        needed-append (updates (repairUpdates kind (p .number) (getD rs 4 0))) (triesFrom address rs 10 0),
+        needed-updates (repairUpdates kind (p .number) (getD rs 4 0)),
+        needed-tries 10 0,
+      )
 
   needed-tune : (kind : Kind) (notch : Bool) (plan : Pll) (hz : ℕ) → needed (tuneSteps address kind notch plan hz rs) ≤ 35
   needed-tune kind notch plan hz = omega (arith, needed-behind (innerSteps address kind notch plan hz rs), needed-inner kind notch plan hz)
@@ -203,7 +219,13 @@ needed-gpio pin value a b c = (refl, refl)
 
 needed-board : (kind : Kind) (path : Path) (rs : List ℕ) → needed (boardPathSteps kind path rs) ≡ 3
 needed-board kind path rs =
-    omega (arith, needed-append (outputSteps 5 (getD rs 0 0) (getD rs 1 0)) (bitSteps 5 (levelFor path) (getD rs 2 0) ++ tunerPath kind path), needed-append (bitSteps 5 (levelFor path) (getD rs 2 0)) (tunerPath kind path), needed-gpio 5 (levelFor path) (getD rs 0 0) (getD rs 1 0) (getD rs 2 0), needed-own kind path)
+    omega (
+      arith,
+      needed-append (outputSteps 5 (getD rs 0 0) (getD rs 1 0)) (bitSteps 5 (levelFor path) (getD rs 2 0) ++ tunerPath kind path),
+      needed-append (bitSteps 5 (levelFor path) (getD rs 2 0)) (tunerPath kind path),
+      needed-gpio 5 (levelFor path) (getD rs 0 0) (getD rs 1 0) (getD rs 2 0),
+      needed-own kind path,
+    )
 
 needed-demod-setup : (hz rate xtal : ℕ) (inverted : Bool) → needed (demodSetup hz rate xtal ++ ddcSteps inverted) ≡ 0
 unfolding needed resetSteps rateSteps ifSteps ddcSteps accessStep
@@ -211,7 +233,14 @@ needed-demod-setup hz rate xtal inverted = refl
 
 needed-rate : (hz rate xtal : ℕ) (inverted : Bool) → needed (sampleRateSteps hz rate xtal inverted) ≡ 0
 needed-rate hz rate xtal inverted =
-    omega (arith, needed-append (filterSteps hz rate) (demodSetup hz rate xtal ++ ddcSteps inverted), needed-append (whileOpen (updates (ifUpdates hz))) (whileOpen (updates (bandwidthUpdates rate))), needed-bracket (ifUpdates hz), needed-bracket (bandwidthUpdates rate), needed-demod-setup hz rate xtal inverted)
+    omega (
+      arith,
+      needed-append (filterSteps hz rate) (demodSetup hz rate xtal ++ ddcSteps inverted),
+      needed-append (whileOpen (updates (ifUpdates hz))) (whileOpen (updates (bandwidthUpdates rate))),
+      needed-bracket (ifUpdates hz),
+      needed-bracket (bandwidthUpdates rate),
+      needed-demod-setup hz rate xtal inverted,
+    )
 
 needed-path-part : (kind : Kind) (r : Route) (rs : List ℕ) → needed (pathPart kind r rs) ≤ 3
 unfolding needed
@@ -227,7 +256,14 @@ needed-ddc (pll-variants.Planned p) inverted = refl
 needed-hop : (kind : Kind) (address : ℕ) (p : board-plan.Plan) (plan : Pll) (rs : List ℕ) → needed (hopSteps kind address p plan rs) ≤ 38
 needed-hop kind address p plan rs =
     let tail : List Step = tuneSteps address kind (p .notch) plan (p .hz) (drop (pathReplies kind (p .path)) rs) in
-    omega (arith, needed-append (pathPart kind (p .path) rs) (tail ++ ddcPart plan (p .inverted)), needed-append tail (ddcPart plan (p .inverted)), needed-path-part kind (p .path) rs, needed-tune address (drop (pathReplies kind (p .path)) rs) kind (p .notch) plan (p .hz), needed-ddc plan (p .inverted))
+    omega (
+      arith,
+      needed-append (pathPart kind (p .path) rs) (tail ++ ddcPart plan (p .inverted)),
+      needed-append tail (ddcPart plan (p .inverted)),
+      needed-path-part kind (p .path) rs,
+      needed-tune address (drop (pathReplies kind (p .path)) rs) kind (p .notch) plan (p .hz),
+      needed-ddc plan (p .inverted),
+    )
 
 -- ---- each row
 
@@ -303,5 +339,7 @@ unfolding spentIn trace run step tooShort inVco firstMixer settingOf turnOf turn
 tune-spends = refl
 
 pub hop-spends : spentIn (entries (lent hop) fresh) ≡ 38
-unfolding spentIn trace run step tooShort accessStep outputSteps bitSteps xtalBy correctedOf ddcSteps inVco firstMixer settingOf turnOf turnsOf planWith pllOf innerSteps repairUpdates triesFrom reversed planBy tableOk ascending bandsIn bandOf planIn planAt leValue
+unfolding spentIn trace run step tooShort accessStep outputSteps bitSteps xtalBy correctedOf ddcSteps inVco firstMixer
+    settingOf turnOf turnsOf planWith pllOf innerSteps repairUpdates triesFrom reversed planBy tableOk ascending bandsIn
+    bandOf planIn planAt leValue
 hop-spends = refl

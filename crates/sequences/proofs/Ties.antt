@@ -110,5 +110,6 @@ entries-most n os a c h = go (eqb (a .number) 0) refl
 -- what is asked hangs on how many outcomes there are, not on what they are: the uncut call asks the same
 pub uncut-entries : (i : ℕ) (k : Call) (t : Tuner) → callEntries (asked k t .number) (set (k .outcomes) i 0) (asked k t .steps) (t .chip) ≡ entries (uncut i k) t
 uncut-entries i k t =
-    ap (λ (n : ℕ). callEntries (askedBy (soundFor (k .order) t) (rowOf (k .order) t) n (length (k .room)) .number) (set (k .outcomes) i 0) (askedBy (soundFor (k .order) t) (rowOf (k .order) t) n (length (k .room)) .steps) (t .chip))
-    (sym (length-set (k .outcomes) i 0))
+    ap
+    (λ (n : ℕ). callEntries (askedBy (soundFor (k .order) t) (rowOf (k .order) t) n (length (k .room)) .number) (set (k .outcomes) i 0)
+    (askedBy (soundFor (k .order) t) (rowOf (k .order) t) n (length (k .room)) .steps) (t .chip)) (sym (length-set (k .outcomes) i 0))

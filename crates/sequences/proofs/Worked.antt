@@ -126,7 +126,10 @@ worked-day =
     next second _ (next first _ (between first _ (next start [] (fresh 1 0x74 28_800_000 (omega arith) refl) tuning refl) pin refl) rating refl) hopping refl
 
 pub day-answers : (result tuning start .answer ≡ Done 100_000_000) × (result rating first .answer ≡ Done 0) × (result hopping second .answer ≡ Done 100_000_000)
-unfolding resultOf leftBy callOf tooShort madeOf trace run step attemptedBy maskOf chunkBytes innerSteps repairUpdates triesFrom replyBytes rangeOf lastAt reversed inVco firstMixer settingOf turnOf turnsOf planWith planOf rateResult hopResult xtalBy correctedOf ratioHolds rateNumber resetSteps rateSteps ifSteps ddcSteps accessStep outputSteps bitSteps planBy tableOk ascending bandsIn bandOf planIn planAt leValue triesIn lockedIn bracket
+unfolding resultOf leftBy callOf tooShort madeOf trace run step attemptedBy maskOf chunkBytes innerSteps repairUpdates
+    triesFrom replyBytes rangeOf lastAt reversed inVco firstMixer settingOf turnOf turnsOf planWith planOf rateResult
+    hopResult xtalBy correctedOf ratioHolds rateNumber resetSteps rateSteps ifSteps ddcSteps accessStep outputSteps
+    bitSteps planBy tableOk ascending bandsIn bandOf planIn planAt leValue triesIn lockedIn bracket
 day-answers = (refl, refl, refl)
 
 -- the rate's IF of 0 is there, and the next rate, which would ask for 2,300,000, keeps it: `zero-stays` speaks of it
@@ -134,5 +137,8 @@ abbrev faster : Call
 faster = call (SampleRate 2_048_000 [] generic) (replicate 17 0) (replicate 280 0)
 
 pub zero-kept : (first .ifreq ≡ 2_300_000) × (second .ifreq ≡ 0) × (result faster second .answer ≡ Done 0) × (tunerAfter faster second .ifreq ≡ 0)
-unfolding resultOf leftBy callOf tooShort madeOf trace run step attemptedBy maskOf chunkBytes innerSteps repairUpdates triesFrom replyBytes rangeOf lastAt reversed inVco firstMixer settingOf turnOf turnsOf planWith planOf rateResult hopResult xtalBy correctedOf ratioHolds rateNumber resetSteps rateSteps ifSteps ddcSteps accessStep outputSteps bitSteps planBy tableOk ascending bandsIn bandOf planIn planAt leValue triesIn lockedIn bracket
+unfolding resultOf leftBy callOf tooShort madeOf trace run step attemptedBy maskOf chunkBytes innerSteps repairUpdates
+    triesFrom replyBytes rangeOf lastAt reversed inVco firstMixer settingOf turnOf turnsOf planWith planOf rateResult
+    hopResult xtalBy correctedOf ratioHolds rateNumber resetSteps rateSteps ifSteps ddcSteps accessStep outputSteps
+    bitSteps planBy tableOk ascending bandsIn bandOf planIn planAt leValue triesIn lockedIn bracket
 zero-kept = (refl, refl, refl, refl)

@@ -32,7 +32,13 @@ module _ (p : List ℕ) (edition : ℕ) (ks ns : List ℕ) (within : Within ks n
       let b = p ++ imageOf edition ks ns in
       let n = long p edition ks ns within in
       let d : distanceOf b ≡ size = distance-read p edition ks ns within (omega arith) ∙ e in
-      rw (le-ltb (length b) 4 (omega arith), eq-eqb (editionOf b) edition (edition-read p edition ks ns within), eq-eqb (fillerOf b) 0 (filler-read p edition ks ns within), eq-eqb (distanceOf b) size d, le-leb size (length b - 4) (omega arith))
+      rw (
+        le-ltb (length b) 4 (omega arith),
+        eq-eqb (editionOf b) edition (edition-read p edition ks ns within),
+        eq-eqb (fillerOf b) 0 (filler-read p edition ks ns within),
+        eq-eqb (distanceOf b) size d,
+        le-leb size (length b - 4) (omega arith),
+      )
 
   -- and a reader of another edition answers 16, whatever its fields are
   pub other : (asked size : ℕ) → (edition ≡ asked → ⊥) → trailerRefusal asked size (p ++ imageOf edition ks ns) ≡ 16

@@ -167,7 +167,9 @@ there s v h e =
 -- ---- writing
 
 pub fields-laid : (l : List ℕ) (s : Settings)
-    → sets (sets (sets (sets (sets (sets l 0 (leBytes 1 (s .kind))) 1 (leBytes 1 (s .board))) 2 (leBytes 4 (ofZ w32 (s .ppm)))) 6 (leBytes 4 (s .rate))) 10 (leBytes 8 (s .frequency))) 18 (leBytes 1 (s .gain))
+    → sets
+    (sets (sets (sets (sets (sets l 0 (leBytes 1 (s .kind))) 1 (leBytes 1 (s .board))) 2 (leBytes 4 (ofZ w32 (s .ppm)))) 6 (leBytes 4 (s .rate))) 10
+    (leBytes 8 (s .frequency))) 18 (leBytes 1 (s .gain))
     ≡ sets l 0 (joined (partsOf widths1 (numbers1 s)))
 unfolding partsOf
 fields-laid l s = laid-joined l 0 widths1 (partsOf widths1 (numbers1 s)) (sized widths1 (numbers1 s) refl)

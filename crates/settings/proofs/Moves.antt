@@ -90,7 +90,9 @@ module _ (b : List ℕ) (bytes : Bytes b) (h : onlyOf2 b .refusal ≡ 0) where
       (record {
         proper =
             record {
-              first = proper-of (getD n 0 0) (getD n 1 0) (getD n 2 0) (getD n 3 0) (getD n 4 0) (getD n 5 0) (each .1 .1 .0) (each .1 .1 .1 .0) (each .1 .1 .1 .1 .0) (fits-by (fitsOf (found2 b .settings)) (passed .1 .0));
+              first =
+                  proper-of (getD n 0 0) (getD n 1 0) (getD n 2 0) (getD n 3 0) (getD n 4 0) (getD n 5 0) (each .1 .1 .0) (each .1 .1 .1 .0)
+                  (each .1 .1 .1 .1 .0) (fits-by (fitsOf (found2 b .settings)) (passed .1 .0));
               ifreq = each .1 .1 .1 .1 .1 .1 .0;
             };
         whole =

@@ -62,14 +62,26 @@ entriesIn-written [] r h = refl
 entriesIn-written (e ∷ es) r h =
     let row = row-of e (h .0) in
     let long : length (entryBytes e) ≡ 16 = length-entryBytes e (row .eight) in
-    rw (append-assoc (entryBytes e) (entriesBytes es) r, take-at (entryBytes e) (entriesBytes es ++ r) 16 long, drop-at (entryBytes e) (entriesBytes es ++ r) 16 long, read-written e (row .address), entriesIn-written es r (h .1))
+    rw (
+      append-assoc (entryBytes e) (entriesBytes es) r,
+      take-at (entryBytes e) (entriesBytes es ++ r) 16 long,
+      drop-at (entryBytes e) (entriesBytes es ++ r) 16 long,
+      read-written e (row .address),
+      entriesIn-written es r (h .1),
+    )
 
 allFit-written : (es : List Entry) (r : List ℕ) → AllFit es → allFit (length es) (entriesBytes es ++ r) ≡ true
 unfolding allFit entriesBytes
 allFit-written [] r h = refl
 allFit-written (e ∷ es) r h =
     let long : length (entryBytes e) ≡ 16 = length-entryBytes e (row-of e (h .0) .eight) in
-    rw (append-assoc (entryBytes e) (entriesBytes es) r, take-at (entryBytes e) (entriesBytes es ++ r) 16 long, drop-at (entryBytes e) (entriesBytes es ++ r) 16 long, fits-written e (h .0), allFit-written es r (h .1))
+    rw (
+      append-assoc (entryBytes e) (entriesBytes es) r,
+      take-at (entryBytes e) (entriesBytes es ++ r) 16 long,
+      drop-at (entryBytes e) (entriesBytes es ++ r) 16 long,
+      fits-written e (h .0),
+      allFit-written es r (h .1),
+    )
 
 -- and bytes whose entries fit are written from them
 pub written-entriesIn : (k : ℕ) (l : List ℕ) → Bytes l → allFit k l ≡ true → entriesBytes (entriesIn k l) ≡ take (16 * k) l

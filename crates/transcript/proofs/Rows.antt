@@ -99,4 +99,13 @@ written-read b bytes h =
     let spelt : take 2 (drop 4 b) ≡ getD b 4 0 ∷ getD b 5 0 ∷ [] = rw (drop-cons b 4 0 (omega arith), drop-cons b 5 0 (omega arith)) in
     ap₂ (λ (x : List ℕ) (y : ℕ). (getD b 0 0 ∷ getD b 1 0 ∷ getD b 2 0 ∷ getD b 3 0 ∷ []) ++ (x ++ (0 ∷ y ∷ drop 8 b))) (value ∙ spelt) (sym seven)
     ∙ ap (λ (x : ℕ). getD b 0 0 ∷ getD b 1 0 ∷ getD b 2 0 ∷ getD b 3 0 ∷ getD b 4 0 ∷ getD b 5 0 ∷ x ∷ getD b 7 0 ∷ drop 8 b) (sym six)
-    ∙ rw (cons-drop b 7 (omega arith), cons-drop b 6 (omega arith), cons-drop b 5 (omega arith), cons-drop b 4 (omega arith), cons-drop b 3 (omega arith), cons-drop b 2 (omega arith), cons-drop b 1 (omega arith), cons-drop b 0 (omega arith))
+    ∙ rw (
+      cons-drop b 7 (omega arith),
+      cons-drop b 6 (omega arith),
+      cons-drop b 5 (omega arith),
+      cons-drop b 4 (omega arith),
+      cons-drop b 3 (omega arith),
+      cons-drop b 2 (omega arith),
+      cons-drop b 1 (omega arith),
+      cons-drop b 0 (omega arith),
+    )

@@ -47,7 +47,9 @@ by-divider kind lo r (By m k) e =
     let some : m ≡ 0 → ⊥ = λ z. omega arith in
     simp (ne-eqb m 0 some) (by-test kind m k (lo * m) r (taken kind (wholeOf (lo * m) r)) refl)
 
-by-reference : (kind : Kind) (lo r : ℕ) (b : Bool) → cond b Refused (cond (eqb (dividerOn lo) 0) Refused (sheetWith kind (dividerOn lo) (lo * dividerOn lo) r)) ≡ filledBy (cond b pll.Refused (planWith kind lo r (dividerOf lo)))
+by-reference : (kind : Kind) (lo r : ℕ) (b : Bool)
+    → cond b Refused (cond (eqb (dividerOn lo) 0) Refused (sheetWith kind (dividerOn lo) (lo * dividerOn lo) r))
+    ≡ filledBy (cond b pll.Refused (planWith kind lo r (dividerOf lo)))
 by-reference kind lo r true = refl
 by-reference kind lo r false =
     ap (λ (m : ℕ). cond (eqb m 0) Refused (sheetWith kind m (lo * m) r)) (same-divider lo) ∙ by-divider kind lo r (dividerOf lo) refl

@@ -51,6 +51,14 @@ filled-with kind lo r m nr nm e l h =
     (λ i. filledOf (e i) (lo * e i) r) ∙ sym (simp (ne-eqb r 0 nr, ne-eqb (dividerOn lo) 0 some, le-leb _ _ l′, le-leb _ _ h′))
 
 -- put together from a byte and a sum that are the definitions'
-pub filled : (kind : Kind) (lo r m b : ℕ) (w : Work) → (r ≡ 0 → ⊥) → (m ≡ 0 → ⊥) → m ≡ dividerOn lo → 13 ≤ lo * m / (2 * r) → lo * m / (2 * r) ≤ capOf kind → b ≡ byteOf (lo * m / (2 * r)) → w ≡ sumOn (r / 1000) (lo * m % (2 * r) / 1000) → In (record { m = m; n = lo * m / (2 * r); setting = b; sum = w .sum; rest = w .left }) ≡ sheetOf kind lo r
+pub filled : (kind : Kind) (lo r m b : ℕ) (w : Work)
+    → (r ≡ 0 → ⊥)
+    → (m ≡ 0 → ⊥)
+    → m ≡ dividerOn lo
+    → 13 ≤ lo * m / (2 * r)
+    → lo * m / (2 * r) ≤ capOf kind
+    → b ≡ byteOf (lo * m / (2 * r))
+    → w ≡ sumOn (r / 1000) (lo * m % (2 * r) / 1000)
+    → In (record { m = m; n = lo * m / (2 * r); setting = b; sum = w .sum; rest = w .left }) ≡ sheetOf kind lo r
 filled kind lo r m b w nr nm e l h eb ew =
     (λ i. In (record { m = m; n = lo * m / (2 * r); setting = eb i; sum = ew i .sum; rest = ew i .left })) ∙ filled-with kind lo r m nr nm e l h

@@ -44,50 +44,125 @@ past-it lo b h = lt-leb lo b h
 on-none : (lo : ℕ) → 1_800_000_000 ≤ lo → dividerOn lo ≡ 0
 unfolding bandOf bandsOf
 on-none lo h =
-    simp
-    (from-it lo 885_000_000 (omega arith), past-it lo 1_799_999_999 (omega arith), from-it lo 442_500_000 (omega arith), past-it lo 884_999_999 (omega arith), from-it lo 221_250_000 (omega arith), past-it lo 442_499_999 (omega arith), from-it lo 110_625_000 (omega arith), past-it lo 221_249_999 (omega arith), from-it lo 55_312_500 (omega arith), past-it lo 110_624_999 (omega arith), from-it lo 27_656_250 (omega arith), past-it lo 55_312_499 (omega arith))
+    simp (
+      from-it lo 885_000_000 (omega arith),
+      past-it lo 1_799_999_999 (omega arith),
+      from-it lo 442_500_000 (omega arith),
+      past-it lo 884_999_999 (omega arith),
+      from-it lo 221_250_000 (omega arith),
+      past-it lo 442_499_999 (omega arith),
+      from-it lo 110_625_000 (omega arith),
+      past-it lo 221_249_999 (omega arith),
+      from-it lo 55_312_500 (omega arith),
+      past-it lo 110_624_999 (omega arith),
+      from-it lo 27_656_250 (omega arith),
+      past-it lo 55_312_499 (omega arith),
+    )
 
 on2 : (lo : ℕ) → 885_000_000 ≤ lo → lo < 1_800_000_000 → dividerOn lo ≡ 2
 unfolding bandOf bandsOf
 on2 lo h k =
-    simp
-    (from-it lo 885_000_000 (omega arith), to-it lo 1_799_999_999 (omega arith), from-it lo 442_500_000 (omega arith), past-it lo 884_999_999 (omega arith), from-it lo 221_250_000 (omega arith), past-it lo 442_499_999 (omega arith), from-it lo 110_625_000 (omega arith), past-it lo 221_249_999 (omega arith), from-it lo 55_312_500 (omega arith), past-it lo 110_624_999 (omega arith), from-it lo 27_656_250 (omega arith), past-it lo 55_312_499 (omega arith))
+    simp (
+      from-it lo 885_000_000 (omega arith),
+      to-it lo 1_799_999_999 (omega arith),
+      from-it lo 442_500_000 (omega arith),
+      past-it lo 884_999_999 (omega arith),
+      from-it lo 221_250_000 (omega arith),
+      past-it lo 442_499_999 (omega arith),
+      from-it lo 110_625_000 (omega arith),
+      past-it lo 221_249_999 (omega arith),
+      from-it lo 55_312_500 (omega arith),
+      past-it lo 110_624_999 (omega arith),
+      from-it lo 27_656_250 (omega arith),
+      past-it lo 55_312_499 (omega arith),
+    )
 
 on4 : (lo : ℕ) → 442_500_000 ≤ lo → lo < 885_000_000 → dividerOn lo ≡ 4
 unfolding bandOf bandsOf
 on4 lo h k =
-    simp
-    (below-it lo 885_000_000 (omega arith), from-it lo 442_500_000 (omega arith), to-it lo 884_999_999 (omega arith), from-it lo 221_250_000 (omega arith), past-it lo 442_499_999 (omega arith), from-it lo 110_625_000 (omega arith), past-it lo 221_249_999 (omega arith), from-it lo 55_312_500 (omega arith), past-it lo 110_624_999 (omega arith), from-it lo 27_656_250 (omega arith), past-it lo 55_312_499 (omega arith))
+    simp (
+      below-it lo 885_000_000 (omega arith),
+      from-it lo 442_500_000 (omega arith),
+      to-it lo 884_999_999 (omega arith),
+      from-it lo 221_250_000 (omega arith),
+      past-it lo 442_499_999 (omega arith),
+      from-it lo 110_625_000 (omega arith),
+      past-it lo 221_249_999 (omega arith),
+      from-it lo 55_312_500 (omega arith),
+      past-it lo 110_624_999 (omega arith),
+      from-it lo 27_656_250 (omega arith),
+      past-it lo 55_312_499 (omega arith),
+    )
 
 on8 : (lo : ℕ) → 221_250_000 ≤ lo → lo < 442_500_000 → dividerOn lo ≡ 8
 unfolding bandOf bandsOf
 on8 lo h k =
-    simp
-    (below-it lo 885_000_000 (omega arith), below-it lo 442_500_000 (omega arith), from-it lo 221_250_000 (omega arith), to-it lo 442_499_999 (omega arith), from-it lo 110_625_000 (omega arith), past-it lo 221_249_999 (omega arith), from-it lo 55_312_500 (omega arith), past-it lo 110_624_999 (omega arith), from-it lo 27_656_250 (omega arith), past-it lo 55_312_499 (omega arith))
+    simp (
+      below-it lo 885_000_000 (omega arith),
+      below-it lo 442_500_000 (omega arith),
+      from-it lo 221_250_000 (omega arith),
+      to-it lo 442_499_999 (omega arith),
+      from-it lo 110_625_000 (omega arith),
+      past-it lo 221_249_999 (omega arith),
+      from-it lo 55_312_500 (omega arith),
+      past-it lo 110_624_999 (omega arith),
+      from-it lo 27_656_250 (omega arith),
+      past-it lo 55_312_499 (omega arith),
+    )
 
 on16 : (lo : ℕ) → 110_625_000 ≤ lo → lo < 221_250_000 → dividerOn lo ≡ 16
 unfolding bandOf bandsOf
 on16 lo h k =
-    simp
-    (below-it lo 885_000_000 (omega arith), below-it lo 442_500_000 (omega arith), below-it lo 221_250_000 (omega arith), from-it lo 110_625_000 (omega arith), to-it lo 221_249_999 (omega arith), from-it lo 55_312_500 (omega arith), past-it lo 110_624_999 (omega arith), from-it lo 27_656_250 (omega arith), past-it lo 55_312_499 (omega arith))
+    simp (
+      below-it lo 885_000_000 (omega arith),
+      below-it lo 442_500_000 (omega arith),
+      below-it lo 221_250_000 (omega arith),
+      from-it lo 110_625_000 (omega arith),
+      to-it lo 221_249_999 (omega arith),
+      from-it lo 55_312_500 (omega arith),
+      past-it lo 110_624_999 (omega arith),
+      from-it lo 27_656_250 (omega arith),
+      past-it lo 55_312_499 (omega arith),
+    )
 
 on32 : (lo : ℕ) → 55_312_500 ≤ lo → lo < 110_625_000 → dividerOn lo ≡ 32
 unfolding bandOf bandsOf
 on32 lo h k =
-    simp
-    (below-it lo 885_000_000 (omega arith), below-it lo 442_500_000 (omega arith), below-it lo 221_250_000 (omega arith), below-it lo 110_625_000 (omega arith), from-it lo 55_312_500 (omega arith), to-it lo 110_624_999 (omega arith), from-it lo 27_656_250 (omega arith), past-it lo 55_312_499 (omega arith))
+    simp (
+      below-it lo 885_000_000 (omega arith),
+      below-it lo 442_500_000 (omega arith),
+      below-it lo 221_250_000 (omega arith),
+      below-it lo 110_625_000 (omega arith),
+      from-it lo 55_312_500 (omega arith),
+      to-it lo 110_624_999 (omega arith),
+      from-it lo 27_656_250 (omega arith),
+      past-it lo 55_312_499 (omega arith),
+    )
 
 on64 : (lo : ℕ) → 27_656_250 ≤ lo → lo < 55_312_500 → dividerOn lo ≡ 64
 unfolding bandOf bandsOf
 on64 lo h k =
-    simp
-    (below-it lo 885_000_000 (omega arith), below-it lo 442_500_000 (omega arith), below-it lo 221_250_000 (omega arith), below-it lo 110_625_000 (omega arith), below-it lo 55_312_500 (omega arith), from-it lo 27_656_250 (omega arith), to-it lo 55_312_499 (omega arith))
+    simp (
+      below-it lo 885_000_000 (omega arith),
+      below-it lo 442_500_000 (omega arith),
+      below-it lo 221_250_000 (omega arith),
+      below-it lo 110_625_000 (omega arith),
+      below-it lo 55_312_500 (omega arith),
+      from-it lo 27_656_250 (omega arith),
+      to-it lo 55_312_499 (omega arith),
+    )
 
 on-low : (lo : ℕ) → lo < 27_656_250 → dividerOn lo ≡ 0
 unfolding bandOf bandsOf
 on-low lo h =
-    simp
-    (below-it lo 885_000_000 (omega arith), below-it lo 442_500_000 (omega arith), below-it lo 221_250_000 (omega arith), below-it lo 110_625_000 (omega arith), below-it lo 55_312_500 (omega arith), below-it lo 27_656_250 (omega arith))
+    simp (
+      below-it lo 885_000_000 (omega arith),
+      below-it lo 442_500_000 (omega arith),
+      below-it lo 221_250_000 (omega arith),
+      below-it lo 110_625_000 (omega arith),
+      below-it lo 55_312_500 (omega arith),
+      below-it lo 27_656_250 (omega arith),
+    )
 
 pub same-divider : (lo : ℕ) → dividerOn lo ≡ mOf (dividerOf lo)
 same-divider lo =

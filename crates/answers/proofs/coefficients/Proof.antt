@@ -49,21 +49,30 @@ loop-less c = search needs
 
 loop-again : tie.Need-loop-again Inv-loop μ-loop
 loop-again c =
-    let a = c .before .before .before .before .before .args in
-    let l = c .before .before .before .loop in
+    let at-word = c .before in
+    let word = at-word .word in
+    let at-loop = at-word .before .before in
+    let l = at-loop .loop in
+    let a = at-loop .before .before .args in
     let x = leValue (take 4 (drop (4 * l .i) (now (a .s)))) in
     let read : toZ w32 (ofZ w32 (c .to-signed .result)) ≡ toZ w32 x =
     ap (λ (z : ℤ). toZ w32 (ofZ w32 z)) (c .to-signed .ensures)
-    ∙ ap (toZ w32) (ofZ-toZ {w = w32} {n = c .before .word .result} (record { fits = c .before .word .ensures .1 }) ∙ c .before .word .ensures .0) in (
+    ∙ ap (toZ w32) (ofZ-toZ {w = w32} {n = word .result} (record { fits = word .ensures .1 }) ∙ word .ensures .0) in (
       omega arith,
       (
         search needs,
-        ap (λ (z : ℤ). take (l .i + 1) (set (l .v) (l .i) z) ++ wordsIn (16 - (l .i + 1)) (drop (4 * (l .i + 1)) (now (a .s)))) read ∙ read-turn (now (a .s)) (l .v) (l .i) (omega arith) (omega arith) ∙ l .inv .1 .1,
+        ap (λ (z : ℤ). take (l .i + 1) (set (l .v) (l .i) z) ++ wordsIn (16 - (l .i + 1)) (drop (4 * (l .i + 1)) (now (a .s)))) read
+            ∙ read-turn (now (a .s)) (l .v) (l .i) (omega arith) (omega arith)
+            ∙ l .inv .1 .1,
       ),
     )
 
 returns : tie.Need-returns Inv-loop μ-loop
-returns c = let l = c .before .loop in read-end (now (c .before .before .before .args .s)) (l .v) (l .i) (l .inv .1 .0) (omega arith) (omega arith) ∙ l .inv .1 .1
+returns c =
+    let at-loop = c .before in
+    let l = at-loop .loop in
+    let start = at-loop .before .before in
+    read-end (now (start .args .s)) (l .v) (l .i) (l .inv .1 .0) (omega arith) (omega arith) ∙ l .inv .1 .1
 
 pub coefficients-spec : {M : Type 1} → statement M
 coefficients-spec =

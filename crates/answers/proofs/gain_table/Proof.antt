@@ -29,11 +29,15 @@ same-length c = search needs
 
 returns : tie.Need-returns
 returns c =
-    let a = c .before .before .before .before .before .before .before .before .before .args in
-    let r = c .before .before .before .before .before .before .before .get-gain-table .result in
-    c .before .before .lend-words .ensures
-    ∙ ap (λ (n : ℕ). lentTo n 0 (wordBytes (r .steps)) (now (a .out))) (c .before .before .before .before .before .number-of .ensures)
-    ∙ ap (λ (t : Table). lentTo (numberOf (t .answer)) 0 (wordBytes (t .steps)) (now (a .out))) (c .before .before .before .before .before .before .before .get-gain-table .ensures)
+    let at-lend-words = c .before .before in
+    let at-number-of = at-lend-words .before .before .before in
+    let at-get-gain-table = at-number-of .before .before in
+    let get-gain-table = at-get-gain-table .get-gain-table in
+    let r = get-gain-table .result in
+    let a = at-get-gain-table .before .before .args in
+    at-lend-words .lend-words .ensures
+    ∙ ap (λ (n : ℕ). lentTo n 0 (wordBytes (r .steps)) (now (a .out))) (at-number-of .number-of .ensures)
+    ∙ ap (λ (t : Table). lentTo (numberOf (t .answer)) 0 (wordBytes (t .steps)) (now (a .out))) (get-gain-table .ensures)
     ∙ table-given (a .tuner) (now (a .out))
 
 pub gain-table-spec : {M : Type 1} → statement M

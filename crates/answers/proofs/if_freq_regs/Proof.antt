@@ -15,8 +15,9 @@ if-freq-regs-requires c κs = search needs
 
 cast-lend : tie.Need-cast-lend
 cast-lend c =
-    let a = c .before .before .before .before .args in
-    record { fits = subst (λ (r : IfRegs). r .refusal < 256) (sym (c .before .before .if-freq-regs .ensures)) (if-small (a .hz) (a .xtal)) }
+    let at-if-freq-regs = c .before .before in
+    let a = at-if-freq-regs .before .before .args in
+    record { fits = subst (λ (r : IfRegs). r .refusal < 256) (sym (at-if-freq-regs .if-freq-regs .ensures)) (if-small (a .hz) (a .xtal)) }
 
 slice-aggregate-lend : tie.Need-slice-aggregate-lend
 slice-aggregate-lend c = search needs
@@ -29,8 +30,10 @@ same-length c = search needs
 
 returns : tie.Need-returns
 returns c =
-    let a = c .before .before .before .before .before .before .before .before .before .args in
-    c .before .before .lend .ensures ∙ ap (λ (r : IfRegs). lentTo (r .refusal) 0 (r .bytes) (now (a .out))) (c .before .before .before .before .before .before .before .if-freq-regs .ensures)
+    let at-lend = c .before .before in
+    let at-if-freq-regs = at-lend .before .before .before .before .before in
+    let a = at-if-freq-regs .before .before .args in
+    at-lend .lend .ensures ∙ ap (λ (r : IfRegs). lentTo (r .refusal) 0 (r .bytes) (now (a .out))) (at-if-freq-regs .if-freq-regs .ensures)
 
 pub if-freq-regs-spec : {M : Type 1} → statement M
 if-freq-regs-spec =

@@ -29,9 +29,12 @@ refused-requires-3 c κs = search needs
 
 returns-3 : tie.Need-returns-3
 returns-3 c =
+    let at-enum-told = c .before in
+    let at-if2 = at-enum-told .before .before in
+    let at-if1 = at-if2 .before in
     c .refused3 .ensures
-    ∙ ap filledIn (sym (c .before .enum-told .given .1))
-    ∙ laid _ _ _ (c .before .before .before .before .if1 .left) (c .before .before .before .if2 .left)
+    ∙ ap filledIn (sym (at-enum-told .enum-told .given .1))
+    ∙ laid _ _ _ (at-if1 .if1 .left) (at-if2 .if2 .left)
 
 cast-t8 : tie.Need-cast-t8
 cast-t8 c = search needs
@@ -44,7 +47,10 @@ cast-t12 c = search needs
 
 returns-4 : tie.Need-returns-4
 returns-4 c =
-    ap filledIn (sym (c .before .before .sheet .given .1)) ∙ laid _ _ _ (c .before .before .before .before .before .if1 .left) (c .before .before .before .before .if2 .left)
+    let at-sheet = c .before .before in
+    let at-if2 = at-sheet .before .before in
+    let at-if1 = at-if2 .before in
+    ap filledIn (sym (at-sheet .sheet .given .1)) ∙ laid _ _ _ (at-if1 .if1 .left) (at-if2 .if2 .left)
 
 pub laid-out-spec : {M : Type 1} → statement M
 laid-out-spec =

@@ -28,9 +28,14 @@ same-length c = search needs
 
 returns : tie.Need-returns
 returns c =
-    let a = c .before .before .before .before .before .before .before .before .before .args in
-    c .before .before .lend .ensures
-    ∙ (λ i. lentTo (a .refusal) (a .plan .hz) (c .before .before .before .before .before .before .before .bit .ensures i ∷ c .before .before .before .before .before .before .route-number .ensures i ∷ c .before .before .before .before .before .bit2 .ensures i ∷ []) (now (a .out)))
+    let at-lend = c .before .before in
+    let at-bit2 = at-lend .before .before .before in
+    let at-route-number = at-bit2 .before in
+    let at-bit = at-route-number .before in
+    let a = at-bit .before .before .args in
+    at-lend .lend .ensures
+    ∙ (λ i. lentTo (a .refusal) (a .plan .hz) (at-bit .bit .ensures i ∷ at-route-number .route-number .ensures i ∷ at-bit2 .bit2 .ensures i ∷ [])
+    (now (a .out)))
 
 pub lend-plan-spec : {M : Type 1} → statement M
 lend-plan-spec =

@@ -31,9 +31,12 @@ same-length c = search needs
 
 returns-2 : tie.Need-returns-2
 returns-2 c =
-    let a = c .before .before .before .before .before .before .before .before .before .before .before .args in
-    c .before .before .lend .ensures
-    ∙ ap (λ (r : Packed). lentTo (r .refusal) 0 (r .bytes) (now (a .out))) (c .before .before .before .before .before .before .pack-fir .ensures ∙ ap packed (c .before .before .before .before .before .before .before .coefficients .ensures))
+    let at-lend = c .before .before in
+    let at-pack-fir = at-lend .before .before .before .before in
+    let at-coefficients = at-pack-fir .before in
+    let a = at-coefficients .before .before .before .before .args in
+    at-lend .lend .ensures
+    ∙ ap (λ (r : Packed). lentTo (r .refusal) 0 (r .bytes) (now (a .out))) (at-pack-fir .pack-fir .ensures ∙ ap packed (at-coefficients .coefficients .ensures))
     ∙ packing (now (a .values)) (now (a .out)) (omega arith)
 
 pub pack-fir-spec : {M : Type 1} → statement M

@@ -20,9 +20,11 @@ same-length c = search needs
 
 returns : tie.Need-returns
 returns c =
-    let a = c .before .before .before .before .before .before .before .args in
-    c .before .before .lend-plan .ensures
-    ∙ ap (λ (q : Planned). lentTo (q .refusal) (q .plan .hz) (planBytes (q .plan)) (now (a .out))) (c .before .before .before .before .plan-by-table .ensures)
+    let at-lend-plan = c .before .before in
+    let at-plan-by-table = at-lend-plan .before .before in
+    let a = at-plan-by-table .before .before .before .args in
+    at-lend-plan .lend-plan .ensures
+    ∙ ap (λ (q : Planned). lentTo (q .refusal) (q .plan .hz) (planBytes (q .plan)) (now (a .out))) (at-plan-by-table .plan-by-table .ensures)
 
 pub plan-by-table-spec : {M : Type 1} → statement M
 plan-by-table-spec =

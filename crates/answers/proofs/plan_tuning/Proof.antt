@@ -33,8 +33,9 @@ enum-told c = search needs
 returns-2 : tie.Need-returns-2
 unfolding planInto
 returns-2 c =
-    let a = c .before .before .before .before .before .args in
-    ap (λ (b : BoardRead). planInto b (a .hz) (now (a .out))) (sym (c .enum-told .given .1) ∙ c .before .before .board-of .ensures)
+    let at-board-of = c .before .before in
+    let a = at-board-of .before .before .before .args in
+    ap (λ (b : BoardRead). planInto b (a .hz) (now (a .out))) (sym (c .enum-told .given .1) ∙ at-board-of .board-of .ensures)
 
 plan-tuning-requires : tie.Need-plan-tuning-requires
 plan-tuning-requires c κs = search needs
@@ -48,10 +49,14 @@ same-length c = search needs
 returns-3 : tie.Need-returns-3
 unfolding planInto
 returns-3 c =
-    let a = c .before .before .before .before .before .before .before .before .before .before .before .args in
-    c .before .before .lend-plan .ensures
-    ∙ ap (λ (q : Plan). lentTo 0 (q .hz) (planBytes q) (now (a .out))) (c .before .before .before .before .plan-tuning .ensures)
-    ∙ ap (λ (b : BoardRead). planInto b (a .hz) (now (a .out))) (sym (c .before .before .before .before .before .before .b .given .1) ∙ c .before .before .before .before .before .before .before .before .board-of .ensures)
+    let at-lend-plan = c .before .before in
+    let at-plan-tuning = at-lend-plan .before .before in
+    let at-b = at-plan-tuning .before .before in
+    let at-board-of = at-b .before .before in
+    let a = at-board-of .before .before .before .args in
+    at-lend-plan .lend-plan .ensures
+    ∙ ap (λ (q : Plan). lentTo 0 (q .hz) (planBytes q) (now (a .out))) (at-plan-tuning .plan-tuning .ensures)
+    ∙ ap (λ (b : BoardRead). planInto b (a .hz) (now (a .out))) (sym (at-b .b .given .1) ∙ at-board-of .board-of .ensures)
 
 pub plan-tuning-spec : {M : Type 1} → statement M
 plan-tuning-spec =

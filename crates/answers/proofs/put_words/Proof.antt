@@ -53,14 +53,24 @@ loop-less c = search needs
 
 loop-again : tie.Need-loop-again Inv-loop μ-loop
 loop-again c =
-    let a = c .before .before .before .before .before .before .before .before .before .args in
-    let l = c .before .before .before .before .before .before .before .loop in
-    let stored : c .before .before .put .last .0 ≡ sets (l .out) (4 * l .i) (leBytes 4 (ofZ w32 (getD (now (a .v)) (l .i) (pos 0)))) =
-    c .before .before .put .ensures ∙ ap (λ (n : ℕ). sets (l .out) (4 * l .i) (leBytes 4 n)) (c .before .before .before .to-bits .ensures ∙ ap (ofZ w32) (toZ-ofZ {w = w32} {z = getD (now (a .v)) (l .i) (pos 0)} (record { sfits = c .before .before .before .before .to-bits-arg .given }))) in (
+    let at-put = c .before .before in
+    let put = at-put .put in
+    let at-to-bits = at-put .before in
+    let at-to-bits-arg = at-to-bits .before in
+    let at-loop = at-to-bits-arg .before .before .before in
+    let l = at-loop .loop in
+    let a = at-loop .before .before .args in
+    let stored : put .last .0 ≡ sets (l .out) (4 * l .i) (leBytes 4 (ofZ w32 (getD (now (a .v)) (l .i) (pos 0)))) =
+    put .ensures
+    ∙ ap (λ (n : ℕ). sets (l .out) (4 * l .i) (leBytes 4 n))
+    (at-to-bits .to-bits .ensures
+    ∙ ap (ofZ w32) (toZ-ofZ {w = w32} {z = getD (now (a .v)) (l .i) (pos 0)} (record { sfits = at-to-bits-arg .to-bits-arg .given }))) in (
       omega arith,
       (
         search needs,
-        ap (λ (u : List ℕ). sets u (4 * (l .i + 1)) (wordBytes (drop (l .i + 1) (now (a .v))))) stored ∙ put-turn (l .out) (now (a .v)) (l .i) (omega arith) ∙ l .inv .1 .1,
+        ap (λ (u : List ℕ). sets u (4 * (l .i + 1)) (wordBytes (drop (l .i + 1) (now (a .v))))) stored
+            ∙ put-turn (l .out) (now (a .v)) (l .i) (omega arith)
+            ∙ l .inv .1 .1,
       ),
     )
 
@@ -68,7 +78,11 @@ same-length : tie.Need-same-length Inv-loop μ-loop
 same-length c = search needs
 
 returns : tie.Need-returns Inv-loop μ-loop
-returns c = put-end (c .before .loop .out) (now (c .before .before .before .args .v)) (c .before .loop .i) (omega arith) ∙ c .before .loop .inv .1 .1
+returns c =
+    let at-loop = c .before in
+    let loop = at-loop .loop in
+    let start = at-loop .before .before in
+    put-end (loop .out) (now (start .args .v)) (loop .i) (omega arith) ∙ loop .inv .1 .1
 
 pub put-words-spec : {M : Type 1} → statement M
 put-words-spec =

@@ -15,8 +15,9 @@ resample-regs-requires c κs = search needs
 
 cast-lend : tie.Need-cast-lend
 cast-lend c =
-    let a = c .before .before .before .before .args in
-    record { fits = subst (λ (r : ResampleRegs). r .refusal < 256) (sym (c .before .before .resample-regs .ensures)) (resample-small (a .rate) (a .xtal)) }
+    let at-resample-regs = c .before .before in
+    let a = at-resample-regs .before .before .args in
+    record { fits = subst (λ (r : ResampleRegs). r .refusal < 256) (sym (at-resample-regs .resample-regs .ensures)) (resample-small (a .rate) (a .xtal)) }
 
 slice-aggregate-lend : tie.Need-slice-aggregate-lend
 slice-aggregate-lend c = search needs
@@ -29,8 +30,10 @@ same-length c = search needs
 
 returns : tie.Need-returns
 returns c =
-    let a = c .before .before .before .before .before .before .before .before .before .args in
-    c .before .before .lend .ensures ∙ ap (λ (r : ResampleRegs). lentTo (r .refusal) 0 (r .bytes) (now (a .out))) (c .before .before .before .before .before .before .before .resample-regs .ensures)
+    let at-lend = c .before .before in
+    let at-resample-regs = at-lend .before .before .before .before .before in
+    let a = at-resample-regs .before .before .args in
+    at-lend .lend .ensures ∙ ap (λ (r : ResampleRegs). lentTo (r .refusal) 0 (r .bytes) (now (a .out))) (at-resample-regs .resample-regs .ensures)
 
 pub resample-regs-spec : {M : Type 1} → statement M
 resample-regs-spec =

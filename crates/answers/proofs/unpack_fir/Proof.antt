@@ -37,10 +37,15 @@ same-length c = search needs
 
 returns-2 : tie.Need-returns-2
 returns-2 c =
-    let a = c .before .before .before .before .before .before .before .before .before .before .before .before .args in
-    c .before .before .lend-words .ensures
-    ∙ ap (λ (v : List ℤ). lentTo 0 0 (wordBytes v) (now (a .out))) (c .before .before .before .before .before .unpack-fir .ensures ∙ ap unpackOf (c .before .before .before .before .before .before .before .copy .ensures ∙ covered no-bytes (now (a .bytes)) (omega arith)))
-    ∙ unpacking (now (a .bytes)) (now (a .out)) (omega arith)
+    let at-lend-words = c .before .before in
+    let at-unpack-fir = at-lend-words .before .before .before in
+    let at-copy = at-unpack-fir .before .before in
+    let a = at-copy .before .before .before .before .before .args in
+    let bytes = now (a .bytes) in
+    at-lend-words .lend-words .ensures
+    ∙ ap (λ (v : List ℤ). lentTo 0 0 (wordBytes v) (now (a .out)))
+    (at-unpack-fir .unpack-fir .ensures ∙ ap unpackOf (at-copy .copy .ensures ∙ covered no-bytes bytes (omega arith)))
+    ∙ unpacking bytes (now (a .out)) (omega arith)
 
 pub unpack-fir-spec : {M : Type 1} → statement M
 unpack-fir-spec =

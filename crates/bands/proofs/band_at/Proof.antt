@@ -41,8 +41,11 @@ shared-slice-read-t16 c = search needs
 
 returns : tie.Need-returns
 returns c =
-    let a = c .before .before .before .before .before .before .before .args in
-    band-made (now (a .s)) (a .at) _ _ _ (c .before .before .before .before .before .eight .ensures) (c .before .before .before .before .eight2 .ensures) (c .before .before .before .eight3 .ensures)
+    let at-eight3 = c .before .before .before in
+    let at-eight2 = at-eight3 .before in
+    let at-eight = at-eight2 .before in
+    let a = at-eight .before .before .args in
+    band-made (now (a .s)) (a .at) _ _ _ (at-eight .eight .ensures) (at-eight2 .eight2 .ensures) (at-eight3 .eight3 .ensures)
 
 pub band-at-spec : {M : Type 1} → statement M
 band-at-spec =

@@ -34,10 +34,18 @@ fits-requires c κs = search needs
 
 returns : tie.Need-returns Inv-loop μ-loop
 returns c =
-    let l = c .before .before .before .before .before .loop in
-    let b = c .before .before .before .band-at in
-    let s = now (c .before .before .before .before .before .before .before .args .table) in
-    ascending-stop s (length s / 27) (l .i) (l .last) (b .result) (c .before .before .fits2 .result) (c .before .before .before .before .loop-test .taken) (b .ensures) (c .before .before .fits2 .ensures) (not-true _ (c .if1 .taken)) ∙ l .inv .1
+    let at-fits2 = c .before .before in
+    let fits2 = at-fits2 .fits2 in
+    let at-band-at = at-fits2 .before in
+    let b = at-band-at .band-at in
+    let at-test = at-band-at .before in
+    let at-loop = at-test .before in
+    let l = at-loop .loop in
+    let start = at-loop .before .before in
+    let s = now (start .args .table) in
+    ascending-stop s (length s / 27) (l .i) (l .last) (b .result) (fits2 .result) (at-test .loop-test .taken) (b .ensures) (fits2 .ensures)
+    (not-true _ (c .if1 .taken))
+    ∙ l .inv .1
 
 add-i : tie.Need-add-i Inv-loop μ-loop
 add-i c = search needs
@@ -47,15 +55,27 @@ loop-less c = search needs
 
 loop-again : tie.Need-loop-again Inv-loop μ-loop
 loop-again c =
-    let l = c .before .before .before .before .before .loop in
-    let b = c .before .before .before .band-at in
-    let s = now (c .before .before .before .before .before .before .before .args .table) in
-    (omega arith, ascending-on s (length s / 27) (l .i) (l .last) (b .result) (c .before .before .fits2 .result) (c .before .before .before .before .loop-test .taken) (b .ensures) (c .before .before .fits2 .ensures) (not-false _ (c .if1 .left)) ∙ l .inv .1)
+    let at-fits2 = c .before .before in
+    let fits2 = at-fits2 .fits2 in
+    let at-band-at = at-fits2 .before in
+    let b = at-band-at .band-at in
+    let at-test = at-band-at .before in
+    let at-loop = at-test .before in
+    let l = at-loop .loop in
+    let start = at-loop .before .before in
+    let s = now (start .args .table) in (
+      omega arith,
+      ascending-on s (length s / 27) (l .i) (l .last) (b .result) (fits2 .result) (at-test .loop-test .taken) (b .ensures) (fits2 .ensures)
+          (not-false _ (c .if1 .left))
+          ∙ l .inv .1,
+    )
 
 returns-2 : tie.Need-returns-2 Inv-loop μ-loop
 returns-2 c =
-    let l = c .before .loop in
-    let s = now (c .before .before .before .args .table) in
+    let at-loop = c .before in
+    let l = at-loop .loop in
+    let start = at-loop .before .before in
+    let s = now (start .args .table) in
     ascending-end s (length s / 27) (l .i) (l .last) (omega arith) ∙ l .inv .1
 
 pub bands-ascend-spec : {M : Type 1} → statement M

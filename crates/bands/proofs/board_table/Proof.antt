@@ -33,8 +33,9 @@ enum-told c = search needs
 returns-2 : tie.Need-returns-2
 unfolding tableInto
 returns-2 c =
-    let a = c .before .before .before .before .before .args in
-    ap (λ (r : BoardRead). tableInto r (now (a .out))) (sym (c .enum-told .given .1) ∙ c .before .before .board-of .ensures)
+    let at-board-of = c .before .before in
+    let a = at-board-of .before .before .before .args in
+    ap (λ (r : BoardRead). tableInto r (now (a .out))) (sym (c .enum-told .given .1) ∙ at-board-of .board-of .ensures)
 
 enum-told-2 : tie.Need-enum-told-2
 enum-told-2 c = search needs
@@ -54,10 +55,14 @@ same-length c = search needs
 returns-3 : tie.Need-returns-3
 unfolding tableInto
 returns-3 c =
-    let a = c .before .before .before .before .before .before .before .before .before .before .before .before .args in
-    let is = sym (c .before .before .before .before .before .before .before .b .given .1) ∙ c .before .before .before .before .before .before .before .before .before .board-of .ensures in
-    c .before .before .generic-table .ensures
-    ∙ ap (λ (b : Board). tableInto (Is b) (now (a .out))) (sym (c .before .before .before .before .enum-told2 .given .1))
+    let at-generic-table = c .before .before in
+    let at-enum-told2 = at-generic-table .before .before in
+    let at-b = at-enum-told2 .before .before .before in
+    let at-board-of = at-b .before .before in
+    let a = at-board-of .before .before .before .args in
+    let is = sym (at-b .b .given .1) ∙ at-board-of .board-of .ensures in
+    at-generic-table .generic-table .ensures
+    ∙ ap (λ (b : Board). tableInto (Is b) (now (a .out))) (sym (at-enum-told2 .enum-told2 .given .1))
     ∙ ap (λ (r : BoardRead). tableInto r (now (a .out))) is
 
 same-length-2 : tie.Need-same-length-2
@@ -66,10 +71,14 @@ same-length-2 c = search needs
 returns-4 : tie.Need-returns-4
 unfolding tableInto
 returns-4 c =
-    let a = c .before .before .before .before .before .before .before .before .before .before .before .before .args in
-    let is = sym (c .before .before .before .before .before .before .before .b .given .1) ∙ c .before .before .before .before .before .before .before .before .before .board-of .ensures in
-    c .before .before .v4-table .ensures
-    ∙ ap (λ (b : Board). tableInto (Is b) (now (a .out))) (sym (c .before .before .before .before .enum-told3 .given .1))
+    let at-v4-table = c .before .before in
+    let at-enum-told3 = at-v4-table .before .before in
+    let at-b = at-enum-told3 .before .before .before in
+    let at-board-of = at-b .before .before in
+    let a = at-board-of .before .before .before .args in
+    let is = sym (at-b .b .given .1) ∙ at-board-of .board-of .ensures in
+    at-v4-table .v4-table .ensures
+    ∙ ap (λ (b : Board). tableInto (Is b) (now (a .out))) (sym (at-enum-told3 .enum-told3 .given .1))
     ∙ ap (λ (r : BoardRead). tableInto r (now (a .out))) is
 
 pub board-table-spec : {M : Type 1} → statement M

@@ -14,18 +14,22 @@ plan-in-requires c κs = search needs
 
 returns : tie.Need-returns
 returns c =
-    let a = c .before .before .before .before .args in
-    let t = c .before .before .table-ok in
-    by-bands (now (a .table)) (a .hz) (t .result) (c .plan-in .result) (t .ensures) (c .before .if1 .taken) (c .plan-in .ensures)
+    let at-if1 = c .before in
+    let at-table-ok = at-if1 .before in
+    let t = at-table-ok .table-ok in
+    let a = at-table-ok .before .before .args in
+    by-bands (now (a .table)) (a .hz) (t .result) (c .plan-in .result) (t .ensures) (at-if1 .if1 .taken) (c .plan-in .ensures)
 
 refuse-requires : tie.Need-refuse-requires
 refuse-requires c κs = search needs
 
 returns-2 : tie.Need-returns-2
 returns-2 c =
-    let a = c .before .before .before .before .args in
-    let t = c .before .before .table-ok in
-    no-table (now (a .table)) (a .hz) (t .result) (c .refuse .result) (t .ensures) (c .before .if1 .left) (c .refuse .ensures)
+    let at-if1 = c .before in
+    let at-table-ok = at-if1 .before in
+    let t = at-table-ok .table-ok in
+    let a = at-table-ok .before .before .args in
+    no-table (now (a .table)) (a .hz) (t .result) (c .refuse .result) (t .ensures) (at-if1 .if1 .left) (c .refuse .ensures)
 
 pub plan-by-table-spec : {M : Type 1} → statement M
 plan-by-table-spec =

@@ -38,12 +38,19 @@ plan-at-requires c κs = search needs
 
 returns : tie.Need-returns Inv-loop μ-loop
 returns c =
-    let a = c .before .before .before .before .before .before .before .args in
+    let at-if1 = c .before in
+    let at-holds-hz = at-if1 .before in
+    let at-band-at = at-holds-hz .before in
+    let at-test = at-band-at .before in
+    let at-loop = at-test .before in
+    let a = at-loop .before .before .args in
     let s = now (a .table) in
-    let l = c .before .before .before .before .before .loop in
-    let b = c .before .before .before .band-at in
-    let t = c .before .before .holds-hz in
-    plan-found s (length s / 27) (l .i) (a .hz) (b .result) (t .result) (c .before .before .before .before .loop-test .taken) (b .ensures) (t .ensures) (c .plan-at .result) (c .plan-at .ensures) (c .before .if1 .taken) ∙ l .inv .1
+    let l = at-loop .loop in
+    let b = at-band-at .band-at in
+    let t = at-holds-hz .holds-hz in
+    plan-found s (length s / 27) (l .i) (a .hz) (b .result) (t .result) (at-test .loop-test .taken) (b .ensures) (t .ensures) (c .plan-at .result)
+    (c .plan-at .ensures) (at-if1 .if1 .taken)
+    ∙ l .inv .1
 
 add-i : tie.Need-add-i Inv-loop μ-loop
 add-i c = search needs
@@ -53,21 +60,29 @@ loop-less c = search needs
 
 loop-again : tie.Need-loop-again Inv-loop μ-loop
 loop-again c =
-    let a = c .before .before .before .before .before .before .args in
+    let at-holds-hz = c .before in
+    let at-band-at = at-holds-hz .before in
+    let at-test = at-band-at .before in
+    let at-loop = at-test .before in
+    let a = at-loop .before .before .args in
     let s = now (a .table) in
-    let l = c .before .before .before .before .loop in
-    let b = c .before .before .band-at in
-    let t = c .before .holds-hz in
-    (omega arith, plan-on s (length s / 27) (l .i) (a .hz) (b .result) (t .result) (c .before .before .before .loop-test .taken) (b .ensures) (t .ensures) (c .if1 .left) ∙ l .inv .1)
+    let l = at-loop .loop in
+    let b = at-band-at .band-at in
+    let t = at-holds-hz .holds-hz in (
+      omega arith,
+      plan-on s (length s / 27) (l .i) (a .hz) (b .result) (t .result) (at-test .loop-test .taken) (b .ensures) (t .ensures) (c .if1 .left) ∙ l .inv .1,
+    )
 
 refuse-requires : tie.Need-refuse-requires Inv-loop μ-loop
 refuse-requires c κs = search needs
 
 returns-2 : tie.Need-returns-2 Inv-loop μ-loop
 returns-2 c =
-    let l = c .before .before .loop in
-    let s = now (c .before .before .before .before .args .table) in
-    c .refuse .ensures ∙ plan-end s (length s / 27) (l .i) (c .before .before .before .before .args .hz) (omega arith) ∙ l .inv .1
+    let at-loop = c .before .before in
+    let l = at-loop .loop in
+    let args = at-loop .before .before .args in
+    let s = now (args .table) in
+    c .refuse .ensures ∙ plan-end s (length s / 27) (l .i) (args .hz) (omega arith) ∙ l .inv .1
 
 pub plan-in-spec : {M : Type 1} → statement M
 plan-in-spec =

@@ -17,7 +17,9 @@ enum-told c = search needs
 
 returns : tie.Need-returns
 returns c =
-    ap routeBy (sym (c .before .p .given .1) ∙ c .before .before .before .path-of .ensures)
+    let at-p = c .before in
+    let at-path-of = at-p .before .before in
+    ap routeBy (sym (at-p .p .given .1) ∙ at-path-of .path-of .ensures)
 
 returns-2 : tie.Need-returns-2
 returns-2 c = ap routeBy (sym (c .enum-told .given .1) ∙ c .before .before .path-of .ensures)

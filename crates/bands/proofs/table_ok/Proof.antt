@@ -10,7 +10,10 @@ bands-ascend-requires : tie.Need-bands-ascend-requires
 bands-ascend-requires c κs = search needs
 
 returns : tie.Need-returns
-returns c = sized (now (c .before .before .before .args .table)) (c .bands-ascend .result) (c .before .if1 .taken) (c .bands-ascend .ensures)
+returns c =
+    let at-if1 = c .before in
+    let start = at-if1 .before .before in
+    sized (now (start .args .table)) (c .bands-ascend .result) (at-if1 .if1 .taken) (c .bands-ascend .ensures)
 
 returns-2 : tie.Need-returns-2
 returns-2 c = not-sized (now (c .before .before .args .table)) (c .if1 .left)

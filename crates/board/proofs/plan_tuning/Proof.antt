@@ -30,8 +30,13 @@ returns c = sym (ap (λ (b : Board). boardPlan b (c .before .before .args .hz)) 
 returns-2 : tie.Need-returns-2
 unfolding boardPlan
 returns-2 c =
-    (λ i. record { hz = c .before .before .tuner-hz .ensures i; inverted = below-up (c .before .before .before .before .before .args .hz); path = By (c .before .input-path .ensures i); notch = c .in-notch .ensures i })
-    ∙ sym (ap (λ (b : Board). boardPlan b (c .before .before .before .before .before .args .hz)) (c .before .before .before .enum-told2 .given .1))
+    let at-input-path = c .before in
+    let at-tuner-hz = at-input-path .before in
+    let at-enum-told2 = at-tuner-hz .before in
+    let args = at-enum-told2 .before .before .args in
+    (λ i. record
+    { hz = at-tuner-hz .tuner-hz .ensures i; inverted = below-up (args .hz); path = By (at-input-path .input-path .ensures i); notch = c .in-notch .ensures i })
+    ∙ sym (ap (λ (b : Board). boardPlan b (args .hz)) (at-enum-told2 .enum-told2 .given .1))
 
 pub plan-tuning-spec : {M : Type 1} → statement M
 plan-tuning-spec =

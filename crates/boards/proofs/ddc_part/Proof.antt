@@ -20,13 +20,22 @@ ddc-requires : tie.Need-ddc-requires
 ddc-requires c κs = search needs
 
 returns : tie.Need-returns
-returns c = (no-ddc inRoom _ _ (c .before .before .before .before .args .inverted) _ (c .enum-told .given .1), omega arith)
+returns c =
+    let start = c .before .before .before .before in
+    (no-ddc inRoom _ _ (start .args .inverted) _ (c .enum-told .given .1), omega arith)
 
 same-length : tie.Need-same-length
 same-length c = search needs
 
 returns-2 : tie.Need-returns-2
-returns-2 c = (by-program inRoom _ _ _ _ _ (planned-ddc _ _ (c .before .before .before .before .before .before .before .before .args .inverted) (c .before .before .before .before .enum-told2 .given .1)) (c .before .before .ddc .ensures .0), omega (arith, c .before .before .ddc .ensures .1))
+returns-2 c =
+    let at-ddc = c .before .before in
+    let ddc = at-ddc .ddc in
+    let at-enum-told2 = at-ddc .before .before in
+    let start = at-enum-told2 .before .before .before .before in (
+      by-program inRoom _ _ _ _ _ (planned-ddc _ _ (start .args .inverted) (at-enum-told2 .enum-told2 .given .1)) (ddc .ensures .0),
+      omega (arith, ddc .ensures .1),
+    )
 
 pub ddc-part-spec : {M : Type 1} → statement M
 ddc-part-spec =

@@ -17,7 +17,9 @@ enum-told-3 : tie.Need-enum-told-3
 enum-told-3 c = search needs
 
 returns : tie.Need-returns
-returns c = sym (ap (heardBy (c .before .before .args .d) (c .before .before .args .hz)) (c .enum-told .given .1))
+returns c =
+    let args = c .before .before .args in
+    sym (ap (heardBy (args .d) (args .hz)) (c .enum-told .given .1))
 
 returns-2 : tie.Need-returns-2
 returns-2 c = search needs

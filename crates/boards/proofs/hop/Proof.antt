@@ -33,9 +33,16 @@ same-length c = search needs
 
 returns : tie.Need-returns
 returns c =
-    let a = c .before .before .before .before .before .before .before .before .before .before .before .before .before .before .before .before .before .before .args in
-    let f = c .before .before .before .before .before .before .before .before .before .before .before .before .hop-steps in
-    hop-by (now (a .outcomes)) (now (a .replies)) (now (a .room)) (a .hz) (a .tuner) (a .driver) _ (a .plan) (a .by) (f .result) _ _ _ _ _ (f .ensures .0) (c .before .before .before .before .before .before .before .before .before .whole-answer .ensures) (c .before .before .before .before .before .before .before .finish .ensures .1) (c .before .before .before .before .before .before .before .finish .ensures .0) (c .before .lock-after .ensures) (c .heard .ensures) (omega (arith, f .ensures .1))
+    let at-lock-after = c .before in
+    let at-finish = at-lock-after .before .before .before .before .before .before in
+    let finish = at-finish .finish in
+    let at-whole-answer = at-finish .before .before in
+    let at-hop-steps = at-whole-answer .before .before .before in
+    let f = at-hop-steps .hop-steps in
+    let a = at-hop-steps .before .before .before .before .before .before .args in
+    hop-by (now (a .outcomes)) (now (a .replies)) (now (a .room)) (a .hz) (a .tuner) (a .driver) _ (a .plan) (a .by) (f .result) _ _ _ _ _ (f .ensures .0)
+    (at-whole-answer .whole-answer .ensures) (finish .ensures .1) (finish .ensures .0) (at-lock-after .lock-after .ensures) (c .heard .ensures)
+    (omega (arith, f .ensures .1))
 
 pub hop-spec : {M : Type 1} → statement M
 hop-spec =

@@ -8,13 +8,18 @@ use Rattle.boards.proofs.hop_refusal.Lts as lts
 use Rattle.r82xx.proofs.hz_refusal.Reads as hz-refusal-reads
 
 returns : tie.Need-returns
-returns c = by-plan (c .before .before .args .p) (c .before .before .args .ifreq) (c .if1 .taken)
+returns c =
+    let args = c .before .before .args in
+    by-plan (args .p) (args .ifreq) (c .if1 .taken)
 
 hz-refusal-requires : tie.Need-hz-refusal-requires
 hz-refusal-requires c κs = search needs
 
 returns-2 : tie.Need-returns-2
-returns-2 c = by-hz (c .before .before .before .before .args .p) (c .before .before .before .before .args .ifreq) _ (c .before .before .if1 .left) (c .hz-refusal .ensures)
+returns-2 c =
+    let at-if1 = c .before .before in
+    let args = at-if1 .before .before .args in
+    by-hz (args .p) (args .ifreq) _ (at-if1 .if1 .left) (c .hz-refusal .ensures)
 
 pub hop-refusal-spec : {M : Type 1} → statement M
 hop-refusal-spec = tie.close (tie.spec returns hz-refusal-requires returns-2)

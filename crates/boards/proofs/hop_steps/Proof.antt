@@ -47,19 +47,26 @@ same-length c = search needs
 
 returns : tie.Need-returns
 returns c =
-    let a = c .before .before .before .before .before .before .before .before .before .before .before .before .before .before .before .before .before .args in
-    let k = c .before .before .before .before .before .before .before .before .before .before .before .before .before .path-replies in
-    let p = c .before .before .before .before .before .before .before .before .before .before .before .path-part in
-    let t = c .before .before .before .before .before .before .tune in
-    let d = c .before .before .ddc-part in
+    let at-ddc-part = c .before .before in
+    let d = at-ddc-part .ddc-part in
+    let at-tune = at-ddc-part .before .before .before .before in
+    let t = at-tune .tune in
+    let at-path-part = at-tune .before .before .before .before .before in
+    let p = at-path-part .path-part in
+    let at-path-replies = at-path-part .before .before in
+    let k = at-path-replies .path-replies in
+    let a = at-path-replies .before .before .before .before .args in
+    let address = a .f .chip .address in
     let rs = now (a .replies) in
     let at : ℕ = pathReplies (a .kind) (a .plan .path) in
-    let here : p .result .chip .address ≡ a .f .chip .address =
+    let here : p .result .chip .address ≡ address =
     ap (λ (w : Line Logged). w .chip .address) (p .ensures .0) ∙ run-address inRoom _ (pathPart (a .kind) (a .plan .path) rs) _ in (
-      then inRoom _ (pathPart (a .kind) (a .plan .path) rs) (tuneSteps (a .f .chip .address) (a .kind) (a .plan .notch) (a .by) (a .plan .hz) (drop at rs) ++ ddcPart (a .by) (a .plan .inverted)) _ _ _ (p .ensures .0)
-          (then inRoom _ (tuneSteps (a .f .chip .address) (a .kind) (a .plan .notch) (a .by) (a .plan .hz) (drop at rs)) (ddcPart (a .by) (a .plan .inverted)) _ _ _
-          (by-program inRoom _ _ _ _ _ (λ i. tuneSteps (here i) (a .kind) (a .plan .notch) (a .by) (a .plan .hz) ((rest rs (k .result) ∙ ap (λ (n : ℕ). drop n rs) (k .ensures .0)) i)) (t .ensures .0))
-          (d .ensures .0)),
+      then inRoom _ (pathPart (a .kind) (a .plan .path) rs)
+          (tuneSteps address (a .kind) (a .plan .notch) (a .by) (a .plan .hz) (drop at rs) ++ ddcPart (a .by) (a .plan .inverted)) _ _ _ (p .ensures .0)
+          (then inRoom _ (tuneSteps address (a .kind) (a .plan .notch) (a .by) (a .plan .hz) (drop at rs)) (ddcPart (a .by) (a .plan .inverted)) _ _ _
+          (by-program inRoom _ _ _ _ _
+          (λ i. tuneSteps (here i) (a .kind) (a .plan .notch) (a .by) (a .plan .hz) ((rest rs (k .result) ∙ ap (λ (n : ℕ). drop n rs) (k .ensures .0)) i))
+          (t .ensures .0)) (d .ensures .0)),
       omega (arith, p .ensures .1, t .ensures .1, d .ensures .1),
     )
 

@@ -21,11 +21,17 @@ same-length c = search needs
 
 returns : tie.Need-returns
 returns c =
-    let a = c .before .before .before .before .before .before .before .before .before .args in
-    let by = c .before .before .before .before .plan-by-table .ensures in
-    let told = c .before .before .tune-planned .ensures in (
-      told .0 ∙ ap (λ (p : Planned). hopResult p (a .hz) (now (a .replies)) (now (a .outcomes)) (a .tuner) (a .driver) (now (a .room))) by,
-      told .1 ∙ ap (λ (p : Planned). hopLockTries p (a .hz) (now (a .replies)) (now (a .outcomes)) (a .tuner) (a .driver) (now (a .room))) by,
+    let at-tune-planned = c .before .before in
+    let tune-planned = at-tune-planned .tune-planned in
+    let told = tune-planned .ensures in
+    let at-plan-by-table = at-tune-planned .before .before in
+    let plan-by-table = at-plan-by-table .plan-by-table in
+    let by = plan-by-table .ensures in
+    let a = at-plan-by-table .before .before .before .before .before .args in
+    let outcomes = now (a .outcomes) in
+    let replies = now (a .replies) in (
+      told .0 ∙ ap (λ (p : Planned). hopResult p (a .hz) replies outcomes (a .tuner) (a .driver) (now (a .room))) by,
+      told .1 ∙ ap (λ (p : Planned). hopLockTries p (a .hz) replies outcomes (a .tuner) (a .driver) (now (a .room))) by,
     )
 
 pub tune-board-spec : {M : Type 1} → statement M

@@ -41,44 +41,76 @@ refusal-requires c κs = search needs
 
 returns : tie.Need-returns
 returns c =
-    let a = c .before .before .before .before .before .before .before .before .before .args in
-    hop-refused (now (a .outcomes)) (now (a .replies)) (now (a .room)) (a .hz) (a .tuner) (a .driver) (a .planned) _ _ _ _ (c .before .before .before .before .before .sound .ensures)
-    (c .before .before .before .xtal-by .ensures ∙ ap (xtalBy (a .driver .nominal)) (toZ-ofZ {w = w32} {z = a .driver .ppm} (record { sfits = c .before .before .before .before .struct-told .given .1 .1 .0 .1 })))
-    (c .before .before .hop-refusal .ensures) (c .before .refusal .ensures) (c .if1 .taken)
+    let at-refusal = c .before in
+    let at-hop-refusal = at-refusal .before in
+    let at-xtal-by = at-hop-refusal .before in
+    let at-struct-told = at-xtal-by .before in
+    let at-sound = at-struct-told .before in
+    let a = at-sound .before .before .before .before .args in
+    hop-refused (now (a .outcomes)) (now (a .replies)) (now (a .room)) (a .hz) (a .tuner) (a .driver) (a .planned) _ _ _ _ (at-sound .sound .ensures)
+    (at-xtal-by .xtal-by .ensures
+    ∙ ap (xtalBy (a .driver .nominal)) (toZ-ofZ {w = w32} {z = a .driver .ppm} (record { sfits = at-struct-told .struct-told .given .1 .1 .0 .1 })))
+    (at-hop-refusal .hop-refusal .ensures) (at-refusal .refusal .ensures) (c .if1 .taken)
 
 add-plan-pll : tie.Need-add-plan-pll
 add-plan-pll c =
-    let a = c .before .before .before .before .before .before .before .before .before .before .before .before .args in
+    let at-if1 = c .before .before .before in
+    let at-refusal = at-if1 .before in
+    let at-hop-refusal = at-refusal .before in
+    let hop-refusal = at-hop-refusal .hop-refusal in
+    let at-xtal-by = at-hop-refusal .before in
+    let at-sound = at-xtal-by .before .before in
+    let a = at-sound .before .before .before .before .args in
     let rooms = length (now (a .room)) in
     let outs = length (now (a .outcomes)) in
     let back = length (now (a .replies)) in
-    let z = taken-by (c .before .before .before .before .before .before .before .before .sound .result && leb 1 (c .before .before .before .before .before .before .xtal-by .result)) (c .before .before .before .before .before .hop-refusal .result) 64 38 rooms outs back (sym (c .before .before .before .before .refusal .ensures) ∙ c .before .before .before .if1 .left) in
-    record { fits = hop-hz (a .planned) (a .tuner .ifreq) (sym (c .before .before .before .before .before .hop-refusal .ensures) ∙ z .taken) }
+    let z =
+    taken-by (at-sound .sound .result && leb 1 (at-xtal-by .xtal-by .result)) (hop-refusal .result) 64 38 rooms outs back
+    (sym (at-refusal .refusal .ensures) ∙ at-if1 .if1 .left) in
+    record { fits = hop-hz (a .planned) (a .tuner .ifreq) (sym (hop-refusal .ensures) ∙ z .taken) }
 
 plan-pll-requires : tie.Need-plan-pll-requires
 plan-pll-requires c κs = search needs
 
 hop-requires : tie.Need-hop-requires
 hop-requires c κs =
-    let a = c .before .before .before .before .before .before .before .before .before .before .before .before .before .before .args in
+    let at-plan-pll = c .before in
+    let at-if1 = at-plan-pll .before .before .before .before in
+    let at-refusal = at-if1 .before in
+    let at-hop-refusal = at-refusal .before in
+    let at-xtal-by = at-hop-refusal .before in
+    let at-sound = at-xtal-by .before .before in
+    let a = at-sound .before .before .before .before .args in
     let rooms = length (now (a .room)) in
     let outs = length (now (a .outcomes)) in
     let back = length (now (a .replies)) in
-    let z = taken-by (c .before .before .before .before .before .before .before .before .before .before .sound .result && leb 1 (c .before .before .before .before .before .before .before .before .xtal-by .result)) (c .before .before .before .before .before .before .before .hop-refusal .result) 64 38 rooms outs back (sym (c .before .before .before .before .before .before .refusal .ensures) ∙ c .before .before .before .before .before .if1 .left) in
+    let z =
+    taken-by (at-sound .sound .result && leb 1 (at-xtal-by .xtal-by .result)) (at-hop-refusal .hop-refusal .result) 64 38 rooms outs back
+    (sym (at-refusal .refusal .ensures) ∙ at-if1 .if1 .left) in
     let one = z .lent .rooms in
     let two = z .lent .outs in
     let three = z .lent .back in
-    (subst⁻¹ (λ (p : Pll). dividerNumber p ≤ 5) (c .before .plan-pll .ensures) (number-small _ _ _), omega arith, omega arith, omega arith)
+    (subst⁻¹ (λ (p : Pll). dividerNumber p ≤ 5) (at-plan-pll .plan-pll .ensures) (number-small _ _ _), omega arith, omega arith, omega arith)
 
 same-length : tie.Need-same-length
 same-length c = search needs
 
 returns-2 : tie.Need-returns-2
 returns-2 c =
-    let a = c .before .before .before .before .before .before .before .before .before .before .before .before .before .before .before .before .before .args in
-    hop-taken (now (a .outcomes)) (now (a .replies)) (now (a .room)) (a .hz) (a .tuner) (a .driver) (a .planned) _ _ _ _ (c .before .before .before .before .before .before .before .before .before .before .before .before .before .sound .ensures)
-    (c .before .before .before .before .before .before .before .before .before .before .before .xtal-by .ensures ∙ ap (xtalBy (a .driver .nominal)) (toZ-ofZ {w = w32} {z = a .driver .ppm} (record { sfits = c .before .before .before .before .before .before .before .before .before .before .before .before .struct-told .given .1 .1 .0 .1 })))
-    (c .before .before .before .before .before .before .before .before .before .before .hop-refusal .ensures) (c .before .before .before .before .before .before .before .before .before .refusal .ensures) (c .before .before .before .before .plan-pll .result) _ _ (c .before .before .before .before .before .before .before .before .if1 .left) (c .before .before .before .before .plan-pll .ensures) (c .before .before .hop .ensures)
+    let at-hop = c .before .before in
+    let at-plan-pll = at-hop .before .before in
+    let plan-pll = at-plan-pll .plan-pll in
+    let at-if1 = at-plan-pll .before .before .before .before in
+    let at-refusal = at-if1 .before in
+    let at-hop-refusal = at-refusal .before in
+    let at-xtal-by = at-hop-refusal .before in
+    let at-struct-told = at-xtal-by .before in
+    let at-sound = at-struct-told .before in
+    let a = at-sound .before .before .before .before .args in
+    hop-taken (now (a .outcomes)) (now (a .replies)) (now (a .room)) (a .hz) (a .tuner) (a .driver) (a .planned) _ _ _ _ (at-sound .sound .ensures)
+    (at-xtal-by .xtal-by .ensures
+    ∙ ap (xtalBy (a .driver .nominal)) (toZ-ofZ {w = w32} {z = a .driver .ppm} (record { sfits = at-struct-told .struct-told .given .1 .1 .0 .1 })))
+    (at-hop-refusal .hop-refusal .ensures) (at-refusal .refusal .ensures) (plan-pll .result) _ _ (at-if1 .if1 .left) (plan-pll .ensures) (at-hop .hop .ensures)
 
 pub tune-planned-spec : {M : Type 1} → statement M
 tune-planned-spec =

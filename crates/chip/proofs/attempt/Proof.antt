@@ -9,7 +9,10 @@ use Rattle.chip.proofs.attempt.Statement.{statement}
 use Rattle.chip.proofs.attempt.Tie as tie
 
 abbrev Inv-loop : tie.InvT-loop
-Inv-loop n ok shadow₀ doubtful₀ bytes first doubt i₀ shadow doubtful i = (i + 1 ≤ n) × ((first ≡ getD bytes 0 0 - 5) × ((length bytes ≡ 8) × (left (chipOf 0 shadow doubtful) first n bytes ok i ≡ attemptedBy (chipOf 0 shadow₀ doubtful₀) n bytes ok)))
+Inv-loop n ok shadow₀ doubtful₀ bytes first doubt i₀ shadow doubtful i =
+    (i + 1 ≤ n)
+    × ((first ≡ getD bytes 0 0 - 5)
+    × ((length bytes ≡ 8) × (left (chipOf 0 shadow doubtful) first n bytes ok i ≡ attemptedBy (chipOf 0 shadow₀ doubtful₀) n bytes ok)))
 
 abbrev μ-loop : tie.MeasureT-loop
 μ-loop n ok shadow₀ doubtful₀ bytes first doubt i₀ shadow doubtful i = n - (i + 1)
@@ -57,7 +60,12 @@ loop-again : tie.Need-loop-again Inv-loop μ-loop
 loop-again c = (search needs, (refl, (c .before .loop .inv .1 .1 .0, turn _ _ _ _ _ _ (search needs) (search needs) ∙ c .before .loop .inv .1 .1 .1)))
 
 returns : tie.Need-returns Inv-loop μ-loop
-returns c = of-attempted (chipOf 0 _ _) (chipOf 0 _ _) _ _ _ (end _ (getD (c .before .before .args .t2) 0 0 - 5) (c .before .before .args .n) (c .before .before .args .t2) (c .before .before .args .ok) (c .before .loop .i) (search needs) ∙ c .before .loop .inv .1 .1 .1)
+returns c =
+    let at-loop = c .before in
+    let loop = at-loop .loop in
+    let args = at-loop .before .args in
+    of-attempted (chipOf 0 _ _) (chipOf 0 _ _) _ _ _
+    (end _ (getD (args .t2) 0 0 - 5) (args .n) (args .t2) (args .ok) (loop .i) (search needs) ∙ loop .inv .1 .1 .1)
 
 pub attempt-spec : {M : Type 1} → statement M
 attempt-spec =

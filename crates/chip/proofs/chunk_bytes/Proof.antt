@@ -36,7 +36,10 @@ copy-requires c κs = search needs
 
 returns : tie.Need-returns
 unfolding chunkBytes
-returns c = let e : c .before .before .before .before .before .args .at + c .before .before .before .before .before .args .size - c .before .before .before .before .before .args .at ≡ c .before .before .before .before .before .args .size = omega arith in c .before .copy .ensures ∙ rw e
+returns c =
+    let at-copy = c .before in
+    let args = at-copy .before .before .before .before .args in
+    let e : args .at + args .size - args .at ≡ args .size = omega arith in at-copy .copy .ensures ∙ rw e
 
 pub chunk-bytes-spec : {M : Type 1} → statement M
 chunk-bytes-spec =

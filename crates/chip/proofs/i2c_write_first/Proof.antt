@@ -27,7 +27,17 @@ same-length c = search needs
 
 returns : tie.Need-returns
 unfolding every
-returns c = (unopened inRoom _ (map (chunkStep (c .before .before .before .before .before .before .before .before .before .before .before .before .before .args .bs)) (drop 0 (take 3 chunkTable))) _ _ _ (c .before .before .before .before .before .before .before .before .log-open .ensures .0 _) (ap goes (c .before .before .before .before .enum-told2 .given .1)) refl (c .before .before .log-close .ensures .0 _), omega (arith, c .before .before .before .before .before .before .before .before .log-open .ensures .1, c .before .before .log-close .ensures .1))
+returns c =
+    let at-log-close = c .before .before in
+    let log-close = at-log-close .log-close in
+    let at-enum-told2 = at-log-close .before .before in
+    let at-log-open = at-enum-told2 .before .before .before .before in
+    let log-open = at-log-open .log-open in
+    let start = at-log-open .before .before .before .before .before in (
+      unopened inRoom _ (map (chunkStep (start .args .bs)) (drop 0 (take 3 chunkTable))) _ _ _ (log-open .ensures .0 _)
+          (ap goes (at-enum-told2 .enum-told2 .given .1)) refl (log-close .ensures .0 _),
+      omega (arith, log-open .ensures .1, log-close .ensures .1),
+    )
 
 first-chunks-requires : tie.Need-first-chunks-requires
 first-chunks-requires c κs = search needs
@@ -39,7 +49,17 @@ same-length-2 : tie.Need-same-length-2
 same-length-2 c = search needs
 
 returns-2 : tie.Need-returns-2
-returns-2 c = (c .before .before .log-close2 .ensures .0 _ ∙ bracketed inRoom _ _ _ _ _ (c .before .before .before .before .before .before .before .before .before .before .before .before .before .before .before .before .log-open .ensures .0 _) (c .before .before .before .before .before .before .first-chunks .ensures .0), omega (arith, c .before .before .before .before .before .before .before .before .before .before .before .before .before .before .before .before .log-open .ensures .1, c .before .before .before .before .before .before .first-chunks .ensures .1, c .before .before .log-close2 .ensures .1))
+returns-2 c =
+    let at-log-close2 = c .before .before in
+    let log-close2 = at-log-close2 .log-close2 in
+    let at-first-chunks = at-log-close2 .before .before .before .before in
+    let first-chunks = at-first-chunks .first-chunks in
+    let log-open = at-first-chunks .before .before .before .before .before .before .before .before .before .before .log-open in (
+      log-close2 .ensures .0 _ ∙ bracketed inRoom _ _ _ _ _ (log-open .ensures .0 _) (first-chunks .ensures .0),
+      omega (arith, log-open .ensures .1, first-chunks .ensures .1, log-close2 .ensures .1),
+    )
 
 pub i2c-write-first-spec : {M : Type 1} → statement M
-i2c-write-first-spec = tie.close (tie.spec log-open-requires enum-told enum-told-2 log-close-requires same-length returns first-chunks-requires log-close-requires-2 same-length-2 returns-2)
+i2c-write-first-spec =
+    tie.close
+    (tie.spec log-open-requires enum-told enum-told-2 log-close-requires same-length returns first-chunks-requires log-close-requires-2 same-length-2 returns-2)

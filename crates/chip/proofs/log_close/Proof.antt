@@ -13,16 +13,30 @@ returns : tie.Need-returns
 returns c = (λ chip. idle inRoom _ Close _ (not-true _ (c .if1 .taken)), search needs)
 
 shared-slice-read-ok : tie.Need-shared-slice-read-ok
-shared-slice-read-ok c = omega (arith, owed-opened (c .before .before .before .before .args .l .opened) (not-false _ (c .before .if1 .left)), c .before .before .before .before .pre)
+shared-slice-read-ok c =
+    let at-if1 = c .before in
+    let start = at-if1 .before .before .before in
+    omega (arith, owed-opened (start .args .l .opened) (not-false _ (at-if1 .if1 .left)), start .pre)
 
 log-entry-requires : tie.Need-log-entry-requires
-log-entry-requires c κs = omega (arith, owed-opened (c .before .before .before .before .before .args .l .opened) (not-false _ (c .before .before .if1 .left)), c .before .before .before .before .before .pre)
+log-entry-requires c κs =
+    let at-if1 = c .before .before in
+    let start = at-if1 .before .before .before in
+    omega (arith, owed-opened (start .args .l .opened) (not-false _ (at-if1 .if1 .left)), start .pre)
 
 same-length : tie.Need-same-length
 same-length c = search needs
 
 returns-2 : tie.Need-returns-2
-returns-2 c = (λ chip. c .before .before .log-entry .ensures .0 chip ∙ made inRoom _ Close _ _ _ refl refl (not-false _ (c .before .before .before .before .before .if1 .left)), omega (arith, c .before .before .log-entry .ensures .1, owed-opened (c .before .before .before .before .before .before .before .before .args .l .opened) (not-false _ (c .before .before .before .before .before .if1 .left))))
+returns-2 c =
+    let at-log-entry = c .before .before in
+    let log-entry = at-log-entry .log-entry in
+    let at-if1 = at-log-entry .before .before .before in
+    let if1 = at-if1 .if1 in
+    let start = at-if1 .before .before .before in (
+      λ chip. log-entry .ensures .0 chip ∙ made inRoom _ Close _ _ _ refl refl (not-false _ (if1 .left)),
+      omega (arith, log-entry .ensures .1, owed-opened (start .args .l .opened) (not-false _ (if1 .left))),
+    )
 
 pub log-close-spec : {M : Type 1} → statement M
 log-close-spec =

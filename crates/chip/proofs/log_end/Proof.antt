@@ -20,7 +20,10 @@ same-length : tie.Need-same-length
 same-length c = search needs
 
 returns : tie.Need-returns
-returns c = (λ chip. c .before .before .log-close .ensures .0 chip ∙ sym (closing-stopped inRoom _ _ (ap goes (c .before .before .before .before .enum-told2 .given .1))), search needs)
+returns c =
+    let at-log-close = c .before .before in
+    let at-enum-told2 = at-log-close .before .before in
+    (λ chip. at-log-close .log-close .ensures .0 chip ∙ sym (closing-stopped inRoom _ _ (ap goes (at-enum-told2 .enum-told2 .given .1))), search needs)
 
 returns-2 : tie.Need-returns-2
 returns-2 c = (λ chip. sym (closing-going inRoom _ _ (ap goes (c .enum-told .given .1))), search needs)

@@ -23,7 +23,10 @@ same-length : tie.Need-same-length
 same-length c = search needs
 
 returns : tie.Need-returns
-returns c = (λ chip. laid chip _ _ _ _ _ _ _ _ _ (c .before .before .before .before .before .with-outcome .ensures) (c .before .before .before .put .ensures) (c .with-try .ensures), search needs)
+returns c =
+    let at-put = c .before .before .before in
+    let at-with-outcome = at-put .before .before in
+    (λ chip. laid chip _ _ _ _ _ _ _ _ _ (at-with-outcome .with-outcome .ensures) (at-put .put .ensures) (c .with-try .ensures), search needs)
 
 pub log-entry-spec : {M : Type 1} → statement M
 log-entry-spec =

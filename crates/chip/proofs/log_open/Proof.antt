@@ -19,7 +19,9 @@ enum-told-2 : tie.Need-enum-told-2
 enum-told-2 c = search needs
 
 returns : tie.Need-returns
-returns c = (λ chip. idle inRoom _ Open _ (ap goes (c .enum-told2 .given .1)), omega (arith, owed-one (c .before .before .before .before .args .l .opened)))
+returns c =
+    let start = c .before .before .before .before in
+    (λ chip. idle inRoom _ Open _ (ap goes (c .enum-told2 .given .1)), omega (arith, owed-one (start .args .l .opened)))
 
 shared-slice-read-ok : tie.Need-shared-slice-read-ok
 shared-slice-read-ok c = search needs
@@ -34,7 +36,16 @@ same-length : tie.Need-same-length
 same-length c = search needs
 
 returns-2 : tie.Need-returns-2
-returns-2 c = (λ chip. c .before .before .log-entry .ensures .0 chip ∙ made inRoom _ Open _ _ _ refl (c .before .before .before .before .progress-after .ensures) (ap goes (c .before .before .before .before .before .before .enum-told .given .1)), omega (arith, c .before .before .log-entry .ensures .1, owed-one (eqb (getD (now (c .before .before .before .before .before .before .before .before .before .before .args .outcomes)) (c .before .before .before .before .before .before .before .before .before .before .args .l .count) 0) 0)))
+returns-2 c =
+    let at-log-entry = c .before .before in
+    let log-entry = at-log-entry .log-entry in
+    let at-progress-after = at-log-entry .before .before in
+    let at-enum-told = at-progress-after .before .before in
+    let args = at-enum-told .before .before .before .before .args in (
+      λ chip. log-entry .ensures .0 chip
+          ∙ made inRoom _ Open _ _ _ refl (at-progress-after .progress-after .ensures) (ap goes (at-enum-told .enum-told .given .1)),
+      omega (arith, log-entry .ensures .1, owed-one (eqb (getD (now (args .outcomes)) (args .l .count) 0) 0)),
+    )
 
 pub log-open-spec : {M : Type 1} → statement M
 log-open-spec =

@@ -30,7 +30,14 @@ same-length : tie.Need-same-length
 same-length c = search needs
 
 returns-2 : tie.Need-returns-2
-returns-2 c = (λ chip. c .before .before .log-entry .ensures .0 chip ∙ made inRoom _ (Plain _) _ _ _ refl (c .before .before .before .before .progress-after .ensures) (ap goes (c .before .before .before .before .before .before .before .enum-told .given .1)), search needs)
+returns-2 c =
+    let at-log-entry = c .before .before in
+    let at-progress-after = at-log-entry .before .before in
+    let at-enum-told = at-progress-after .before .before .before in (
+      λ chip. at-log-entry .log-entry .ensures .0 chip
+          ∙ made inRoom _ (Plain _) _ _ _ refl (at-progress-after .progress-after .ensures) (ap goes (at-enum-told .enum-told .given .1)),
+      search needs,
+    )
 
 pub log-plain-spec : {M : Type 1} → statement M
 log-plain-spec =

@@ -34,7 +34,17 @@ same-length : tie.Need-same-length
 same-length c = search needs
 
 returns-2 : tie.Need-returns-2
-returns-2 c = (c .before .before .log-entry .ensures .0 _ ∙ made inRoom _ (Send _ _) _ _ _ (stored _ _ _ _ _ _ _ _ (c .before .before .before .before .before .attempt .ensures .0) (c .before .before .before .before .before .attempt .ensures .1)) (c .before .before .before .before .progress-after .ensures) (ap goes (c .before .before .before .before .before .before .before .before .before .enum-told .given .1)), search needs)
+returns-2 c =
+    let at-log-entry = c .before .before in
+    let at-progress-after = at-log-entry .before .before in
+    let at-attempt = at-progress-after .before in
+    let attempt = at-attempt .attempt in
+    let at-enum-told = at-attempt .before .before .before .before in (
+      at-log-entry .log-entry .ensures .0 _
+          ∙ made inRoom _ (Send _ _) _ _ _ (stored _ _ _ _ _ _ _ _ (attempt .ensures .0) (attempt .ensures .1)) (at-progress-after .progress-after .ensures)
+          (ap goes (at-enum-told .enum-told .given .1)),
+      search needs,
+    )
 
 pub send-spec : {M : Type 1} → statement M
 send-spec =

@@ -25,7 +25,17 @@ same-length : tie.Need-same-length
 same-length c = search needs
 
 returns : tie.Need-returns
-returns c = (unopened inRoom _ (updates (meantOf (c .before .before .before .before .before .before .before .before .before .before .before .before .before .args .us))) _ _ _ (c .before .before .before .before .before .before .before .before .log-open .ensures .0 _) (ap goes (c .before .before .before .before .enum-told2 .given .1)) (every-inner updateStep inner-update (meantOf (c .before .before .before .before .before .before .before .before .before .before .before .before .before .args .us))) (c .before .before .log-close .ensures .0 _), omega (arith, c .before .before .before .before .before .before .before .before .log-open .ensures .1, c .before .before .log-close .ensures .1))
+returns c =
+    let at-log-close = c .before .before in
+    let log-close = at-log-close .log-close in
+    let at-enum-told2 = at-log-close .before .before in
+    let at-log-open = at-enum-told2 .before .before .before .before in
+    let log-open = at-log-open .log-open in
+    let args = at-log-open .before .before .before .before .before .args in (
+      unopened inRoom _ (updates (meantOf (args .us))) _ _ _ (log-open .ensures .0 _) (ap goes (at-enum-told2 .enum-told2 .given .1))
+          (every-inner updateStep inner-update (meantOf (args .us))) (log-close .ensures .0 _),
+      omega (arith, log-open .ensures .1, log-close .ensures .1),
+    )
 
 write-list-requires : tie.Need-write-list-requires
 write-list-requires c κs = search needs
@@ -37,7 +47,17 @@ same-length-2 : tie.Need-same-length-2
 same-length-2 c = search needs
 
 returns-2 : tie.Need-returns-2
-returns-2 c = (c .before .before .log-close2 .ensures .0 _ ∙ bracketed inRoom _ _ _ _ _ (c .before .before .before .before .before .before .before .before .before .before .before .before .before .before .before .before .log-open .ensures .0 _) (c .before .before .before .before .before .before .write-list .ensures .0), omega (arith, c .before .before .before .before .before .before .before .before .before .before .before .before .before .before .before .before .log-open .ensures .1, c .before .before .before .before .before .before .write-list .ensures .1, c .before .before .log-close2 .ensures .1))
+returns-2 c =
+    let at-log-close2 = c .before .before in
+    let log-close2 = at-log-close2 .log-close2 in
+    let at-write-list = at-log-close2 .before .before .before .before in
+    let write-list = at-write-list .write-list in
+    let log-open = at-write-list .before .before .before .before .before .before .before .before .before .before .log-open in (
+      log-close2 .ensures .0 _ ∙ bracketed inRoom _ _ _ _ _ (log-open .ensures .0 _) (write-list .ensures .0),
+      omega (arith, log-open .ensures .1, write-list .ensures .1, log-close2 .ensures .1),
+    )
 
 pub with-repeater-spec : {M : Type 1} → statement M
-with-repeater-spec = tie.close (tie.spec log-open-requires enum-told enum-told-2 log-close-requires same-length returns write-list-requires log-close-requires-2 same-length-2 returns-2)
+with-repeater-spec =
+    tie.close
+    (tie.spec log-open-requires enum-told enum-told-2 log-close-requires same-length returns write-list-requires log-close-requires-2 same-length-2 returns-2)

@@ -15,7 +15,11 @@ locks-requires c κs = search needs
 
 returns : tie.Need-returns
 unfolding withTry
-returns c = simp (c .before .before .before .wrapping-add-u16 .ensures, c .before .locks .ensures, c .before .before .before .before .if1 .taken)
+returns c =
+    let at-locks = c .before in
+    let at-wrapping-add-u16 = at-locks .before .before in
+    let at-if1 = at-wrapping-add-u16 .before in
+    simp (at-wrapping-add-u16 .wrapping-add-u16 .ensures, at-locks .locks .ensures, at-if1 .if1 .taken)
 
 returns-2 : tie.Need-returns-2
 unfolding withTry

@@ -16,7 +16,11 @@ same-length : tie.Need-same-length
 same-length c = search needs
 
 returns : tie.Need-returns
-returns c = (ended-here inRoom _ _ _ _ _ (c .before .before .before .before .before .before .write-reg-mask-raw .ensures .0) (c .before .before .log-end .ensures .0 _), omega (arith, c .before .before .before .before .before .before .write-reg-mask-raw .ensures .1, c .before .before .log-end .ensures .1))
+returns c =
+    let at-log-end = c .before .before in
+    let log-end = at-log-end .log-end in
+    let write-reg-mask-raw = at-log-end .before .before .before .before .write-reg-mask-raw in
+    (ended-here inRoom _ _ _ _ _ (write-reg-mask-raw .ensures .0) (log-end .ensures .0 _), omega (arith, write-reg-mask-raw .ensures .1, log-end .ensures .1))
 
 pub write-one-spec : {M : Type 1} → statement M
 write-one-spec =

@@ -25,7 +25,14 @@ same-length c = search needs
 
 returns : tie.Need-returns
 unfolding every
-returns c = (cut-here inRoom _ _ _ _ _ _ (c .before .before .before .before .before .before .before .before .write-reg-mask-raw .ensures .0) (ap goes (c .before .before .before .before .enum-told2 .given .1)) refl (c .before .before .log-close .ensures .0 _), omega (arith, c .before .before .before .before .before .before .before .before .write-reg-mask-raw .ensures .1, c .before .before .log-close .ensures .1))
+returns c =
+    let at-log-close = c .before .before in
+    let log-close = at-log-close .log-close in
+    let at-enum-told2 = at-log-close .before .before in
+    let write-reg-mask-raw = at-enum-told2 .before .before .before .before .write-reg-mask-raw in (
+      cut-here inRoom _ _ _ _ _ _ (write-reg-mask-raw .ensures .0) (ap goes (at-enum-told2 .enum-told2 .given .1)) refl (log-close .ensures .0 _),
+      omega (arith, write-reg-mask-raw .ensures .1, log-close .ensures .1),
+    )
 
 write-one-requires : tie.Need-write-one-requires
 write-one-requires c κs = search needs
@@ -34,7 +41,13 @@ same-length-2 : tie.Need-same-length-2
 same-length-2 c = search needs
 
 returns-2 : tie.Need-returns-2
-returns-2 c = (progress-on inRoom _ _ _ _ _ _ (c .before .before .before .before .before .before .before .before .before .before .write-reg-mask-raw .ensures .0) (c .before .before .write-one .ensures .0), omega (arith, c .before .before .before .before .before .before .before .before .before .before .write-reg-mask-raw .ensures .1, c .before .before .write-one .ensures .1))
+returns-2 c =
+    let at-write-one = c .before .before in
+    let write-one = at-write-one .write-one in
+    let write-reg-mask-raw = at-write-one .before .before .before .before .before .before .before .before .write-reg-mask-raw in (
+      progress-on inRoom _ _ _ _ _ _ (write-reg-mask-raw .ensures .0) (write-one .ensures .0),
+      omega (arith, write-reg-mask-raw .ensures .1, write-one .ensures .1),
+    )
 
 pub write-two-spec : {M : Type 1} → statement M
 write-two-spec =

@@ -98,12 +98,21 @@ same-length-2 c = search needs
 
 returns : tie.Need-returns
 returns c =
-    let a = c .before .before .before .before .before .before .before .before .before .before .before .before .before .before .before .before .before .before .args in
-    let pre = c .before .before .before .before .before .before .before .before .before .before .before .before .before .before .before .before .before .before .pre in
-    let drivers : Bytes (now (a .driver)) = λ i. omega (arith, c .before .before .before .before .before .before .before .before .before .before .before .before .before .before .before .slice-known .given i) in
-    let tuners : Bytes (now (a .tuner)) = λ i. omega (arith, c .before .before .before .before .before .before .before .before .before .before .before .before .before .before .slice-known2 .given i) in
-    let k = c .before .before .before .before .before .before .before .before .command .given in
-    by-tuning (now (a .table)) (now (a .replies)) (now (a .outcomes)) (now (a .driver)) (now (a .tuner)) (now (a .room)) drivers (tuner-sound (now (a .tuner)) tuners (and-right (driverOf (now (a .driver)) .ok) (tunerOf (now (a .tuner)) .ok) (pre .2))) (pre .2) (k .0 .0) (a .command) (k .1) (now (a .given)) (pre .1) _ _ _ (c .before .before .before .before .set-frequency .ensures)
+    let at-set-frequency = c .before .before .before .before in
+    let at-command = at-set-frequency .before .before .before .before in
+    let at-slice-known2 = at-command .before .before .before .before .before .before in
+    let at-slice-known = at-slice-known2 .before in
+    let start = at-slice-known .before .before .before in
+    let a = start .args in
+    let pre = start .pre in
+    let driver = now (a .driver) in
+    let tuner = now (a .tuner) in
+    let drivers : Bytes driver = λ i. omega (arith, at-slice-known .slice-known .given i) in
+    let tuners : Bytes tuner = λ i. omega (arith, at-slice-known2 .slice-known2 .given i) in
+    let k = at-command .command .given in
+    by-tuning (now (a .table)) (now (a .replies)) (now (a .outcomes)) driver tuner (now (a .room)) drivers
+    (tuner-sound tuner tuners (and-right (driverOf driver .ok) (tunerOf tuner .ok) (pre .2))) (pre .2) (k .0 .0) (a .command) (k .1) (now (a .given)) (pre .1) _
+    _ _ (at-set-frequency .set-frequency .ensures)
 
 same-length-3 : tie.Need-same-length-3
 same-length-3 c = search needs
@@ -116,12 +125,21 @@ same-length-5 c = search needs
 
 returns-2 : tie.Need-returns-2
 returns-2 c =
-    let a = c .before .before .before .before .before .before .before .before .before .before .before .before .before .before .before .before .before .before .before .before .before .before .args in
-    let pre = c .before .before .before .before .before .before .before .before .before .before .before .before .before .before .before .before .before .before .before .before .before .before .pre in
-    let drivers : Bytes (now (a .driver)) = λ i. omega (arith, c .before .before .before .before .before .before .before .before .before .before .before .before .before .before .before .before .before .before .before .slice-known .given i) in
-    let tuners : Bytes (now (a .tuner)) = λ i. omega (arith, c .before .before .before .before .before .before .before .before .before .before .before .before .before .before .before .before .before .before .slice-known2 .given i) in
-    let k = c .before .before .before .before .before .before .before .before .before .before .before .before .command2 .given in
-    by-rate (now (a .table)) (now (a .replies)) (now (a .outcomes)) (now (a .driver)) (now (a .tuner)) (now (a .room)) drivers (tuner-sound (now (a .tuner)) tuners (and-right (driverOf (now (a .driver)) .ok) (tunerOf (now (a .tuner)) .ok) (pre .2))) (pre .2) (k .0 .0) (a .command) (k .1) (now (a .before)) (now (a .given)) (pre .0) (pre .1) _ _ _ _ (c .before .before .before .before .before .before .before .set-sample-rate .ensures) _ (c .still .ensures)
+    let at-set-sample-rate = c .before .before .before .before .before .before .before in
+    let at-command2 = at-set-sample-rate .before .before .before .before .before in
+    let at-slice-known2 = at-command2 .before .before .before .before .before .before in
+    let at-slice-known = at-slice-known2 .before in
+    let start = at-slice-known .before .before .before in
+    let a = start .args in
+    let pre = start .pre in
+    let driver = now (a .driver) in
+    let tuner = now (a .tuner) in
+    let drivers : Bytes driver = λ i. omega (arith, at-slice-known .slice-known .given i) in
+    let tuners : Bytes tuner = λ i. omega (arith, at-slice-known2 .slice-known2 .given i) in
+    let k = at-command2 .command2 .given in
+    by-rate (now (a .table)) (now (a .replies)) (now (a .outcomes)) driver tuner (now (a .room)) drivers
+    (tuner-sound tuner tuners (and-right (driverOf driver .ok) (tunerOf tuner .ok) (pre .2))) (pre .2) (k .0 .0) (a .command) (k .1) (now (a .before))
+    (now (a .given)) (pre .0) (pre .1) _ _ _ _ (at-set-sample-rate .set-sample-rate .ensures) _ (c .still .ensures)
 
 same-length-6 : tie.Need-same-length-6
 same-length-6 c = search needs
@@ -131,12 +149,22 @@ same-length-7 c = search needs
 
 returns-3 : tie.Need-returns-3
 returns-3 c =
-    let a = c .before .before .before .before .before .before .before .before .before .before .before .before .before .before .before .before .before .before .before .args in
-    let pre = c .before .before .before .before .before .before .before .before .before .before .before .before .before .before .before .before .before .before .before .pre in
-    let drivers : Bytes (now (a .driver)) = λ i. omega (arith, c .before .before .before .before .before .before .before .before .before .before .before .before .before .before .before .before .slice-known .given i) in
-    let tuners : Bytes (now (a .tuner)) = λ i. omega (arith, c .before .before .before .before .before .before .before .before .before .before .before .before .before .before .before .slice-known2 .given i) in
-    let k = c .before .before .before .before .before .before .before .before .before .command3 .given in
-    by-tuner (now (a .table)) (now (a .replies)) (now (a .outcomes)) (now (a .driver)) (now (a .tuner)) (now (a .room)) drivers (tuner-sound (now (a .tuner)) tuners (and-right (driverOf (now (a .driver)) .ok) (tunerOf (now (a .tuner)) .ok) (pre .2))) (pre .2) (GainDb (k .0 .0)) (order.Order.Gain (k .0 .0)) refl refl (gain-taken (k .0 .0) (tunerOf (now (a .tuner)) .tuner)) refl (a .command) (k .1) (now (a .given)) (pre .1) _ _ _ (c .before .before .before .before .before .set-gain .ensures) _ (c .still2 .ensures)
+    let at-set-gain = c .before .before .before .before .before in
+    let at-command3 = at-set-gain .before .before .before .before in
+    let at-slice-known2 = at-command3 .before .before .before .before .before .before in
+    let at-slice-known = at-slice-known2 .before in
+    let start = at-slice-known .before .before .before in
+    let a = start .args in
+    let pre = start .pre in
+    let driver = now (a .driver) in
+    let tuner = now (a .tuner) in
+    let drivers : Bytes driver = λ i. omega (arith, at-slice-known .slice-known .given i) in
+    let tuners : Bytes tuner = λ i. omega (arith, at-slice-known2 .slice-known2 .given i) in
+    let k = at-command3 .command3 .given in
+    by-tuner (now (a .table)) (now (a .replies)) (now (a .outcomes)) driver tuner (now (a .room)) drivers
+    (tuner-sound tuner tuners (and-right (driverOf driver .ok) (tunerOf tuner .ok) (pre .2))) (pre .2) (GainDb (k .0 .0)) (order.Order.Gain (k .0 .0)) refl refl
+    (gain-taken (k .0 .0) (tunerOf tuner .tuner)) refl (a .command) (k .1) (now (a .given)) (pre .1) _ _ _ (at-set-gain .set-gain .ensures) _
+    (c .still2 .ensures)
 
 same-length-8 : tie.Need-same-length-8
 same-length-8 c = search needs
@@ -146,12 +174,22 @@ same-length-9 c = search needs
 
 returns-4 : tie.Need-returns-4
 returns-4 c =
-    let a = c .before .before .before .before .before .before .before .before .before .before .before .before .before .before .before .before .before .before .before .args in
-    let pre = c .before .before .before .before .before .before .before .before .before .before .before .before .before .before .before .before .before .before .before .pre in
-    let drivers : Bytes (now (a .driver)) = λ i. omega (arith, c .before .before .before .before .before .before .before .before .before .before .before .before .before .before .before .before .slice-known .given i) in
-    let tuners : Bytes (now (a .tuner)) = λ i. omega (arith, c .before .before .before .before .before .before .before .before .before .before .before .before .before .before .before .slice-known2 .given i) in
-    let k = c .before .before .before .before .before .before .before .before .before .command4 .given in
-    by-tuner (now (a .table)) (now (a .replies)) (now (a .outcomes)) (now (a .driver)) (now (a .tuner)) (now (a .room)) drivers (tuner-sound (now (a .tuner)) tuners (and-right (driverOf (now (a .driver)) .ok) (tunerOf (now (a .tuner)) .ok) (pre .2))) (pre .2) (GainIndex (k .0 .0)) (order.Order.GainIndex (k .0 .0)) refl refl (index-taken (k .0 .0) (tunerOf (now (a .tuner)) .tuner)) refl (a .command) (k .1) (now (a .given)) (pre .1) _ _ _ (c .before .before .before .before .before .set-gain-by-index .ensures) _ (c .still3 .ensures)
+    let at-set-gain-by-index = c .before .before .before .before .before in
+    let at-command4 = at-set-gain-by-index .before .before .before .before in
+    let at-slice-known2 = at-command4 .before .before .before .before .before .before in
+    let at-slice-known = at-slice-known2 .before in
+    let start = at-slice-known .before .before .before in
+    let a = start .args in
+    let pre = start .pre in
+    let driver = now (a .driver) in
+    let tuner = now (a .tuner) in
+    let drivers : Bytes driver = λ i. omega (arith, at-slice-known .slice-known .given i) in
+    let tuners : Bytes tuner = λ i. omega (arith, at-slice-known2 .slice-known2 .given i) in
+    let k = at-command4 .command4 .given in
+    by-tuner (now (a .table)) (now (a .replies)) (now (a .outcomes)) driver tuner (now (a .room)) drivers
+    (tuner-sound tuner tuners (and-right (driverOf driver .ok) (tunerOf tuner .ok) (pre .2))) (pre .2) (GainIndex (k .0 .0)) (order.Order.GainIndex (k .0 .0))
+    refl refl (index-taken (k .0 .0) (tunerOf tuner .tuner)) refl (a .command) (k .1) (now (a .given)) (pre .1) _ _ _
+    (at-set-gain-by-index .set-gain-by-index .ensures) _ (c .still3 .ensures)
 
 same-length-10 : tie.Need-same-length-10
 same-length-10 c = search needs
@@ -161,12 +199,22 @@ same-length-11 c = search needs
 
 returns-5 : tie.Need-returns-5
 returns-5 c =
-    let a = c .before .before .before .before .before .before .before .before .before .before .before .before .before .before .before .before .before .before .before .args in
-    let pre = c .before .before .before .before .before .before .before .before .before .before .before .before .before .before .before .before .before .before .before .pre in
-    let drivers : Bytes (now (a .driver)) = λ i. omega (arith, c .before .before .before .before .before .before .before .before .before .before .before .before .before .before .before .before .slice-known .given i) in
-    let tuners : Bytes (now (a .tuner)) = λ i. omega (arith, c .before .before .before .before .before .before .before .before .before .before .before .before .before .before .before .slice-known2 .given i) in
-    let k = c .before .before .before .before .before .before .before .before .before .command5 .given in
-    by-tuner (now (a .table)) (now (a .replies)) (now (a .outcomes)) (now (a .driver)) (now (a .tuner)) (now (a .room)) drivers (tuner-sound (now (a .tuner)) tuners (and-right (driverOf (now (a .driver)) .ok) (tunerOf (now (a .tuner)) .ok) (pre .2))) (pre .2) (Bandwidth (k .0 .0)) (order.Order.Bandwidth (k .0 .0)) refl refl (bandwidth-taken (k .0 .0) (tunerOf (now (a .tuner)) .tuner)) refl (a .command) (k .1) (now (a .given)) (pre .1) _ _ _ (c .before .before .before .before .before .set-bandwidth .ensures) _ (c .still4 .ensures)
+    let at-set-bandwidth = c .before .before .before .before .before in
+    let at-command5 = at-set-bandwidth .before .before .before .before in
+    let at-slice-known2 = at-command5 .before .before .before .before .before .before in
+    let at-slice-known = at-slice-known2 .before in
+    let start = at-slice-known .before .before .before in
+    let a = start .args in
+    let pre = start .pre in
+    let driver = now (a .driver) in
+    let tuner = now (a .tuner) in
+    let drivers : Bytes driver = λ i. omega (arith, at-slice-known .slice-known .given i) in
+    let tuners : Bytes tuner = λ i. omega (arith, at-slice-known2 .slice-known2 .given i) in
+    let k = at-command5 .command5 .given in
+    by-tuner (now (a .table)) (now (a .replies)) (now (a .outcomes)) driver tuner (now (a .room)) drivers
+    (tuner-sound tuner tuners (and-right (driverOf driver .ok) (tunerOf tuner .ok) (pre .2))) (pre .2) (Bandwidth (k .0 .0)) (order.Order.Bandwidth (k .0 .0))
+    refl refl (bandwidth-taken (k .0 .0) (tunerOf tuner .tuner)) refl (a .command) (k .1) (now (a .given)) (pre .1) _ _ _
+    (at-set-bandwidth .set-bandwidth .ensures) _ (c .still4 .ensures)
 
 same-length-12 : tie.Need-same-length-12
 same-length-12 c = search needs
@@ -176,13 +224,23 @@ same-length-13 c = search needs
 
 returns-6 : tie.Need-returns-6
 returns-6 c =
-    let a = c .before .before .before .before .before .before .before .before .before .before .before .before .before .before .before .before .before .before .before .args in
-    let pre = c .before .before .before .before .before .before .before .before .before .before .before .before .before .before .before .before .before .before .before .pre in
-    let drivers : Bytes (now (a .driver)) = λ i. omega (arith, c .before .before .before .before .before .before .before .before .before .before .before .before .before .before .before .before .slice-known .given i) in
-    let tuners : Bytes (now (a .tuner)) = λ i. omega (arith, c .before .before .before .before .before .before .before .before .before .before .before .before .before .before .before .slice-known2 .given i) in
-    let k = c .before .before .before .before .before .before .before .before .before .command6 .given in
-    let f : SFits w32 (k .0 .0) = record { sfits = c .before .before .before .before .before .before .before .before .known-told6 .given .0 .1 } in
-    by-correction (now (a .table)) (now (a .replies)) (now (a .outcomes)) (now (a .driver)) (now (a .tuner)) (now (a .room)) drivers (tuner-sound (now (a .tuner)) tuners (and-right (driverOf (now (a .driver)) .ok) (tunerOf (now (a .tuner)) .ok) (pre .2))) (pre .2) (k .0 .0) (a .command) (k .1) _ _ _ (c .before .before .before .before .before .set-ppm .ensures ∙ ap (λ (z : ℤ). correctOver z (now (a .tuner)) (now (a .driver))) (toZ-ofZ {w = w32} {z = k .0 .0} f)) _ (c .still5 .ensures)
+    let at-set-ppm = c .before .before .before .before .before in
+    let at-known-told6 = at-set-ppm .before .before .before in
+    let at-command6 = at-known-told6 .before in
+    let at-slice-known2 = at-command6 .before .before .before .before .before .before in
+    let at-slice-known = at-slice-known2 .before in
+    let start = at-slice-known .before .before .before in
+    let a = start .args in
+    let pre = start .pre in
+    let driver = now (a .driver) in
+    let tuner = now (a .tuner) in
+    let drivers : Bytes driver = λ i. omega (arith, at-slice-known .slice-known .given i) in
+    let tuners : Bytes tuner = λ i. omega (arith, at-slice-known2 .slice-known2 .given i) in
+    let k = at-command6 .command6 .given in
+    let f : SFits w32 (k .0 .0) = record { sfits = at-known-told6 .known-told6 .given .0 .1 } in
+    by-correction (now (a .table)) (now (a .replies)) (now (a .outcomes)) driver tuner (now (a .room)) drivers
+    (tuner-sound tuner tuners (and-right (driverOf driver .ok) (tunerOf tuner .ok) (pre .2))) (pre .2) (k .0 .0) (a .command) (k .1) _ _ _
+    (at-set-ppm .set-ppm .ensures ∙ ap (λ (z : ℤ). correctOver z tuner driver) (toZ-ofZ {w = w32} {z = k .0 .0} f)) _ (c .still5 .ensures)
 
 same-length-14 : tie.Need-same-length-14
 same-length-14 c = search needs
@@ -192,16 +250,28 @@ same-length-15 c = search needs
 
 returns-7 : tie.Need-returns-7
 returns-7 c =
-    let a = c .before .before .before .before .before .before .before .before .before .before .before .before .before .before .before .before .before .before .args in
-    let pre = c .before .before .before .before .before .before .before .before .before .before .before .before .before .before .before .before .before .before .pre in
-    let drivers : Bytes (now (a .driver)) = λ i. omega (arith, c .before .before .before .before .before .before .before .before .before .before .before .before .before .before .before .slice-known .given i) in
-    let tuners : Bytes (now (a .tuner)) = λ i. omega (arith, c .before .before .before .before .before .before .before .before .before .before .before .before .before .before .slice-known2 .given i) in
-    by-tuner (now (a .table)) (now (a .replies)) (now (a .outcomes)) (now (a .driver)) (now (a .tuner)) (now (a .room)) drivers (tuner-sound (now (a .tuner)) tuners (and-right (driverOf (now (a .driver)) .ok) (tunerOf (now (a .tuner)) .ok) (pre .2))) (pre .2) Reload order.Order.Reload refl refl (reload-taken (tunerOf (now (a .tuner)) .tuner)) refl (a .command) (c .before .before .before .before .before .before .before .before .enum-told .given .1) (now (a .given)) (pre .1) _ _ _ (c .before .before .before .before .before .reload .ensures) _ (c .still6 .ensures)
+    let at-reload = c .before .before .before .before .before in
+    let at-enum-told = at-reload .before .before .before in
+    let at-slice-known2 = at-enum-told .before .before .before .before .before .before in
+    let at-slice-known = at-slice-known2 .before in
+    let start = at-slice-known .before .before .before in
+    let a = start .args in
+    let pre = start .pre in
+    let driver = now (a .driver) in
+    let tuner = now (a .tuner) in
+    let drivers : Bytes driver = λ i. omega (arith, at-slice-known .slice-known .given i) in
+    let tuners : Bytes tuner = λ i. omega (arith, at-slice-known2 .slice-known2 .given i) in
+    by-tuner (now (a .table)) (now (a .replies)) (now (a .outcomes)) driver tuner (now (a .room)) drivers
+    (tuner-sound tuner tuners (and-right (driverOf driver .ok) (tunerOf tuner .ok) (pre .2))) (pre .2) Reload order.Order.Reload refl refl
+    (reload-taken (tunerOf tuner .tuner)) refl (a .command) (at-enum-told .enum-told .given .1) (now (a .given)) (pre .1) _ _ _ (at-reload .reload .ensures) _
+    (c .still6 .ensures)
 
 returns-8 : tie.Need-returns-8
 returns-8 c =
-    let a = c .before .before .before .before .before .before .before .before .before .before .before .args in
-    unknown-run (a .command) (now (a .table)) (now (a .replies)) (now (a .outcomes)) (now (a .driver)) (now (a .tuner)) (now (a .room)) (ap (λ (x : Command). isUnknown x) (c .before .enum-told2 .given .1)) _ (c .refuse .ensures)
+    let at-enum-told2 = c .before in
+    let a = at-enum-told2 .before .before .before .before .before .before .before .before .before .before .args in
+    unknown-run (a .command) (now (a .table)) (now (a .replies)) (now (a .outcomes)) (now (a .driver)) (now (a .tuner)) (now (a .room))
+    (ap (λ (x : Command). isUnknown x) (at-enum-told2 .enum-told2 .given .1)) _ (c .refuse .ensures)
 
 pub call-over-spec : {M : Type 1} → statement M
 call-over-spec =

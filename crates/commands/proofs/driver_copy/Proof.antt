@@ -12,7 +12,10 @@ copy-requires : tie.Need-copy-requires
 copy-requires c κs = search needs
 
 returns : tie.Need-returns
-returns c = copied (now (c .before .before .before .before .args .driver)) _ _ (c .before .before .before .before .pre) (c .before .copy .ensures)
+returns c =
+    let at-copy = c .before in
+    let start = at-copy .before .before .before in
+    copied (now (start .args .driver)) _ _ (start .pre) (at-copy .copy .ensures)
 
 pub driver-copy-spec : {M : Type 1} → statement M
 driver-copy-spec = tie.close (tie.spec slice-aggregate-copy copy-requires returns)

@@ -37,8 +37,12 @@ same-length c = search needs
 -- src/lib.rt:252:9
 returns : tie.Need-returns
 returns c =
-    let a = c .before .before .before .before .before .before .before .before .before .before .before .before .before .before .args in
-    not-fed (now (a .table)) (now (a .chunk)) (now (a .replies)) (now (a .outcomes)) (now (a .stream)) (now (a .driver)) (now (a .tuner)) (now (a .room)) _ (c .before .before .before .before .gather .ensures) (not-true _ (c .before .before .if1 .taken)) _ (c .before .refuse .ensures) _ (c .fed .ensures)
+    let at-refuse = c .before in
+    let at-if1 = at-refuse .before in
+    let at-gather = at-if1 .before .before in
+    let a = at-gather .before .before .before .before .before .before .before .before .before .before .args in
+    not-fed (now (a .table)) (now (a .chunk)) (now (a .replies)) (now (a .outcomes)) (now (a .stream)) (now (a .driver)) (now (a .tuner)) (now (a .room)) _
+    (at-gather .gather .ensures) (not-true _ (at-if1 .if1 .taken)) _ (at-refuse .refuse .ensures) _ (c .fed .ensures)
 
 -- src/lib.rt:254:17
 image-requires : tie.Need-image-requires
@@ -51,10 +55,15 @@ slice-aggregate-copy c = search needs
 -- src/lib.rt:255:5
 copy-requires : tie.Need-copy-requires
 copy-requires c κs =
-    let a = c .before .before .before .before .before .before .before .before .before .before .before .before .before .before .before .args in
-    let n : length (now (a .stream)) ≡ 9 = nine (now (a .table)) (now (a .chunk)) (now (a .replies)) (now (a .outcomes)) (now (a .stream)) (now (a .driver)) (now (a .tuner)) (now (a .room)) _ (c .before .before .before .before .before .gather .ensures) (not-false _ (c .before .before .before .if1 .left)) in
-    let m : length (c .before .before .image .result) ≡ 9 = search needs in
-    omega arith
+    let at-image = c .before .before in
+    let at-if1 = at-image .before in
+    let at-gather = at-if1 .before .before in
+    let a = at-gather .before .before .before .before .before .before .before .before .before .before .args in
+    let stream = now (a .stream) in
+    let n : length stream ≡ 9 =
+    nine (now (a .table)) (now (a .chunk)) (now (a .replies)) (now (a .outcomes)) stream (now (a .driver)) (now (a .tuner)) (now (a .room)) _
+    (at-gather .gather .ensures) (not-false _ (at-if1 .if1 .left)) in
+    let m : length (at-image .image .result) ≡ 9 = search needs in omega arith
 
 -- src/lib.rt:258:20
 none-requires : tie.Need-none-requires
@@ -75,9 +84,17 @@ same-length-2 c = search needs
 -- src/lib.rt:258:9
 returns-2 : tie.Need-returns-2
 returns-2 c =
-    let a = c .before .before .before .before .before .before .before .before .before .before .before .before .before .before .before .before .before .before .before .before .before .args in
-    rw (c .before .before .before .before .before .copy .ensures)
-    (waits (now (a .table)) (now (a .chunk)) (now (a .replies)) (now (a .outcomes)) (now (a .stream)) (now (a .driver)) (now (a .tuner)) (now (a .room)) _ (c .before .before .before .before .before .before .before .before .before .before .before .gather .ensures) (not-false _ (c .before .before .before .before .before .before .before .before .before .if1 .left)) (c .before .before .if2 .taken) _ (c .before .before .before .before .before .before .before .before .image .ensures) _ (c .before .none .ensures) _ (c .fed2 .ensures))
+    let at-none = c .before in
+    let at-if2 = at-none .before in
+    let at-copy = at-if2 .before .before .before in
+    let at-image = at-copy .before .before .before in
+    let at-if1 = at-image .before in
+    let at-gather = at-if1 .before .before in
+    let a = at-gather .before .before .before .before .before .before .before .before .before .before .args in
+    rw (at-copy .copy .ensures)
+    (waits (now (a .table)) (now (a .chunk)) (now (a .replies)) (now (a .outcomes)) (now (a .stream)) (now (a .driver)) (now (a .tuner)) (now (a .room)) _
+    (at-gather .gather .ensures) (not-false _ (at-if1 .if1 .left)) (at-if2 .if2 .taken) _ (at-image .image .ensures) _ (at-none .none .ensures) _
+    (c .fed2 .ensures))
 
 -- src/lib.rt:261:9
 command-of-requires : tie.Need-command-of-requires
@@ -110,9 +127,18 @@ same-length-6 c = search needs
 -- src/lib.rt:237:1
 returns-3 : tie.Need-returns-3
 returns-3 c =
-    let a = c .before .before .before .before .before .before .before .before .before .before .before .before .before .before .before .before .before .before .before .before .before .before .before .before .before .before .before .before .before .before .before .before .before .args in
-    rw (c .before .before .before .before .before .before .before .before .before .before .before .before .before .before .before .before .before .copy .ensures)
-    (completes (now (a .table)) (now (a .chunk)) (now (a .replies)) (now (a .outcomes)) (now (a .stream)) (now (a .driver)) (now (a .tuner)) (now (a .room)) _ (c .before .before .before .before .before .before .before .before .before .before .before .before .before .before .before .before .before .before .before .before .before .before .before .gather .ensures) (not-false _ (c .before .before .before .before .before .before .before .before .before .before .before .before .before .before .before .before .before .before .before .before .before .if1 .left)) (c .before .before .before .before .before .before .before .before .before .before .before .before .before .before .if2 .left) _ (c .before .before .before .before .before .before .before .before .before .before .before .before .before .before .before .before .before .before .before .before .image .ensures) _ (c .before .before .before .before .before .before .before .before .before .before .before .command-of .ensures) _ _ _ _ (c .before .before .before .before .before .before .before .run-over .ensures) _ (c .fed3 .ensures))
+    let at-run-over = c .before .before .before .before .before .before .before in
+    let at-command-of = at-run-over .before .before .before .before in
+    let at-if2 = at-command-of .before .before .before in
+    let at-copy = at-if2 .before .before .before in
+    let at-image = at-copy .before .before .before in
+    let at-if1 = at-image .before in
+    let at-gather = at-if1 .before .before in
+    let a = at-gather .before .before .before .before .before .before .before .before .before .before .args in
+    rw (at-copy .copy .ensures)
+    (completes (now (a .table)) (now (a .chunk)) (now (a .replies)) (now (a .outcomes)) (now (a .stream)) (now (a .driver)) (now (a .tuner)) (now (a .room)) _
+    (at-gather .gather .ensures) (not-false _ (at-if1 .if1 .left)) (at-if2 .if2 .left) _ (at-image .image .ensures) _ (at-command-of .command-of .ensures) _ _ _
+    _ (at-run-over .run-over .ensures) _ (c .fed3 .ensures))
 
 pub feed-spec : {M : Type 1} → statement M
 feed-spec =

@@ -13,11 +13,17 @@ pending-count-requires c κs = search needs
 
 -- src/lib.rt:272:9
 returns : tie.Need-returns
-returns c = none-pending (now (c .before .before .before .args .stream)) _ (c .before .pending-count .ensures) (c .if1 .taken)
+returns c =
+    let at-pending-count = c .before in
+    let start = at-pending-count .before .before in
+    none-pending (now (start .args .stream)) _ (at-pending-count .pending-count .ensures) (c .if1 .taken)
 
 -- src/lib.rt:267:1
 returns-2 : tie.Need-returns-2
-returns-2 c = some-pending (now (c .before .before .before .args .stream)) _ (c .before .pending-count .ensures) (c .if1 .left)
+returns-2 c =
+    let at-pending-count = c .before in
+    let start = at-pending-count .before .before in
+    some-pending (now (start .args .stream)) _ (at-pending-count .pending-count .ensures) (c .if1 .left)
 
 pub pending-spec : {M : Type 1} → statement M
 pending-spec = tie.close (tie.spec pending-count-requires returns returns-2)

@@ -15,8 +15,11 @@ refuse-requires c κs = search needs
 
 returns : tie.Need-returns
 returns c =
-    let a = c .before .before .before .before .before .before .before .before .before .args in
-    unknown-run (a .command) (now (a .table)) (now (a .replies)) (now (a .outcomes)) (now (a .driver)) (now (a .tuner)) (now (a .room)) (sym (c .before .before .is-unknown .ensures) ∙ c .before .if1 .taken) _ (c .refuse .ensures)
+    let at-if1 = c .before in
+    let at-is-unknown = at-if1 .before in
+    let a = at-is-unknown .before .before .before .before .before .before .before .args in
+    unknown-run (a .command) (now (a .table)) (now (a .replies)) (now (a .outcomes)) (now (a .driver)) (now (a .tuner)) (now (a .room))
+    (sym (at-is-unknown .is-unknown .ensures) ∙ at-if1 .if1 .taken) _ (c .refuse .ensures)
 
 decode-driver-requires : tie.Need-decode-driver-requires
 decode-driver-requires c κs = search needs
@@ -35,18 +38,39 @@ same-length-2 c = search needs
 
 returns-2 : tie.Need-returns-2
 returns-2 c =
-    let a = c .before .before .before .before .before .before .before .before .before .before .before .before .before .before .before .before .args in
-    no-records (a .command) (now (a .table)) (now (a .replies)) (now (a .outcomes)) (now (a .driver)) (now (a .tuner)) (now (a .room)) _ _ (c .before .before .before .before .before .before .decode-driver .ensures) (c .before .before .before .before .decode-tuner .ensures) (sym (c .before .before .before .before .before .before .before .before .before .is-unknown .ensures) ∙ c .before .before .before .before .before .before .before .before .if1 .left) (not-true _ (c .before .if2 .taken)) _ (c .refuse2 .ensures)
+    let at-if2 = c .before in
+    let at-decode-tuner = at-if2 .before .before .before in
+    let at-decode-driver = at-decode-tuner .before .before in
+    let at-if1 = at-decode-driver .before .before in
+    let at-is-unknown = at-if1 .before in
+    let a = at-is-unknown .before .before .before .before .before .before .before .args in
+    no-records (a .command) (now (a .table)) (now (a .replies)) (now (a .outcomes)) (now (a .driver)) (now (a .tuner)) (now (a .room)) _ _
+    (at-decode-driver .decode-driver .ensures) (at-decode-tuner .decode-tuner .ensures) (sym (at-is-unknown .is-unknown .ensures) ∙ at-if1 .if1 .left)
+    (not-true _ (at-if2 .if2 .taken)) _ (c .refuse2 .ensures)
 
 driver-copy-requires : tie.Need-driver-copy-requires
 driver-copy-requires c κs =
-    let a = c .before .before .before .before .before .before .before .before .before .before .before .before .before .before .before .before .args in
-    driver-size (a .command) (now (a .table)) (now (a .replies)) (now (a .outcomes)) (now (a .driver)) (now (a .tuner)) (now (a .room)) _ _ (c .before .before .before .before .before .before .decode-driver .ensures) (c .before .before .before .before .decode-tuner .ensures) (sym (c .before .before .before .before .before .before .before .before .before .is-unknown .ensures) ∙ c .before .before .before .before .before .before .before .before .if1 .left) (not-false _ (c .before .if2 .left))
+    let at-if2 = c .before in
+    let at-decode-tuner = at-if2 .before .before .before in
+    let at-decode-driver = at-decode-tuner .before .before in
+    let at-if1 = at-decode-driver .before .before in
+    let at-is-unknown = at-if1 .before in
+    let a = at-is-unknown .before .before .before .before .before .before .before .args in
+    driver-size (a .command) (now (a .table)) (now (a .replies)) (now (a .outcomes)) (now (a .driver)) (now (a .tuner)) (now (a .room)) _ _
+    (at-decode-driver .decode-driver .ensures) (at-decode-tuner .decode-tuner .ensures) (sym (at-is-unknown .is-unknown .ensures) ∙ at-if1 .if1 .left)
+    (not-false _ (at-if2 .if2 .left))
 
 tuner-copy-requires : tie.Need-tuner-copy-requires
 tuner-copy-requires c κs =
-    let a = c .before .before .before .before .before .before .before .before .before .before .before .before .before .before .before .before .before .before .args in
-    tuner-size (a .command) (now (a .table)) (now (a .replies)) (now (a .outcomes)) (now (a .driver)) (now (a .tuner)) (now (a .room)) _ _ (c .before .before .before .before .before .before .before .before .decode-driver .ensures) (c .before .before .before .before .before .before .decode-tuner .ensures) (sym (c .before .before .before .before .before .before .before .before .before .before .before .is-unknown .ensures) ∙ c .before .before .before .before .before .before .before .before .before .before .if1 .left) (not-false _ (c .before .before .before .if2 .left))
+    let at-if2 = c .before .before .before in
+    let at-decode-tuner = at-if2 .before .before .before in
+    let at-decode-driver = at-decode-tuner .before .before in
+    let at-if1 = at-decode-driver .before .before in
+    let at-is-unknown = at-if1 .before in
+    let a = at-is-unknown .before .before .before .before .before .before .before .args in
+    tuner-size (a .command) (now (a .table)) (now (a .replies)) (now (a .outcomes)) (now (a .driver)) (now (a .tuner)) (now (a .room)) _ _
+    (at-decode-driver .decode-driver .ensures) (at-decode-tuner .decode-tuner .ensures) (sym (at-is-unknown .is-unknown .ensures) ∙ at-if1 .if1 .left)
+    (not-false _ (at-if2 .if2 .left))
 
 slice-aggregate-call-over : tie.Need-slice-aggregate-call-over
 slice-aggregate-call-over c = search needs
@@ -56,8 +80,20 @@ slice-aggregate-call-over-2 c = search needs
 
 call-over-requires : tie.Need-call-over-requires
 call-over-requires c κs =
-    let a = c .before .before .before .before .before .before .before .before .before .before .before .before .before .before .before .before .before .before .before .before .before .before .before .before .args in
-    (c .before .before .before .before .before .before .before .driver-copy .ensures, c .before .before .before .before .before .tuner-copy .ensures, both-ok (a .command) (now (a .table)) (now (a .replies)) (now (a .outcomes)) (now (a .driver)) (now (a .tuner)) (now (a .room)) _ _ (c .before .before .before .before .before .before .before .before .before .before .before .before .before .before .decode-driver .ensures) (c .before .before .before .before .before .before .before .before .before .before .before .before .decode-tuner .ensures) (sym (c .before .before .before .before .before .before .before .before .before .before .before .before .before .before .before .before .before .is-unknown .ensures) ∙ c .before .before .before .before .before .before .before .before .before .before .before .before .before .before .before .before .if1 .left) (not-false _ (c .before .before .before .before .before .before .before .before .before .if2 .left)))
+    let at-tuner-copy = c .before .before .before .before .before in
+    let at-driver-copy = at-tuner-copy .before .before in
+    let at-if2 = at-driver-copy .before .before in
+    let at-decode-tuner = at-if2 .before .before .before in
+    let at-decode-driver = at-decode-tuner .before .before in
+    let at-if1 = at-decode-driver .before .before in
+    let at-is-unknown = at-if1 .before in
+    let a = at-is-unknown .before .before .before .before .before .before .before .args in (
+      at-driver-copy .driver-copy .ensures,
+      at-tuner-copy .tuner-copy .ensures,
+      both-ok (a .command) (now (a .table)) (now (a .replies)) (now (a .outcomes)) (now (a .driver)) (now (a .tuner)) (now (a .room)) _ _
+          (at-decode-driver .decode-driver .ensures) (at-decode-tuner .decode-tuner .ensures) (sym (at-is-unknown .is-unknown .ensures) ∙ at-if1 .if1 .left)
+          (not-false _ (at-if2 .if2 .left)),
+    )
 
 same-length-3 : tie.Need-same-length-3
 same-length-3 c = search needs

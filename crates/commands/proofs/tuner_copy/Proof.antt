@@ -12,7 +12,10 @@ copy-requires : tie.Need-copy-requires
 copy-requires c κs = search needs
 
 returns : tie.Need-returns
-returns c = copied (now (c .before .before .before .before .args .tuner)) _ _ (c .before .before .before .before .pre) (c .before .copy .ensures)
+returns c =
+    let at-copy = c .before in
+    let start = at-copy .before .before .before in
+    copied (now (start .args .tuner)) _ _ (start .pre) (at-copy .copy .ensures)
 
 pub tuner-copy-spec : {M : Type 1} → statement M
 tuner-copy-spec = tie.close (tie.spec slice-aggregate-copy copy-requires returns)

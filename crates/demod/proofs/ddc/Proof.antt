@@ -27,7 +27,10 @@ same-length c = search needs
 
 returns : tie.Need-returns
 unfolding run accessStep ddcSteps
-returns c = (by-entry inRoom _ _ _ _ _ (ap (demodWrite 1 0x15) (c .before .before .before .before .ddc-byte .ensures)) (c .before .before .one-access .ensures .0), search needs)
+returns c =
+    let at-one-access = c .before .before in
+    let at-ddc-byte = at-one-access .before .before in
+    (by-entry inRoom _ _ _ _ _ (ap (demodWrite 1 0x15) (at-ddc-byte .ddc-byte .ensures)) (at-one-access .one-access .ensures .0), search needs)
 
 pub ddc-spec : {M : Type 1} → statement M
 ddc-spec = tie.close (tie.spec ddc-byte-requires cast-t6 one-access-requires same-length returns)

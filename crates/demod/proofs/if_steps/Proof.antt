@@ -18,7 +18,10 @@ same-length c = search needs
 
 returns : tie.Need-returns
 unfolding ifSteps
-returns c = (by-program inRoom _ _ _ _ _ (rows-meant 3 _ _ (c .before .before .before .before .if-rows .ensures)) (c .before .before .access-all .ensures .0), search needs)
+returns c =
+    let at-access-all = c .before .before in
+    let at-if-rows = at-access-all .before .before in
+    (by-program inRoom _ _ _ _ _ (rows-meant 3 _ _ (at-if-rows .if-rows .ensures)) (at-access-all .access-all .ensures .0), search needs)
 
 pub if-steps-spec : {M : Type 1} → statement M
 if-steps-spec = tie.close (tie.spec if-rows-requires access-all-requires same-length returns)

@@ -27,10 +27,15 @@ same-length c = search needs
 
 returns : tie.Need-returns
 unfolding accessStep modeSteps
-returns c = (
-  in-three inRoom _ _ _ _ _ (c .before .before .before .before .before .before .before .before .before .before .power-steps .ensures .0) (c .before .before .before .before .before .before .set-fir .ensures .0) (c .before .before .access-all .ensures .0),
-  omega (arith, c .before .before .access-all .ensures .1, c .before .before .before .before .before .before .set-fir .ensures .1, c .before .before .before .before .before .before .before .before .before .before .power-steps .ensures .1),
-)
+returns c =
+    let at-access-all = c .before .before in
+    let access-all = at-access-all .access-all in
+    let at-set-fir = at-access-all .before .before .before .before in
+    let set-fir = at-set-fir .set-fir in
+    let power-steps = at-set-fir .before .before .before .before .power-steps in (
+      in-three inRoom _ _ _ _ _ (power-steps .ensures .0) (set-fir .ensures .0) (access-all .ensures .0),
+      omega (arith, access-all .ensures .1, set-fir .ensures .1, power-steps .ensures .1),
+    )
 
 pub init-steps-spec : {M : Type 1} → statement M
 init-steps-spec =

@@ -17,13 +17,22 @@ use Rattle.demod.proofs.log_upward.Lts as lts
 use Rattle.device.proofs.log_access.Reads as log-access-reads
 
 abbrev Inv-loop : tie.InvT-loop
-Inv-loop register n outcomes room₀ bytes l₀ i₀ room l i = (i ≤ n) × ((length room ≡ length room₀) × ((length bytes ≡ 20) × ((l .count + closingOwed (l .opened) ≤ l₀ .count + i + closingOwed (l₀ .opened)) × ((chip : Chip) → run inRoom outcomes (upward (register + i) (drop i (take n bytes))) (onLog chip l room) ≡ run inRoom outcomes (upward register (take n bytes)) (onLog chip l₀ room₀)))))
+Inv-loop register n outcomes room₀ bytes l₀ i₀ room l i =
+    (i ≤ n)
+    × ((length room ≡ length room₀)
+    × ((length bytes ≡ 20)
+    × ((l .count + closingOwed (l .opened) ≤ l₀ .count + i + closingOwed (l₀ .opened))
+    × ((chip : Chip)
+    → run inRoom outcomes (upward (register + i) (drop i (take n bytes))) (onLog chip l room)
+    ≡ run inRoom outcomes (upward register (take n bytes)) (onLog chip l₀ room₀)))))
 
 abbrev μ-loop : tie.MeasureT-loop
 μ-loop register n outcomes room₀ bytes l₀ i₀ room l i = n - i
 
 loop-holds : tie.Need-loop-holds Inv-loop μ-loop
-loop-holds c = (search needs, (refl, (search needs, (search needs, λ chip. begin inRoom _ (c .before .before .args .register) (c .before .before .args .t3) (c .before .before .args .n) _))))
+loop-holds c =
+    let args = c .before .before .args in
+    (search needs, (refl, (search needs, (search needs, λ chip. begin inRoom _ (args .register) (args .t3) (args .n) _))))
 
 cast-at : tie.Need-cast-at Inv-loop μ-loop
 cast-at c = search needs
@@ -49,13 +58,35 @@ loop-less c = search needs
 loop-again : tie.Need-loop-again Inv-loop μ-loop
 unfolding accessStep
 loop-again c =
-    (search needs, (search needs, (search needs, (search needs, λ chip. ap (run inRoom _ (upward (c .before .before .before .before .before .before .before .before .args .register + (c .before .before .before .before .before .loop .i + 1)) (drop (c .before .before .before .before .before .loop .i + 1) (take (c .before .before .before .before .before .before .before .before .args .n) (c .before .before .before .before .before .before .before .before .args .t3))))) (c .before .before .log-access .ensures .0 chip) ∙ turn inRoom _ (c .before .before .before .before .before .before .before .before .args .register) (c .before .before .before .before .before .before .before .before .args .t3) (c .before .before .before .before .before .before .before .before .args .n) (c .before .before .before .before .before .loop .i) _ (search needs) (search needs) ∙ c .before .before .before .before .before .loop .inv .1 .1 .1 .1 chip))))
+    let at-log-access = c .before .before in
+    let at-loop = at-log-access .before .before .before in
+    let loop = at-loop .loop in
+    let args = at-loop .before .before .before .args in (
+      search needs,
+      (
+        search needs,
+        (
+          search needs,
+          (
+            search needs,
+            λ chip. ap (run inRoom _ (upward (args .register + (loop .i + 1)) (drop (loop .i + 1) (take (args .n) (args .t3)))))
+                (at-log-access .log-access .ensures .0 chip)
+                ∙ turn inRoom _ (args .register) (args .t3) (args .n) (loop .i) _ (search needs) (search needs)
+                ∙ loop .inv .1 .1 .1 .1 chip,
+          ),
+        ),
+      ),
+    )
 
 same-length : tie.Need-same-length Inv-loop μ-loop
 same-length c = search needs
 
 returns : tie.Need-returns Inv-loop μ-loop
-returns c = (λ chip. end inRoom _ (c .before .before .before .before .args .register) (c .before .before .before .before .args .t3) (c .before .before .before .before .args .n) (c .before .loop .i) _ (search needs) ∙ c .before .loop .inv .1 .1 .1 .1 chip, search needs)
+returns c =
+    let at-loop = c .before in
+    let loop = at-loop .loop in
+    let args = at-loop .before .before .before .args in
+    (λ chip. end inRoom _ (args .register) (args .t3) (args .n) (loop .i) _ (search needs) ∙ loop .inv .1 .1 .1 .1 chip, search needs)
 
 pub log-upward-spec : {M : Type 1} → statement M
 log-upward-spec =

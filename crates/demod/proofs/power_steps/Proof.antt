@@ -24,7 +24,13 @@ same-length c = search needs
 
 returns : tie.Need-returns
 unfolding accessStep powerSteps
-returns c = (then inRoom _ powerSteps (upward 0x16 (replicate 6 0)) _ _ _ (c .before .before .before .before .before .before .access-all .ensures .0) (c .before .before .write-upward .ensures .0), omega (arith, c .before .before .write-upward .ensures .1, c .before .before .before .before .before .before .access-all .ensures .1))
+returns c =
+    let at-write-upward = c .before .before in
+    let write-upward = at-write-upward .write-upward in
+    let access-all = at-write-upward .before .before .before .before .access-all in (
+      then inRoom _ powerSteps (upward 0x16 (replicate 6 0)) _ _ _ (access-all .ensures .0) (write-upward .ensures .0),
+      omega (arith, write-upward .ensures .1, access-all .ensures .1),
+    )
 
 pub power-steps-spec : {M : Type 1} → statement M
 power-steps-spec =

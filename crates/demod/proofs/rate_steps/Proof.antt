@@ -18,7 +18,10 @@ same-length c = search needs
 
 returns : tie.Need-returns
 unfolding rateSteps
-returns c = (by-program inRoom _ _ _ _ _ (rows-meant 4 _ _ (c .before .before .before .before .rate-rows .ensures)) (c .before .before .access-all .ensures .0), search needs)
+returns c =
+    let at-access-all = c .before .before in
+    let at-rate-rows = at-access-all .before .before in
+    (by-program inRoom _ _ _ _ _ (rows-meant 4 _ _ (at-rate-rows .rate-rows .ensures)) (at-access-all .access-all .ensures .0), search needs)
 
 pub rate-steps-spec : {M : Type 1} → statement M
 rate-steps-spec = tie.close (tie.spec rate-rows-requires access-all-requires same-length returns)

@@ -26,7 +26,13 @@ same-length c = search needs
 
 returns : tie.Need-returns
 unfolding firSteps packOf
-returns c = (by-program inRoom _ _ _ _ _ (ap (λ (l : List ℕ). upward 0x1c (take 20 l)) (c .before .before .before .before .default-bytes .ensures)) (c .before .before .write-upward .ensures .0), search needs)
+returns c =
+    let at-write-upward = c .before .before in
+    let at-default-bytes = at-write-upward .before .before in (
+      by-program inRoom _ _ _ _ _ (ap (λ (l : List ℕ). upward 0x1c (take 20 l)) (at-default-bytes .default-bytes .ensures))
+          (at-write-upward .write-upward .ensures .0),
+      search needs,
+    )
 
 pub set-fir-spec : {M : Type 1} → statement M
 set-fir-spec =

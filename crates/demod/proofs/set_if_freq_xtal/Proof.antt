@@ -30,7 +30,11 @@ same-length c = search needs
 
 returns-2 : tie.Need-returns-2
 unfolding ifSteps
-returns-2 c = argument-good _ _ _ _ _ _ _ _ _ (rw (ne-eqb _ 0 (c .before .before .before .before .before .if1 .left))) (rows-meant 3 _ _ (c .before .before .before .before .if-rows .ensures)) (c .before .before .perform .ensures)
+returns-2 c =
+    let at-perform = c .before .before in
+    let at-if-rows = at-perform .before .before in
+    let at-if1 = at-if-rows .before in
+    argument-good _ _ _ _ _ _ _ _ _ (rw (ne-eqb _ 0 (at-if1 .if1 .left))) (rows-meant 3 _ _ (at-if-rows .if-rows .ensures)) (at-perform .perform .ensures)
 
 pub set-if-freq-xtal-spec : {M : Type 1} → statement M
 set-if-freq-xtal-spec =

@@ -33,7 +33,12 @@ same-length c = search needs
 returns-2 : tie.Need-returns-2
 unfolding rateSteps
 returns-2 c =
-    argument-good _ _ _ _ _ _ _ _ _ (sym (c .before .before .before .before .before .before .rate-number .ensures) ∙ c .before .before .before .before .before .if1 .left) (rows-meant 4 _ _ (c .before .before .before .before .rate-rows .ensures)) (c .before .before .perform .ensures)
+    let at-perform = c .before .before in
+    let at-rate-rows = at-perform .before .before in
+    let at-if1 = at-rate-rows .before in
+    let at-rate-number = at-if1 .before in
+    argument-good _ _ _ _ _ _ _ _ _ (sym (at-rate-number .rate-number .ensures) ∙ at-if1 .if1 .left) (rows-meant 4 _ _ (at-rate-rows .rate-rows .ensures))
+    (at-perform .perform .ensures)
 
 pub set-sample-rate-xtal-spec : {M : Type 1} → statement M
 set-sample-rate-xtal-spec =

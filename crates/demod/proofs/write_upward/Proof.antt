@@ -10,7 +10,9 @@ same-length : tie.Need-same-length
 same-length c = search needs
 
 returns : tie.Need-returns
-returns c = (c .before .before .log-upward .ensures .0 _, c .before .before .log-upward .ensures .1)
+returns c =
+    let log-upward = c .before .before .log-upward in
+    (log-upward .ensures .0 _, log-upward .ensures .1)
 
 pub write-upward-spec : {M : Type 1} → statement M
 write-upward-spec = tie.close (tie.spec log-upward-requires same-length returns)

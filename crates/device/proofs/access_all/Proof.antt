@@ -10,7 +10,9 @@ same-length : tie.Need-same-length
 same-length c = search needs
 
 returns : tie.Need-returns
-returns c = (c .before .before .log-all .ensures .0 _, c .before .before .log-all .ensures .1)
+returns c =
+    let log-all = c .before .before .log-all in
+    (log-all .ensures .0 _, log-all .ensures .1)
 
 pub access-all-spec : {M : Type 1} → statement M
 access-all-spec = tie.close (tie.spec log-all-requires same-length returns)

@@ -22,7 +22,10 @@ same-length c = search needs
 
 returns : tie.Need-returns
 unfolding bitSteps
-returns c = (by-program inRoom _ _ _ _ _ (rows-meant 2 _ _ (c .before .before .before .before .bit-rows .ensures)) (c .before .before .access-all .ensures .0), search needs)
+returns c =
+    let at-access-all = c .before .before in
+    let at-bit-rows = at-access-all .before .before in
+    (by-program inRoom _ _ _ _ _ (rows-meant 2 _ _ (at-bit-rows .bit-rows .ensures)) (at-access-all .access-all .ensures .0), search needs)
 
 pub gpio-bit-spec : {M : Type 1} → statement M
 gpio-bit-spec = tie.close (tie.spec bit-rows-requires access-all-requires same-length returns)

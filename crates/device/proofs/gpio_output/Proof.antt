@@ -22,7 +22,10 @@ same-length c = search needs
 
 returns : tie.Need-returns
 unfolding outputSteps
-returns c = (by-program inRoom _ _ _ _ _ (rows-meant 4 _ _ (c .before .before .before .before .output-rows .ensures)) (c .before .before .access-all .ensures .0), search needs)
+returns c =
+    let at-access-all = c .before .before in
+    let at-output-rows = at-access-all .before .before in
+    (by-program inRoom _ _ _ _ _ (rows-meant 4 _ _ (at-output-rows .output-rows .ensures)) (at-access-all .access-all .ensures .0), search needs)
 
 pub gpio-output-spec : {M : Type 1} → statement M
 gpio-output-spec =

@@ -21,7 +21,10 @@ same-length c = search needs
 
 returns : tie.Need-returns
 unfolding accessStep
-returns c = (λ chip. by-entry inRoom _ _ _ _ _ (c .before .before .before .before .entry .ensures) (c .before .before .log-plain .ensures .0 chip), search needs)
+returns c =
+    let at-log-plain = c .before .before in
+    let at-entry = at-log-plain .before .before in
+    (λ chip. by-entry inRoom _ _ _ _ _ (at-entry .entry .ensures) (at-log-plain .log-plain .ensures .0 chip), search needs)
 
 pub log-access-spec : {M : Type 1} → statement M
 log-access-spec = tie.close (tie.spec entry-requires log-plain-requires same-length returns)

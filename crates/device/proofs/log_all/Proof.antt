@@ -18,7 +18,14 @@ use Rattle.device.proofs.log_all.Lts as lts
 use Rattle.device.proofs.log_access.Reads as log-access-reads
 
 abbrev Inv-loop : tie.InvT-loop
-Inv-loop n outcomes room₀ rows l₀ i₀ room l i = (i ≤ n) × ((length room ≡ length room₀) × ((length rows ≡ 10) × ((l .count + closingOwed (l .opened) ≤ l₀ .count + i + closingOwed (l₀ .opened)) × ((chip : Chip) → run inRoom outcomes (map accessStep (drop i (take n rows))) (onLog chip l room) ≡ run inRoom outcomes (map accessStep (take n rows)) (onLog chip l₀ room₀)))))
+Inv-loop n outcomes room₀ rows l₀ i₀ room l i =
+    (i ≤ n)
+    × ((length room ≡ length room₀)
+    × ((length rows ≡ 10)
+    × ((l .count + closingOwed (l .opened) ≤ l₀ .count + i + closingOwed (l₀ .opened))
+    × ((chip : Chip)
+    → run inRoom outcomes (map accessStep (drop i (take n rows))) (onLog chip l room)
+    ≡ run inRoom outcomes (map accessStep (take n rows)) (onLog chip l₀ room₀)))))
 
 abbrev μ-loop : tie.MeasureT-loop
 μ-loop n outcomes room₀ rows l₀ i₀ room l i = n - i
@@ -42,13 +49,35 @@ loop-less : tie.Need-loop-less Inv-loop μ-loop
 loop-less c = search needs
 
 loop-again : tie.Need-loop-again Inv-loop μ-loop
-loop-again c = (search needs, (search needs, (search needs, (search needs, λ chip. ap (run inRoom _ (map accessStep (drop (c .before .before .before .before .before .before .loop .i + 1) (take (c .before .before .before .before .before .before .before .before .before .args .n) (c .before .before .before .before .before .before .before .before .before .args .t2))))) (c .before .before .log-access .ensures .0 chip) ∙ turn inRoom _ accessStep (c .before .before .before .before .before .before .before .before .before .args .t2) (c .before .before .before .before .before .before .before .before .before .args .n) (c .before .before .before .before .before .before .loop .i) _ _ (search needs) (search needs) ∙ c .before .before .before .before .before .before .loop .inv .1 .1 .1 .1 chip))))
+loop-again c =
+    let at-log-access = c .before .before in
+    let at-loop = at-log-access .before .before .before .before in
+    let loop = at-loop .loop in
+    let args = at-loop .before .before .before .args in (
+      search needs,
+      (
+        search needs,
+        (
+          search needs,
+          (
+            search needs,
+            λ chip. ap (run inRoom _ (map accessStep (drop (loop .i + 1) (take (args .n) (args .t2))))) (at-log-access .log-access .ensures .0 chip)
+                ∙ turn inRoom _ accessStep (args .t2) (args .n) (loop .i) _ _ (search needs) (search needs)
+                ∙ loop .inv .1 .1 .1 .1 chip,
+          ),
+        ),
+      ),
+    )
 
 same-length : tie.Need-same-length Inv-loop μ-loop
 same-length c = search needs
 
 returns : tie.Need-returns Inv-loop μ-loop
-returns c = (λ chip. end inRoom _ accessStep (c .before .before .before .before .args .t2) (c .before .before .before .before .args .n) (c .before .loop .i) _ (search needs) ∙ c .before .loop .inv .1 .1 .1 .1 chip, search needs)
+returns c =
+    let at-loop = c .before in
+    let loop = at-loop .loop in
+    let args = at-loop .before .before .before .args in
+    (λ chip. end inRoom _ accessStep (args .t2) (args .n) (loop .i) _ (search needs) ∙ loop .inv .1 .1 .1 .1 chip, search needs)
 
 pub log-all-spec : {M : Type 1} → statement M
 log-all-spec =

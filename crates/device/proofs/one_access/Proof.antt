@@ -10,7 +10,9 @@ same-length : tie.Need-same-length
 same-length c = search needs
 
 returns : tie.Need-returns
-returns c = (c .before .before .log-access .ensures .0 _, c .before .before .log-access .ensures .1)
+returns c =
+    let log-access = c .before .before .log-access in
+    (log-access .ensures .0 _, log-access .ensures .1)
 
 pub one-access-spec : {M : Type 1} → statement M
 one-access-spec = tie.close (tie.spec log-access-requires same-length returns)

@@ -36,7 +36,13 @@ array-set-from-rows-4 c = search needs
 
 returns : tie.Need-returns
 returns c =
-    λ i. ten (access 8 2 0x3003 (c .before .before .args .a) ∷ access 6 2 0x3003 (c .before .with-bit .ensures i) ∷ access 8 2 0x3004 (c .before .before .args .b) ∷ access 6 2 0x3004 (c .without-bit .ensures i) ∷ [])
+    let at-with-bit = c .before in
+    let args = at-with-bit .before .args in
+    λ i. ten (access 8 2 0x3003 (args .a)
+    ∷ access 6 2 0x3003 (at-with-bit .with-bit .ensures i)
+    ∷ access 8 2 0x3004 (args .b)
+    ∷ access 6 2 0x3004 (c .without-bit .ensures i)
+    ∷ [])
 
 pub output-rows-spec : {M : Type 1} → statement M
 output-rows-spec =

@@ -35,8 +35,13 @@ same-length c = search needs
 returns-2 : tie.Need-returns-2
 unfolding bitSteps
 returns-2 c =
-    argument-good _ _ _ _ _ _ _ _ _ (rw (le-ltb 7 _ (c .before .before .before .before .before .before .if1 .left)))
-    (rows-meant 2 _ _ (c .before .before .before .before .bit-rows .ensures) ∙ ap (bitSteps (c .before .before .before .before .before .before .before .before .before .before .args .gpio) (c .before .before .before .before .before .before .before .before .before .before .args .value)) (c .before .before .before .before .before .reply .ensures)) (c .before .before .perform .ensures)
+    let at-perform = c .before .before in
+    let at-bit-rows = at-perform .before .before in
+    let at-reply = at-bit-rows .before in
+    let at-if1 = at-reply .before in
+    let args = at-if1 .before .before .before .before .args in
+    argument-good _ _ _ _ _ _ _ _ _ (rw (le-ltb 7 _ (at-if1 .if1 .left)))
+    (rows-meant 2 _ _ (at-bit-rows .bit-rows .ensures) ∙ ap (bitSteps (args .gpio) (args .value)) (at-reply .reply .ensures)) (at-perform .perform .ensures)
 
 pub set-gpio-bit-spec : {M : Type 1} → statement M
 set-gpio-bit-spec =

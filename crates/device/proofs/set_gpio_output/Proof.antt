@@ -38,8 +38,15 @@ same-length c = search needs
 returns-2 : tie.Need-returns-2
 unfolding outputSteps
 returns-2 c =
-    argument-good _ _ _ _ _ _ _ _ _ (rw (le-ltb 7 _ (c .before .before .before .before .before .before .before .if1 .left)))
-    (rows-meant 4 _ _ (c .before .before .before .before .output-rows .ensures) ∙ (λ i. outputSteps (c .before .before .before .before .before .before .before .before .before .before .before .args .gpio) (c .before .before .before .before .before .before .reply .ensures i) (c .before .before .before .before .before .reply2 .ensures i))) (c .before .before .perform .ensures)
+    let at-perform = c .before .before in
+    let at-output-rows = at-perform .before .before in
+    let at-reply2 = at-output-rows .before in
+    let at-reply = at-reply2 .before in
+    let at-if1 = at-reply .before in
+    let start = at-if1 .before .before .before .before in
+    argument-good _ _ _ _ _ _ _ _ _ (rw (le-ltb 7 _ (at-if1 .if1 .left)))
+    (rows-meant 4 _ _ (at-output-rows .output-rows .ensures)
+    ∙ (λ i. outputSteps (start .args .gpio) (at-reply .reply .ensures i) (at-reply2 .reply2 .ensures i))) (at-perform .perform .ensures)
 
 pub set-gpio-output-spec : {M : Type 1} → statement M
 set-gpio-output-spec =

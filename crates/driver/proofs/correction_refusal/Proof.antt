@@ -20,9 +20,13 @@ xtal-by-requires c κs = search needs
 
 returns : tie.Need-returns
 returns c =
-    let a = c .before .before .before .args in
-    let f = c .before .before .before .fits in
-    not-whole (a .nominal) (a .corrected) (a .other) (a .had) (a .ppm) _ _ (c .before .before .sound .ensures) (c .before .xtal-by .ensures ∙ ap (xtalBy (a .other)) (toZ-ofZ (f .had))) (not-true _ (c .if1 .taken))
+    let at-xtal-by = c .before in
+    let at-sound = at-xtal-by .before in
+    let start = at-sound .before in
+    let a = start .args in
+    let f = start .fits in
+    not-whole (a .nominal) (a .corrected) (a .other) (a .had) (a .ppm) _ _ (at-sound .sound .ensures)
+    (at-xtal-by .xtal-by .ensures ∙ ap (xtalBy (a .other)) (toZ-ofZ (f .had))) (not-true _ (c .if1 .taken))
 
 xtal-by-requires-2 : tie.Need-xtal-by-requires-2
 xtal-by-requires-2 c κs = search needs
@@ -32,15 +36,33 @@ xtal-by-requires-3 c κs = search needs
 
 returns-2 : tie.Need-returns-2
 returns-2 c =
-    let a = c .before .before .before .before .before .before .args in
-    let f = c .before .before .before .before .before .before .fits in
-    not-taken (a .nominal) (a .corrected) (a .other) (a .had) (a .ppm) _ _ (c .before .before .before .before .before .sound .ensures) (c .before .before .before .before .xtal-by .ensures ∙ ap (xtalBy (a .other)) (toZ-ofZ (f .had))) (not-false _ (c .before .before .before .if1 .left)) _ _ (c .before .before .xtal-by2 .ensures ∙ ap (xtalBy (a .nominal)) (toZ-ofZ (f .ppm))) (c .before .xtal-by3 .ensures ∙ ap (xtalBy (a .other)) (toZ-ofZ (f .ppm))) (not-true _ (c .if2 .taken))
+    let at-xtal-by3 = c .before in
+    let at-xtal-by2 = at-xtal-by3 .before in
+    let at-if1 = at-xtal-by2 .before in
+    let at-xtal-by = at-if1 .before in
+    let at-sound = at-xtal-by .before in
+    let start = at-sound .before in
+    let a = start .args in
+    let f = start .fits in
+    not-taken (a .nominal) (a .corrected) (a .other) (a .had) (a .ppm) _ _ (at-sound .sound .ensures)
+    (at-xtal-by .xtal-by .ensures ∙ ap (xtalBy (a .other)) (toZ-ofZ (f .had))) (not-false _ (at-if1 .if1 .left)) _ _
+    (at-xtal-by2 .xtal-by2 .ensures ∙ ap (xtalBy (a .nominal)) (toZ-ofZ (f .ppm))) (at-xtal-by3 .xtal-by3 .ensures ∙ ap (xtalBy (a .other)) (toZ-ofZ (f .ppm)))
+    (not-true _ (c .if2 .taken))
 
 returns-3 : tie.Need-returns-3
 returns-3 c =
-    let a = c .before .before .before .before .before .before .args in
-    let f = c .before .before .before .before .before .before .fits in
-    taken (a .nominal) (a .corrected) (a .other) (a .had) (a .ppm) _ _ (c .before .before .before .before .before .sound .ensures) (c .before .before .before .before .xtal-by .ensures ∙ ap (xtalBy (a .other)) (toZ-ofZ (f .had))) (not-false _ (c .before .before .before .if1 .left)) _ _ (c .before .before .xtal-by2 .ensures ∙ ap (xtalBy (a .nominal)) (toZ-ofZ (f .ppm))) (c .before .xtal-by3 .ensures ∙ ap (xtalBy (a .other)) (toZ-ofZ (f .ppm))) (not-false _ (c .if2 .left))
+    let at-xtal-by3 = c .before in
+    let at-xtal-by2 = at-xtal-by3 .before in
+    let at-if1 = at-xtal-by2 .before in
+    let at-xtal-by = at-if1 .before in
+    let at-sound = at-xtal-by .before in
+    let start = at-sound .before in
+    let a = start .args in
+    let f = start .fits in
+    taken (a .nominal) (a .corrected) (a .other) (a .had) (a .ppm) _ _ (at-sound .sound .ensures)
+    (at-xtal-by .xtal-by .ensures ∙ ap (xtalBy (a .other)) (toZ-ofZ (f .had))) (not-false _ (at-if1 .if1 .left)) _ _
+    (at-xtal-by2 .xtal-by2 .ensures ∙ ap (xtalBy (a .nominal)) (toZ-ofZ (f .ppm))) (at-xtal-by3 .xtal-by3 .ensures ∙ ap (xtalBy (a .other)) (toZ-ofZ (f .ppm)))
+    (not-false _ (c .if2 .left))
 
 pub correction-refusal-spec : {M : Type 1} → statement M
 correction-refusal-spec =

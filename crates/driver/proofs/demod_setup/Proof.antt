@@ -26,11 +26,18 @@ same-length : tie.Need-same-length
 same-length c = search needs
 
 returns : tie.Need-returns
-returns c = (
-  then inRoom _ resetSteps (rateSteps (c .before .before .before .before .before .before .before .before .before .before .before .before .before .before .args .rate) (c .before .before .before .before .before .before .before .before .before .before .before .before .before .before .args .xtal) ++ ifSteps (c .before .before .before .before .before .before .before .before .before .before .before .before .before .before .args .hz) (c .before .before .before .before .before .before .before .before .before .before .before .before .before .before .args .xtal)) _ _ _ (c .before .before .before .before .before .before .before .before .before .before .reset-steps .ensures .0)
-      (then inRoom _ (rateSteps (c .before .before .before .before .before .before .before .before .before .before .before .before .before .before .args .rate) (c .before .before .before .before .before .before .before .before .before .before .before .before .before .before .args .xtal)) (ifSteps (c .before .before .before .before .before .before .before .before .before .before .before .before .before .before .args .hz) (c .before .before .before .before .before .before .before .before .before .before .before .before .before .before .args .xtal)) _ _ _ (c .before .before .before .before .before .before .rate-steps .ensures .0) (c .before .before .if-steps .ensures .0)),
-  omega (arith, c .before .before .before .before .before .before .before .before .before .before .reset-steps .ensures .1, c .before .before .before .before .before .before .rate-steps .ensures .1, c .before .before .if-steps .ensures .1),
-)
+returns c =
+    let at-if-steps = c .before .before in
+    let if-steps = at-if-steps .if-steps in
+    let at-rate-steps = at-if-steps .before .before .before .before in
+    let rate-steps = at-rate-steps .rate-steps in
+    let at-reset-steps = at-rate-steps .before .before .before .before in
+    let reset-steps = at-reset-steps .reset-steps in
+    let args = at-reset-steps .before .before .before .before .args in (
+      then inRoom _ resetSteps (rateSteps (args .rate) (args .xtal) ++ ifSteps (args .hz) (args .xtal)) _ _ _ (reset-steps .ensures .0)
+          (then inRoom _ (rateSteps (args .rate) (args .xtal)) (ifSteps (args .hz) (args .xtal)) _ _ _ (rate-steps .ensures .0) (if-steps .ensures .0)),
+      omega (arith, reset-steps .ensures .1, rate-steps .ensures .1, if-steps .ensures .1),
+    )
 
 pub demod-setup-spec : {M : Type 1} → statement M
 demod-setup-spec =

@@ -18,18 +18,27 @@ correction-refusal-requires c κs = search needs
 
 returns : tie.Need-returns
 returns c =
-    let a = c .before .before .args in
-    let f = c .before .before .fits in
-    reference-stays (a .nominal) (a .corrected) (a .other) (a .had) (a .ppm) _ (c .before .correction-refusal .ensures ∙ (λ i. correctionRefusal (a .nominal) (a .corrected) (a .other) (toZ-ofZ (f .had) i) (toZ-ofZ (f .ppm) i))) (λ z. omega arith)
+    let at-correction-refusal = c .before in
+    let start = at-correction-refusal .before in
+    let a = start .args in
+    let f = start .fits in
+    reference-stays (a .nominal) (a .corrected) (a .other) (a .had) (a .ppm) _
+    (at-correction-refusal .correction-refusal .ensures
+    ∙ (λ i. correctionRefusal (a .nominal) (a .corrected) (a .other) (toZ-ofZ (f .had) i) (toZ-ofZ (f .ppm) i))) (λ z. omega arith)
 
 xtal-by-requires : tie.Need-xtal-by-requires
 xtal-by-requires c κs = search needs
 
 returns-2 : tie.Need-returns-2
 returns-2 c =
-    let a = c .before .before .before .args in
-    let f = c .before .before .before .fits in
-    reference-changes (a .nominal) (a .corrected) (a .other) (a .had) (a .ppm) _ (c .before .before .correction-refusal .ensures ∙ (λ i. correctionRefusal (a .nominal) (a .corrected) (a .other) (toZ-ofZ (f .had) i) (toZ-ofZ (f .ppm) i))) (omega arith) _ (c .xtal-by .ensures ∙ ap (xtalBy (a .nominal)) (toZ-ofZ (f .ppm)))
+    let at-correction-refusal = c .before .before in
+    let start = at-correction-refusal .before in
+    let a = start .args in
+    let f = start .fits in
+    reference-changes (a .nominal) (a .corrected) (a .other) (a .had) (a .ppm) _
+    (at-correction-refusal .correction-refusal .ensures
+    ∙ (λ i. correctionRefusal (a .nominal) (a .corrected) (a .other) (toZ-ofZ (f .had) i) (toZ-ofZ (f .ppm) i))) (omega arith) _
+    (c .xtal-by .ensures ∙ ap (xtalBy (a .nominal)) (toZ-ofZ (f .ppm)))
 
 pub kept-reference-spec : {M : Type 1} → statement M
 kept-reference-spec =

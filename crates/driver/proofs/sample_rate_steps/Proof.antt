@@ -27,11 +27,19 @@ same-length : tie.Need-same-length
 same-length c = search needs
 
 returns : tie.Need-returns
-returns c = (
-  then inRoom _ (filterSteps (c .before .before .before .before .before .before .before .before .before .before .before .before .before .before .args .hz) (c .before .before .before .before .before .before .before .before .before .before .before .before .before .before .args .rate)) (demodSetup (c .before .before .before .before .before .before .before .before .before .before .before .before .before .before .args .hz) (c .before .before .before .before .before .before .before .before .before .before .before .before .before .before .args .rate) (c .before .before .before .before .before .before .before .before .before .before .before .before .before .before .args .xtal) ++ ddcSteps (c .before .before .before .before .before .before .before .before .before .before .before .before .before .before .args .inverted)) _ _ _ (c .before .before .before .before .before .before .before .before .before .before .filter-steps .ensures .0)
-      (then inRoom _ (demodSetup (c .before .before .before .before .before .before .before .before .before .before .before .before .before .before .args .hz) (c .before .before .before .before .before .before .before .before .before .before .before .before .before .before .args .rate) (c .before .before .before .before .before .before .before .before .before .before .before .before .before .before .args .xtal)) (ddcSteps (c .before .before .before .before .before .before .before .before .before .before .before .before .before .before .args .inverted)) _ _ _ (c .before .before .before .before .before .before .demod-setup .ensures .0) (c .before .before .ddc .ensures .0)),
-  omega (arith, c .before .before .before .before .before .before .before .before .before .before .filter-steps .ensures .1, c .before .before .before .before .before .before .demod-setup .ensures .1, c .before .before .ddc .ensures .1),
-)
+returns c =
+    let at-ddc = c .before .before in
+    let ddc = at-ddc .ddc in
+    let at-demod-setup = at-ddc .before .before .before .before in
+    let demod-setup = at-demod-setup .demod-setup in
+    let at-filter-steps = at-demod-setup .before .before .before .before in
+    let filter-steps = at-filter-steps .filter-steps in
+    let args = at-filter-steps .before .before .before .before .args in (
+      then inRoom _ (filterSteps (args .hz) (args .rate)) (demodSetup (args .hz) (args .rate) (args .xtal) ++ ddcSteps (args .inverted)) _ _ _
+          (filter-steps .ensures .0)
+          (then inRoom _ (demodSetup (args .hz) (args .rate) (args .xtal)) (ddcSteps (args .inverted)) _ _ _ (demod-setup .ensures .0) (ddc .ensures .0)),
+      omega (arith, filter-steps .ensures .1, demod-setup .ensures .1, ddc .ensures .1),
+    )
 
 pub sample-rate-steps-spec : {M : Type 1} → statement M
 sample-rate-steps-spec =

@@ -24,8 +24,9 @@ true-rate-requires c κs = search needs
 
 returns-2 : tie.Need-returns-2
 returns-2 c =
-    let a = c .before .before .before .args in
-    ap (λ (n : ℕ). withRate (a .d) (a .rate) n) (c .true-rate .ensures) ∙ sym (ap (ratedBy (a .d) (a .rate) (a .xtal)) (c .before .enum-told .given .1))
+    let at-enum-told = c .before in
+    let a = at-enum-told .before .before .args in
+    ap (λ (n : ℕ). withRate (a .d) (a .rate) n) (c .true-rate .ensures) ∙ sym (ap (ratedBy (a .d) (a .rate) (a .xtal)) (at-enum-told .enum-told .given .1))
 
 pub with-rate-spec : {M : Type 1} → statement M
 with-rate-spec = tie.close (tie.spec enum-told enum-told-2 returns true-rate-requires returns-2)

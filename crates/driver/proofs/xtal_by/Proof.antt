@@ -20,10 +20,20 @@ enum-told : tie.Need-enum-told
 enum-told c = search needs
 
 returns : tie.Need-returns
-returns c = xtal-none (c .before .before .before .args .nominal) (c .before .before .before .args .ppm) _ (c .before .before .correct .ensures ∙ ap (correctedOf (c .before .before .before .args .nominal)) (toZ-ofZ (c .before .before .before .fits .ppm))) (c .enum-told .given .1)
+returns c =
+    let at-correct = c .before .before in
+    let start = at-correct .before in
+    let args = start .args in
+    xtal-none (args .nominal) (args .ppm) _ (at-correct .correct .ensures ∙ ap (correctedOf (args .nominal)) (toZ-ofZ (start .fits .ppm)))
+    (c .enum-told .given .1)
 
 returns-2 : tie.Need-returns-2
-returns-2 c = xtal-some (c .before .before .before .before .args .nominal) (c .before .before .before .before .args .ppm) _ _ (c .before .before .before .correct .ensures ∙ ap (correctedOf (c .before .before .before .before .args .nominal)) (toZ-ofZ (c .before .before .before .before .fits .ppm))) (c .before .v .given .1)
+returns-2 c =
+    let at-v = c .before in
+    let at-correct = at-v .before .before in
+    let start = at-correct .before in
+    let args = start .args in
+    xtal-some (args .nominal) (args .ppm) _ _ (at-correct .correct .ensures ∙ ap (correctedOf (args .nominal)) (toZ-ofZ (start .fits .ppm))) (at-v .v .given .1)
 
 pub xtal-by-spec : {M : Type 1} → statement M
 xtal-by-spec = tie.close (tie.spec correct-requires enum-known-v enum-told returns returns-2)

@@ -11,13 +11,18 @@ decode-driver-requires : tie.Need-decode-driver-requires
 decode-driver-requires c κs = search needs
 
 returns : tie.Need-returns
-returns c = no-record (λ (x : DriverRead). x .ok) (λ (x : DriverRead). x .driver) _ _ (c .before .before .decode-driver .ensures) _ _ (not-true _ (c .if1 .taken))
+returns c =
+    no-record (λ (x : DriverRead). x .ok) (λ (x : DriverRead). x .driver) _ _ (c .before .before .decode-driver .ensures) _ _ (not-true _ (c .if1 .taken))
 
 corrected-xtal-hz-requires : tie.Need-corrected-xtal-hz-requires
 corrected-xtal-hz-requires c κs = search needs
 
 returns-2 : tie.Need-returns-2
-returns-2 c = of-record (λ (x : DriverRead). x .ok) (λ (x : DriverRead). x .driver) _ _ (c .before .before .before .before .decode-driver .ensures) _ _ (not-false _ (c .before .before .if1 .left)) _ (c .corrected-xtal-hz .ensures)
+returns-2 c =
+    let at-if1 = c .before .before in
+    let at-decode-driver = at-if1 .before .before in
+    of-record (λ (x : DriverRead). x .ok) (λ (x : DriverRead). x .driver) _ _ (at-decode-driver .decode-driver .ensures) _ _ (not-false _ (at-if1 .if1 .left)) _
+    (c .corrected-xtal-hz .ensures)
 
 pub corrected-xtal-hz-spec : {M : Type 1} → statement M
 corrected-xtal-hz-spec =

@@ -22,7 +22,14 @@ same-length : tie.Need-same-length
 same-length c = search needs
 
 returns : tie.Need-returns
-returns c = c .before .before .lend .ensures ∙ ap (λ (m : Made). answeredTo (m .answer) (driverBytes (m .driver)) (now (c .before .before .before .before .before .before .args .next))) (c .before .before .before .before .new .ensures ∙ ap (λ (z : ℤ). driverOf (c .before .before .before .before .before .before .args .board) (c .before .before .before .before .before .before .args .nominal) z (c .before .before .before .before .before .before .args .frequency) (c .before .before .before .before .before .before .args .rate)) (toZ-ofZ (c .before .before .before .before .before .before .fits .ppm)))
+returns c =
+    let at-lend = c .before .before in
+    let at-new = at-lend .before .before in
+    let start = at-new .before .before in
+    let args = start .args in
+    at-lend .lend .ensures
+    ∙ ap (λ (m : Made). answeredTo (m .answer) (driverBytes (m .driver)) (now (args .next)))
+    (at-new .new .ensures ∙ ap (λ (z : ℤ). driverOf (args .board) (args .nominal) z (args .frequency) (args .rate)) (toZ-ofZ (start .fits .ppm)))
 
 pub fresh-spec : {M : Type 1} → statement M
 fresh-spec = tie.close (tie.spec new-requires lend-requires same-length returns)

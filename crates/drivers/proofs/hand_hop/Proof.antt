@@ -33,8 +33,14 @@ same-length-2 c = search needs
 
 returns : tie.Need-returns
 returns c =
-    let a = c .before .before .before .before .before .before .before .before .before .before .before .before .args in
-    (c .tuned .ensures ∙ ap (λ (x : Reply). tunedOf x (lockTries (a .hopped .tries) (a .hopped .locked))) (c .before .numbers .ensures), c .before .before .before .before .before .before .before .before .store .ensures, c .before .before .before .before .store2 .ensures)
+    let at-numbers = c .before in
+    let at-store2 = at-numbers .before .before .before in
+    let at-store = at-store2 .before .before .before .before in
+    let a = at-store .before .before .before .before .args in (
+      c .tuned .ensures ∙ ap (λ (x : Reply). tunedOf x (lockTries (a .hopped .tries) (a .hopped .locked))) (at-numbers .numbers .ensures),
+      at-store .store .ensures,
+      at-store2 .store2 .ensures,
+    )
 
 pub hand-hop-spec : {M : Type 1} → statement M
 hand-hop-spec =

@@ -27,21 +27,33 @@ same-length-2 c = search needs
 
 returns : tie.Need-returns
 returns c =
-    let a = c .before .before .before .before .before .before .before .before .before .before .args in
-    no-records (a .ppm) (now (a .tuner)) (now (a .driver)) _ _ (c .before .before .before .before .before .before .decode-tuner .ensures) (c .before .before .before .before .decode-driver .ensures) (not-true _ (c .before .if1 .taken)) _ (c .refuse .ensures)
+    let at-if1 = c .before in
+    let at-decode-driver = at-if1 .before .before .before in
+    let at-decode-tuner = at-decode-driver .before .before in
+    let a = at-decode-tuner .before .before .before .before .args in
+    no-records (a .ppm) (now (a .tuner)) (now (a .driver)) _ _ (at-decode-tuner .decode-tuner .ensures) (at-decode-driver .decode-driver .ensures)
+    (not-true _ (at-if1 .if1 .taken)) _ (c .refuse .ensures)
 
 corrected-requires : tie.Need-corrected-requires
 corrected-requires c κs = search needs
 
 store-requires : tie.Need-store-requires
 store-requires c κs =
-    let a = c .before .before .before .before .before .before .before .before .before .before .before .args in
-    lengths (a .ppm) (now (a .tuner)) (now (a .driver)) _ _ (c .before .before .before .before .before .before .before .decode-tuner .ensures) (c .before .before .before .before .before .decode-driver .ensures) (not-false _ (c .before .before .if1 .left)) .0
+    let at-if1 = c .before .before in
+    let at-decode-driver = at-if1 .before .before .before in
+    let at-decode-tuner = at-decode-driver .before .before in
+    let a = at-decode-tuner .before .before .before .before .args in
+    lengths (a .ppm) (now (a .tuner)) (now (a .driver)) _ _ (at-decode-tuner .decode-tuner .ensures) (at-decode-driver .decode-driver .ensures)
+    (not-false _ (at-if1 .if1 .left)) .0
 
 store-requires-2 : tie.Need-store-requires-2
 store-requires-2 c κs =
-    let a = c .before .before .before .before .before .before .before .before .before .before .before .before .before .before .before .args in
-    lengths (a .ppm) (now (a .tuner)) (now (a .driver)) _ _ (c .before .before .before .before .before .before .before .before .before .before .before .decode-tuner .ensures) (c .before .before .before .before .before .before .before .before .before .decode-driver .ensures) (not-false _ (c .before .before .before .before .before .before .if1 .left)) .1
+    let at-if1 = c .before .before .before .before .before .before in
+    let at-decode-driver = at-if1 .before .before .before in
+    let at-decode-tuner = at-decode-driver .before .before in
+    let a = at-decode-tuner .before .before .before .before .args in
+    lengths (a .ppm) (now (a .tuner)) (now (a .driver)) _ _ (at-decode-tuner .decode-tuner .ensures) (at-decode-driver .decode-driver .ensures)
+    (not-false _ (at-if1 .if1 .left)) .1
 
 numbers-requires : tie.Need-numbers-requires
 numbers-requires c κs = search needs
@@ -54,12 +66,35 @@ same-length-4 c = search needs
 
 returns-2 : tie.Need-returns-2
 returns-2 c =
-    let a = c .before .before .before .before .before .before .before .before .before .before .before .before .before .before .before .before .before .before .before .args in
-    corrected-back (a .ppm) (now (a .tuner)) (now (a .driver)) _ _ (c .before .before .before .before .before .before .before .before .before .before .before .before .before .before .before .decode-tuner .ensures) (c .before .before .before .before .before .before .before .before .before .before .before .before .before .decode-driver .ensures) (not-false _ (c .before .before .before .before .before .before .before .before .before .before .if1 .left)) _ _ _
-    (c .before .before .before .before .before .before .before .before .before .corrected .ensures ∙ ap (λ (z : ℤ). correctionCall z (c .before .before .before .before .before .before .before .before .before .before .before .before .before .before .before .decode-tuner .result .tuner) (c .before .before .before .before .before .before .before .before .before .before .before .before .before .decode-driver .result .driver)) (toZ-ofZ (c .before .before .before .before .before .before .before .before .before .before .before .before .before .before .before .before .before .before .before .fits .ppm)))
-    _ _ _ (c .numbers .ensures) (c .before .before .before .before .before .before .before .store .ensures) (c .before .before .before .store2 .ensures)
+    let at-store2 = c .before .before .before in
+    let at-store = at-store2 .before .before .before .before in
+    let at-corrected = at-store .before .before in
+    let at-if1 = at-corrected .before in
+    let at-decode-driver = at-if1 .before .before .before in
+    let decode-driver = at-decode-driver .decode-driver in
+    let at-decode-tuner = at-decode-driver .before .before in
+    let decode-tuner = at-decode-tuner .decode-tuner in
+    let start = at-decode-tuner .before .before .before .before in
+    let a = start .args in
+    corrected-back (a .ppm) (now (a .tuner)) (now (a .driver)) _ _ (decode-tuner .ensures) (decode-driver .ensures) (not-false _ (at-if1 .if1 .left)) _ _ _
+    (at-corrected .corrected .ensures
+    ∙ ap (λ (z : ℤ). correctionCall z (decode-tuner .result .tuner) (decode-driver .result .driver)) (toZ-ofZ (start .fits .ppm))) _ _ _ (c .numbers .ensures)
+    (at-store .store .ensures) (at-store2 .store2 .ensures)
 
 pub set-ppm-spec : {M : Type 1} → statement M
 set-ppm-spec =
     tie.close
-    (tie.spec decode-tuner-requires decode-driver-requires refuse-requires same-length same-length-2 returns corrected-requires store-requires store-requires-2 numbers-requires same-length-3 same-length-4 returns-2)
+    (tie.spec
+    decode-tuner-requires
+    decode-driver-requires
+    refuse-requires
+    same-length
+    same-length-2
+    returns
+    corrected-requires
+    store-requires
+    store-requires-2
+    numbers-requires
+    same-length-3
+    same-length-4
+    returns-2)

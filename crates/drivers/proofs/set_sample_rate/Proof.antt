@@ -32,14 +32,28 @@ refuse-requires c κs = search needs
 
 returns : tie.Need-returns
 returns c =
-    let a = c .before .before .before .before .before .before .before .before .before .before .before .before .before .before .before .before .before .args in
-    refused-by (λ u v. argumentOf (rateRow (a .rate) (planBy (now (a .table)) (v .frequency)) u v)) (λ u v. rateResult (a .rate) (planBy (now (a .table)) (v .frequency)) (now (a .outcomes)) u v (now (a .room))) (now (a .driver)) (now (a .tuner)) (now (a .room)) (now (a .left)) (now (a .next)) _ _ _ _ (c .before .before .before .before .before .before .before .before .before .decode-driver .ensures) (c .before .before .before .before .before .before .before .before .decode-tuner .ensures) (c .before .before .before .before .before .rate-refusal .ensures ∙ ap (λ (p : Planned). rateArgument (a .rate) p (c .before .before .before .before .before .before .before .before .before .decode-driver .result .driver)) (c .before .before .before .before .before .before .plan-by-table .ensures)) (c .before .before .ready .ensures) _ (λ z. omega arith) (c .refuse .ensures)
+    let at-ready = c .before .before in
+    let at-rate-refusal = at-ready .before .before .before in
+    let at-plan-by-table = at-rate-refusal .before in
+    let at-decode-tuner = at-plan-by-table .before .before in
+    let at-decode-driver = at-decode-tuner .before in
+    let decode-driver = at-decode-driver .decode-driver in
+    let a = at-decode-driver .before .before .before .before .before .before .before .before .args in
+    let table = now (a .table) in
+    refused-by (λ u v. argumentOf (rateRow (a .rate) (planBy table (v .frequency)) u v))
+    (λ u v. rateResult (a .rate) (planBy table (v .frequency)) (now (a .outcomes)) u v (now (a .room))) (now (a .driver)) (now (a .tuner)) (now (a .room))
+    (now (a .left)) (now (a .next)) _ _ _ _ (decode-driver .ensures) (at-decode-tuner .decode-tuner .ensures)
+    (at-rate-refusal .rate-refusal .ensures
+    ∙ ap (λ (p : Planned). rateArgument (a .rate) p (decode-driver .result .driver)) (at-plan-by-table .plan-by-table .ensures)) (at-ready .ready .ensures) _
+    (λ z. omega arith) (c .refuse .ensures)
 
 rate-planned-requires : tie.Need-rate-planned-requires
 rate-planned-requires c κs = search needs
 
 hand-requires : tie.Need-hand-requires
-hand-requires c κs = fits _ _ _ _ (sym (c .before .before .before .before .before .before .before .ready .ensures) ∙ omega arith)
+hand-requires c κs =
+    let at-ready = c .before .before .before .before .before .before .before in
+    fits _ _ _ _ (sym (at-ready .ready .ensures) ∙ omega arith)
 
 same-length : tie.Need-same-length
 same-length c = search needs
@@ -52,8 +66,29 @@ same-length-3 c = search needs
 
 returns-2 : tie.Need-returns-2
 returns-2 c =
-    let a = c .before .before .before .before .before .before .before .before .before .before .before .before .before .before .before .before .before .before .before .before .before .before .before .before .before .before .before .args in
-    handed-back (λ u v. argumentOf (rateRow (a .rate) (planBy (now (a .table)) (v .frequency)) u v)) (λ u v. rateResult (a .rate) (planBy (now (a .table)) (v .frequency)) (now (a .outcomes)) u v (now (a .room))) (now (a .driver)) (now (a .tuner)) (now (a .room)) (now (a .left)) (now (a .next)) _ _ _ _ (c .before .before .before .before .before .before .before .before .before .before .before .before .before .before .before .before .before .before .before .decode-driver .ensures) (c .before .before .before .before .before .before .before .before .before .before .before .before .before .before .before .before .before .before .decode-tuner .ensures) (c .before .before .before .before .before .before .before .before .before .before .before .before .before .before .before .rate-refusal .ensures ∙ ap (λ (p : Planned). rateArgument (a .rate) p (c .before .before .before .before .before .before .before .before .before .before .before .before .before .before .before .before .before .before .before .decode-driver .result .driver)) (c .before .before .before .before .before .before .before .before .before .before .before .before .before .before .before .before .plan-by-table .ensures)) (c .before .before .before .before .before .before .before .before .before .before .before .before .ready .ensures) (omega arith) _ _ _ _ _ (c .before .before .before .before .before .before .before .before .before .rate-planned .ensures ∙ ap (λ (p : Planned). rateResult (a .rate) p (now (a .outcomes)) (c .before .before .before .before .before .before .before .before .before .before .before .before .before .before .before .before .before .before .decode-tuner .result .tuner) (c .before .before .before .before .before .before .before .before .before .before .before .before .before .before .before .before .before .before .before .decode-driver .result .driver) (now (a .room))) (c .before .before .before .before .before .before .before .before .before .before .before .before .before .before .before .before .plan-by-table .ensures)) _ _ _ (c .before .before .before .before .hand .ensures)
+    let at-hand = c .before .before .before .before in
+    let at-rate-planned = at-hand .before .before .before .before .before in
+    let at-if1 = at-rate-planned .before .before in
+    let at-ready = at-if1 .before in
+    let at-rate-refusal = at-ready .before .before .before in
+    let at-plan-by-table = at-rate-refusal .before in
+    let plan-by-table = at-plan-by-table .plan-by-table in
+    let at-decode-tuner = at-plan-by-table .before .before in
+    let decode-tuner = at-decode-tuner .decode-tuner in
+    let at-decode-driver = at-decode-tuner .before in
+    let decode-driver = at-decode-driver .decode-driver in
+    let driver = decode-driver .result .driver in
+    let a = at-decode-driver .before .before .before .before .before .before .before .before .args in
+    let outcomes = now (a .outcomes) in
+    let table = now (a .table) in
+    handed-back (λ u v. argumentOf (rateRow (a .rate) (planBy table (v .frequency)) u v))
+    (λ u v. rateResult (a .rate) (planBy table (v .frequency)) outcomes u v (now (a .room))) (now (a .driver)) (now (a .tuner)) (now (a .room)) (now (a .left))
+    (now (a .next)) _ _ _ _ (decode-driver .ensures) (decode-tuner .ensures)
+    (at-rate-refusal .rate-refusal .ensures ∙ ap (λ (p : Planned). rateArgument (a .rate) p driver) (plan-by-table .ensures)) (at-ready .ready .ensures)
+    (omega (arith, at-if1 .if1 .left)) _ _ _ _ _
+    (at-rate-planned .rate-planned .ensures
+    ∙ ap (λ (p : Planned). rateResult (a .rate) p outcomes (decode-tuner .result .tuner) driver (now (a .room))) (plan-by-table .ensures)) _ _ _
+    (at-hand .hand .ensures)
 
 pub set-sample-rate-spec : {M : Type 1} → statement M
 set-sample-rate-spec =

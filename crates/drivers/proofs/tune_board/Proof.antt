@@ -45,16 +45,43 @@ tuned-requires c κs = search needs
 
 returns : tie.Need-returns
 returns c =
-    let a = c .before .before .before .before .before .before .before .before .before .before .before .before .before .before .before .before .before .before .before .args in
+    let at-refuse = c .before in
+    let at-ready = at-refuse .before .before in
+    let ready = at-ready .ready in
+    let at-hop-refusal = at-ready .before .before .before in
+    let hop-refusal = at-hop-refusal .hop-refusal in
+    let at-plan-by-table = at-hop-refusal .before .before in
+    let plan-by-table = at-plan-by-table .plan-by-table in
+    let at-decode-tuner = at-plan-by-table .before in
+    let decode-tuner = at-decode-tuner .decode-tuner in
+    let ifreq = decode-tuner .result .tuner .ifreq in
+    let at-decode-driver = at-decode-tuner .before in
+    let decode-driver = at-decode-driver .decode-driver in
+    let a = at-decode-driver .before .before .before .before .before .before .before .before .before .args in
+    let outcomes = now (a .outcomes) in
+    let replies = now (a .replies) in
+    let driver = now (a .driver) in
+    let tuner = now (a .tuner) in
+    let table = now (a .table) in
+    let hop-argument = hopArgument table (a .hz) in
+    let plan-by = planBy table (a .hz) in
     hop-told _ _ _ (now (a .room)) (now (a .left)) (now (a .next)) _ _ (c .tuned .ensures)
-    (refused-by (hopArgument (now (a .table)) (a .hz)) (λ u v. hopResult (planBy (now (a .table)) (a .hz)) (a .hz) (now (a .replies)) (now (a .outcomes)) u v (now (a .room))) (now (a .driver)) (now (a .tuner)) (now (a .room)) (now (a .left)) (now (a .next)) (c .before .before .before .before .before .before .before .before .before .before .decode-driver .result) (c .before .before .before .before .before .before .before .before .before .decode-tuner .result) _ _ (c .before .before .before .before .before .before .before .before .before .before .decode-driver .ensures) (c .before .before .before .before .before .before .before .before .before .decode-tuner .ensures) (c .before .before .before .before .before .before .hop-refusal .ensures ∙ ap (λ (p : Planned). hopRefusal p (c .before .before .before .before .before .before .before .before .before .decode-tuner .result .tuner .ifreq)) (c .before .before .before .before .before .before .before .before .plan-by-table .ensures)) (c .before .before .before .ready .ensures) _ (λ z. omega arith) (c .before .refuse .ensures))
-    (untold (hopArgument (now (a .table)) (a .hz)) (λ u v. hopResult (planBy (now (a .table)) (a .hz)) (a .hz) (now (a .replies)) (now (a .outcomes)) u v (now (a .room))) (now (a .driver)) (now (a .tuner)) (now (a .room)) (now (a .left)) (now (a .next)) (c .before .before .before .before .before .before .before .before .before .before .decode-driver .result) (c .before .before .before .before .before .before .before .before .before .decode-tuner .result) _ _ (c .before .before .before .before .before .before .before .before .before .before .decode-driver .ensures) (c .before .before .before .before .before .before .before .before .before .decode-tuner .ensures) (c .before .before .before .before .before .before .hop-refusal .ensures ∙ ap (λ (p : Planned). hopRefusal p (c .before .before .before .before .before .before .before .before .before .decode-tuner .result .tuner .ifreq)) (c .before .before .before .before .before .before .before .before .plan-by-table .ensures)) (c .before .before .before .ready .ensures) (λ u v. hopLockTries (planBy (now (a .table)) (a .hz)) (a .hz) (now (a .replies)) (now (a .outcomes)) u v (now (a .room))) (λ z. omega arith))
+    (refused-by hop-argument (λ u v. hopResult plan-by (a .hz) replies outcomes u v (now (a .room))) driver tuner (now (a .room)) (now (a .left))
+    (now (a .next)) (decode-driver .result) (decode-tuner .result) _ _ (decode-driver .ensures) (decode-tuner .ensures)
+    (hop-refusal .ensures ∙ ap (λ (p : Planned). hopRefusal p ifreq) (plan-by-table .ensures)) (ready .ensures) _ (λ z. omega arith)
+    (at-refuse .refuse .ensures))
+    (untold hop-argument (λ u v. hopResult plan-by (a .hz) replies outcomes u v (now (a .room))) driver tuner (now (a .room)) (now (a .left)) (now (a .next))
+    (decode-driver .result) (decode-tuner .result) _ _ (decode-driver .ensures) (decode-tuner .ensures)
+    (hop-refusal .ensures ∙ ap (λ (p : Planned). hopRefusal p ifreq) (plan-by-table .ensures)) (ready .ensures)
+    (λ u v. hopLockTries plan-by (a .hz) replies outcomes u v (now (a .room))) (λ z. omega arith))
 
 tune-planned-requires : tie.Need-tune-planned-requires
 tune-planned-requires c κs = search needs
 
 hand-hop-requires : tie.Need-hand-hop-requires
-hand-hop-requires c κs = fits _ _ _ _ (sym (c .before .before .before .before .before .before .before .ready .ensures) ∙ omega arith)
+hand-hop-requires c κs =
+    let at-ready = c .before .before .before .before .before .before .before in
+    fits _ _ _ _ (sym (at-ready .ready .ensures) ∙ omega arith)
 
 same-length : tie.Need-same-length
 same-length c = search needs
@@ -67,12 +94,46 @@ same-length-3 c = search needs
 
 returns-2 : tie.Need-returns-2
 returns-2 c =
-    let a = c .before .before .before .before .before .before .before .before .before .before .before .before .before .before .before .before .before .before .before .before .before .before .before .before .before .before .before .before .args in
-    let told-of = c .before .before .before .before .before .before .before .before .before .tune-planned .ensures in
-    let back = c .before .before .before .before .hand-hop .ensures in
+    let at-hand-hop = c .before .before .before .before in
+    let hand-hop = at-hand-hop .hand-hop in
+    let back = hand-hop .ensures in
+    let at-tune-planned = at-hand-hop .before .before .before .before .before in
+    let tune-planned = at-tune-planned .tune-planned in
+    let told-of = tune-planned .ensures in
+    let at-if1 = at-tune-planned .before .before in
+    let if1 = at-if1 .if1 in
+    let at-ready = at-if1 .before in
+    let ready = at-ready .ready in
+    let at-hop-refusal = at-ready .before .before .before in
+    let hop-refusal = at-hop-refusal .hop-refusal in
+    let at-plan-by-table = at-hop-refusal .before .before in
+    let plan-by-table = at-plan-by-table .plan-by-table in
+    let at-decode-tuner = at-plan-by-table .before in
+    let decode-tuner = at-decode-tuner .decode-tuner in
+    let tuner = decode-tuner .result .tuner in
+    let ifreq = tuner .ifreq in
+    let at-decode-driver = at-decode-tuner .before in
+    let decode-driver = at-decode-driver .decode-driver in
+    let driver = decode-driver .result .driver in
+    let a = at-decode-driver .before .before .before .before .before .before .before .before .before .args in
+    let outcomes = now (a .outcomes) in
+    let replies = now (a .replies) in
+    let driver-now = now (a .driver) in
+    let tuner-now = now (a .tuner) in
+    let table = now (a .table) in
+    let hop-argument = hopArgument table (a .hz) in
+    let plan-by = planBy table (a .hz) in
     hop-told _ _ _ _ _ _ _ _ (back .0)
-    (handed-back (hopArgument (now (a .table)) (a .hz)) (λ u v. hopResult (planBy (now (a .table)) (a .hz)) (a .hz) (now (a .replies)) (now (a .outcomes)) u v (now (a .room))) (now (a .driver)) (now (a .tuner)) (now (a .room)) (now (a .left)) (now (a .next)) (c .before .before .before .before .before .before .before .before .before .before .before .before .before .before .before .before .before .before .before .decode-driver .result) (c .before .before .before .before .before .before .before .before .before .before .before .before .before .before .before .before .before .before .decode-tuner .result) _ _ (c .before .before .before .before .before .before .before .before .before .before .before .before .before .before .before .before .before .before .before .decode-driver .ensures) (c .before .before .before .before .before .before .before .before .before .before .before .before .before .before .before .before .before .before .decode-tuner .ensures) (c .before .before .before .before .before .before .before .before .before .before .before .before .before .before .before .hop-refusal .ensures ∙ ap (λ (p : Planned). hopRefusal p (c .before .before .before .before .before .before .before .before .before .before .before .before .before .before .before .before .before .before .decode-tuner .result .tuner .ifreq)) (c .before .before .before .before .before .before .before .before .before .before .before .before .before .before .before .before .before .plan-by-table .ensures)) (c .before .before .before .before .before .before .before .before .before .before .before .before .ready .ensures) (omega arith) _ _ _ _ _ (told-of .0 ∙ ap (λ (p : Planned). hopResult p (a .hz) (now (a .replies)) (now (a .outcomes)) (c .before .before .before .before .before .before .before .before .before .before .before .before .before .before .before .before .before .before .decode-tuner .result .tuner) (c .before .before .before .before .before .before .before .before .before .before .before .before .before .before .before .before .before .before .before .decode-driver .result .driver) (now (a .room))) (c .before .before .before .before .before .before .before .before .before .before .before .before .before .before .before .before .before .plan-by-table .ensures)) _ _ _ (refl, back .1, back .2))
-    (told (hopArgument (now (a .table)) (a .hz)) (λ u v. hopResult (planBy (now (a .table)) (a .hz)) (a .hz) (now (a .replies)) (now (a .outcomes)) u v (now (a .room))) (now (a .driver)) (now (a .tuner)) (now (a .room)) (now (a .left)) (now (a .next)) (c .before .before .before .before .before .before .before .before .before .before .before .before .before .before .before .before .before .before .before .decode-driver .result) (c .before .before .before .before .before .before .before .before .before .before .before .before .before .before .before .before .before .before .decode-tuner .result) _ _ (c .before .before .before .before .before .before .before .before .before .before .before .before .before .before .before .before .before .before .before .decode-driver .ensures) (c .before .before .before .before .before .before .before .before .before .before .before .before .before .before .before .before .before .before .decode-tuner .ensures) (c .before .before .before .before .before .before .before .before .before .before .before .before .before .before .before .hop-refusal .ensures ∙ ap (λ (p : Planned). hopRefusal p (c .before .before .before .before .before .before .before .before .before .before .before .before .before .before .before .before .before .before .decode-tuner .result .tuner .ifreq)) (c .before .before .before .before .before .before .before .before .before .before .before .before .before .before .before .before .before .plan-by-table .ensures)) (c .before .before .before .before .before .before .before .before .before .before .before .before .ready .ensures) (λ u v. hopLockTries (planBy (now (a .table)) (a .hz)) (a .hz) (now (a .replies)) (now (a .outcomes)) u v (now (a .room))) (omega arith) _ (told-of .1 ∙ ap (λ (p : Planned). hopLockTries p (a .hz) (now (a .replies)) (now (a .outcomes)) (c .before .before .before .before .before .before .before .before .before .before .before .before .before .before .before .before .before .before .decode-tuner .result .tuner) (c .before .before .before .before .before .before .before .before .before .before .before .before .before .before .before .before .before .before .before .decode-driver .result .driver) (now (a .room))) (c .before .before .before .before .before .before .before .before .before .before .before .before .before .before .before .before .before .plan-by-table .ensures)))
+    (handed-back hop-argument (λ u v. hopResult plan-by (a .hz) replies outcomes u v (now (a .room))) driver-now tuner-now (now (a .room)) (now (a .left))
+    (now (a .next)) (decode-driver .result) (decode-tuner .result) _ _ (decode-driver .ensures) (decode-tuner .ensures)
+    (hop-refusal .ensures ∙ ap (λ (p : Planned). hopRefusal p ifreq) (plan-by-table .ensures)) (ready .ensures) (omega (arith, if1 .left)) _ _ _ _ _
+    (told-of .0 ∙ ap (λ (p : Planned). hopResult p (a .hz) replies outcomes tuner driver (now (a .room))) (plan-by-table .ensures)) _ _ _
+    (refl, back .1, back .2))
+    (told hop-argument (λ u v. hopResult plan-by (a .hz) replies outcomes u v (now (a .room))) driver-now tuner-now (now (a .room)) (now (a .left))
+    (now (a .next)) (decode-driver .result) (decode-tuner .result) _ _ (decode-driver .ensures) (decode-tuner .ensures)
+    (hop-refusal .ensures ∙ ap (λ (p : Planned). hopRefusal p ifreq) (plan-by-table .ensures)) (ready .ensures)
+    (λ u v. hopLockTries plan-by (a .hz) replies outcomes u v (now (a .room))) (omega (arith, if1 .left)) _
+    (told-of .1 ∙ ap (λ (p : Planned). hopLockTries p (a .hz) replies outcomes tuner driver (now (a .room))) (plan-by-table .ensures)))
 
 pub tune-board-spec : {M : Type 1} → statement M
 tune-board-spec =

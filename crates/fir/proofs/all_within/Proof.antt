@@ -37,10 +37,14 @@ size-requires : tie.Need-size-requires Inv-loop μ-loop
 size-requires c κs = search needs
 
 -- the element's size, as the code has it
-sized : (c : tie.After-size Inv-loop μ-loop) → c .size .result ≡ mag (getD (c .before .before .before .before .args .t1) (c .before .before .before .loop .i) (pos 0))
+sized : (c : tie.After-size Inv-loop μ-loop)
+    → c .size .result ≡ mag (getD (c .before .before .before .before .args .t1) (c .before .before .before .loop .i) (pos 0))
 sized c =
-    let z = getD (c .before .before .before .before .args .t1) (c .before .before .before .loop .i) (pos 0) in
-    c .size .ensures ∙ ap mag (toZ-ofZ w32 z (record { sfits = c .before .size-arg .given }))
+    let at-size-arg = c .before in
+    let at-loop = at-size-arg .before .before in
+    let start = at-loop .before in
+    let z = getD (start .args .t1) (at-loop .loop .i) (pos 0) in
+    c .size .ensures ∙ ap mag (toZ-ofZ w32 z (record { sfits = at-size-arg .size-arg .given }))
 
 -- the whole test, by the element at i and what is left after it
 parted : (c : tie.After-size Inv-loop μ-loop) →
@@ -51,17 +55,25 @@ parted : (c : tie.After-size Inv-loop μ-loop) →
     let a = c .before .before .before .before .args .at in
     every p (take (e - a) (drop a v)) ≡ (ltb (c .size .result) (c .before .before .before .before .args .half) && every p (take (e - (i + 1)) (drop (i + 1) v)))
 parted c =
-    let v = c .before .before .before .before .args .t1 in
-    let half = c .before .before .before .before .args .half in
-    let i = c .before .before .before .loop .i in
-    let e = c .before .before .before .before .args .end in
-    let n : length v ≡ 16 = c .before .before .before .before .good .0 .1 .0 .1 in
-    sym (c .before .before .before .loop .inv .2)
-    ∙ every-next (within half) v i e (c .before .before .loop-test .taken) (omega arith)
+    let at-test = c .before .before in
+    let at-loop = at-test .before in
+    let loop = at-loop .loop in
+    let i = loop .i in
+    let start = at-loop .before in
+    let args = start .args in
+    let v = args .t1 in
+    let half = args .half in
+    let e = args .end in
+    let n : length v ≡ 16 = start .good .0 .1 .0 .1 in
+    sym (loop .inv .2)
+    ∙ every-next (within half) v i e (at-test .loop-test .taken) (omega arith)
     ∙ ap (λ (m : ℕ). ltb m half && every (within half) (take (e - (i + 1)) (drop (i + 1) v))) (sym (sized c))
 
 returns : tie.Need-returns Inv-loop μ-loop
-returns c = sym (parted (c .before) ∙ simp (le-ltb (c .before .size .result) (c .before .before .before .before .before .args .half) (c .if1 .taken)))
+returns c =
+    let at-size = c .before in
+    let start = at-size .before .before .before .before in
+    sym (parted (at-size) ∙ simp (le-ltb (at-size .size .result) (start .args .half) (c .if1 .taken)))
 
 add-i : tie.Need-add-i Inv-loop μ-loop
 add-i c = omega arith
@@ -70,16 +82,21 @@ loop-less : tie.Need-loop-less Inv-loop μ-loop
 loop-less c = omega arith
 
 loop-again : tie.Need-loop-again Inv-loop μ-loop
-loop-again c = (
-  omega arith,
-  omega arith,
-  sym (parted (c .before) ∙ simp (lt-ltb (c .before .size .result) (c .before .before .before .before .before .args .half) (c .if1 .left))),
-)
+loop-again c =
+    let at-size = c .before in
+    let start = at-size .before .before .before .before in (
+      omega arith,
+      omega arith,
+      sym (parted (at-size) ∙ simp (lt-ltb (at-size .size .result) (start .args .half) (c .if1 .left))),
+    )
 
 returns-2 : tie.Need-returns-2 Inv-loop μ-loop
 returns-2 c =
-    let n : c .before .before .args .end - c .before .loop .i ≡ 0 = omega arith in
-    sym (ap (λ (k : ℕ). every (within (c .before .before .args .half)) (take k (drop (c .before .loop .i) (c .before .before .args .t1)))) n) ∙ c .before .loop .inv .2
+    let at-loop = c .before in
+    let loop = at-loop .loop in
+    let args = at-loop .before .args in
+    let n : args .end - loop .i ≡ 0 = omega arith in
+    sym (ap (λ (k : ℕ). every (within (args .half)) (take k (drop (loop .i) (args .t1)))) n) ∙ loop .inv .2
 
 pub all-within-spec : {M : Type 1} → statement M
 all-within-spec =

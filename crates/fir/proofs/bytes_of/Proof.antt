@@ -102,30 +102,71 @@ middle p q = λ i. lowOf 2048 (p i) % 16 * 16 + lowOf 2048 (q i) / 256
 returns : tie.Need-returns
 unfolding packOf
 returns c =
-    let v = c .before .before .before .before .before .before .before .before .before .before .before .before .before .before .before .before .before .before .before .before .before .before .before .before .before .before .before .before .args .t1 in
+    let at-byte-arg8 = c .before in
+    let at-byte7 = at-byte-arg8 .before in
+    let at-byte-arg7 = at-byte7 .before in
+    let at-byte6 = at-byte-arg7 .before in
+    let at-byte-arg6 = at-byte6 .before in
+    let at-byte5 = at-byte-arg6 .before in
+    let at-byte-arg5 = at-byte5 .before in
+    let at-byte4 = at-byte-arg5 .before in
+    let at-byte-arg4 = at-byte4 .before in
+    let at-byte3 = at-byte-arg4 .before in
+    let at-byte-arg3 = at-byte3 .before in
+    let at-byte2 = at-byte-arg3 .before in
+    let at-byte-arg2 = at-byte2 .before in
+    let at-byte = at-byte-arg2 .before in
+    let at-byte-arg = at-byte .before in
+    let at-join4 = at-byte-arg .before in
+    let join4 = at-join4 .join4 in
+    let at-join-arg8 = at-join4 .before in
+    let join-arg8 = at-join-arg8 .join-arg8 in
+    let at-join-arg7 = at-join-arg8 .before in
+    let join-arg7 = at-join-arg7 .join-arg7 in
+    let at-join3 = at-join-arg7 .before in
+    let join3 = at-join3 .join3 in
+    let at-join-arg6 = at-join3 .before in
+    let join-arg6 = at-join-arg6 .join-arg6 in
+    let at-join-arg5 = at-join-arg6 .before in
+    let join-arg5 = at-join-arg5 .join-arg5 in
+    let at-join2 = at-join-arg5 .before in
+    let join2 = at-join2 .join2 in
+    let at-join-arg4 = at-join2 .before in
+    let join-arg4 = at-join-arg4 .join-arg4 in
+    let at-join-arg3 = at-join-arg4 .before in
+    let join-arg3 = at-join-arg3 .join-arg3 in
+    let at-join = at-join-arg3 .before in
+    let join = at-join .join in
+    let at-join-arg2 = at-join .before in
+    let join-arg2 = at-join-arg2 .join-arg2 in
+    let at-join-arg = at-join-arg2 .before in
+    let join-arg = at-join-arg .join-arg in
+    let start = at-join-arg .before in
+    let args = start .args in
+    let v = args .t1 in
     let at : ℕ → ℤ = λ k. getD v k (pos 0) in
-    (cons (c .before .before .before .before .before .before .before .before .before .before .before .before .before .before .byte .ensures ∙ ap (lowOf 128) (kept (at 0) (c .before .before .before .before .before .before .before .before .before .before .before .before .before .before .before .byte-arg .given)))
-    (cons (c .before .before .before .before .before .before .before .before .before .before .before .before .byte2 .ensures ∙ ap (lowOf 128) (kept (at 1) (c .before .before .before .before .before .before .before .before .before .before .before .before .before .byte-arg2 .given)))
-    (cons (c .before .before .before .before .before .before .before .before .before .before .byte3 .ensures ∙ ap (lowOf 128) (kept (at 2) (c .before .before .before .before .before .before .before .before .before .before .before .byte-arg3 .given)))
-    (cons (c .before .before .before .before .before .before .before .before .byte4 .ensures ∙ ap (lowOf 128) (kept (at 3) (c .before .before .before .before .before .before .before .before .before .byte-arg4 .given)))
-    (cons (c .before .before .before .before .before .before .byte5 .ensures ∙ ap (lowOf 128) (kept (at 4) (c .before .before .before .before .before .before .before .byte-arg5 .given)))
-    (cons (c .before .before .before .before .byte6 .ensures ∙ ap (lowOf 128) (kept (at 5) (c .before .before .before .before .before .byte-arg6 .given)))
-    (cons (c .before .before .byte7 .ensures ∙ ap (lowOf 128) (kept (at 6) (c .before .before .before .byte-arg7 .given)))
-    (cons (c .byte8 .ensures ∙ ap (lowOf 128) (kept (at 7) (c .before .byte-arg8 .given)))
-    (cons (c .before .before .before .before .before .before .before .before .before .before .before .before .before .before .before .before .before .before .before .before .before .before .before .before .before .join .ensures .0 ∙ ap (λ (z : ℤ). lowOf 2048 z / 16) (kept (at 8) (c .before .before .before .before .before .before .before .before .before .before .before .before .before .before .before .before .before .before .before .before .before .before .before .before .before .before .before .join-arg .given)))
-    (cons (c .before .before .before .before .before .before .before .before .before .before .before .before .before .before .before .before .before .before .before .before .before .before .before .before .before .join .ensures .1 ∙ middle (kept (at 8) (c .before .before .before .before .before .before .before .before .before .before .before .before .before .before .before .before .before .before .before .before .before .before .before .before .before .before .before .join-arg .given)) (kept (at 9) (c .before .before .before .before .before .before .before .before .before .before .before .before .before .before .before .before .before .before .before .before .before .before .before .before .before .before .join-arg2 .given)))
-    (cons (c .before .before .before .before .before .before .before .before .before .before .before .before .before .before .before .before .before .before .before .before .before .before .before .before .before .join .ensures .2 ∙ ap (λ (z : ℤ). lowOf 2048 z % 256) (kept (at 9) (c .before .before .before .before .before .before .before .before .before .before .before .before .before .before .before .before .before .before .before .before .before .before .before .before .before .before .join-arg2 .given)))
-    (cons (c .before .before .before .before .before .before .before .before .before .before .before .before .before .before .before .before .before .before .before .before .before .before .join2 .ensures .0 ∙ ap (λ (z : ℤ). lowOf 2048 z / 16) (kept (at 10) (c .before .before .before .before .before .before .before .before .before .before .before .before .before .before .before .before .before .before .before .before .before .before .before .before .join-arg3 .given)))
-    (cons (c .before .before .before .before .before .before .before .before .before .before .before .before .before .before .before .before .before .before .before .before .before .before .join2 .ensures .1 ∙ middle (kept (at 10) (c .before .before .before .before .before .before .before .before .before .before .before .before .before .before .before .before .before .before .before .before .before .before .before .before .join-arg3 .given)) (kept (at 11) (c .before .before .before .before .before .before .before .before .before .before .before .before .before .before .before .before .before .before .before .before .before .before .before .join-arg4 .given)))
-    (cons (c .before .before .before .before .before .before .before .before .before .before .before .before .before .before .before .before .before .before .before .before .before .before .join2 .ensures .2 ∙ ap (λ (z : ℤ). lowOf 2048 z % 256) (kept (at 11) (c .before .before .before .before .before .before .before .before .before .before .before .before .before .before .before .before .before .before .before .before .before .before .before .join-arg4 .given)))
-    (cons (c .before .before .before .before .before .before .before .before .before .before .before .before .before .before .before .before .before .before .before .join3 .ensures .0 ∙ ap (λ (z : ℤ). lowOf 2048 z / 16) (kept (at 12) (c .before .before .before .before .before .before .before .before .before .before .before .before .before .before .before .before .before .before .before .before .before .join-arg5 .given)))
-    (cons (c .before .before .before .before .before .before .before .before .before .before .before .before .before .before .before .before .before .before .before .join3 .ensures .1 ∙ middle (kept (at 12) (c .before .before .before .before .before .before .before .before .before .before .before .before .before .before .before .before .before .before .before .before .before .join-arg5 .given)) (kept (at 13) (c .before .before .before .before .before .before .before .before .before .before .before .before .before .before .before .before .before .before .before .before .join-arg6 .given)))
-    (cons (c .before .before .before .before .before .before .before .before .before .before .before .before .before .before .before .before .before .before .before .join3 .ensures .2 ∙ ap (λ (z : ℤ). lowOf 2048 z % 256) (kept (at 13) (c .before .before .before .before .before .before .before .before .before .before .before .before .before .before .before .before .before .before .before .before .join-arg6 .given)))
-    (cons (c .before .before .before .before .before .before .before .before .before .before .before .before .before .before .before .before .join4 .ensures .0 ∙ ap (λ (z : ℤ). lowOf 2048 z / 16) (kept (at 14) (c .before .before .before .before .before .before .before .before .before .before .before .before .before .before .before .before .before .before .join-arg7 .given)))
-    (cons (c .before .before .before .before .before .before .before .before .before .before .before .before .before .before .before .before .join4 .ensures .1 ∙ middle (kept (at 14) (c .before .before .before .before .before .before .before .before .before .before .before .before .before .before .before .before .before .before .join-arg7 .given)) (kept (at 15) (c .before .before .before .before .before .before .before .before .before .before .before .before .before .before .before .before .before .join-arg8 .given)))
-    (cons (c .before .before .before .before .before .before .before .before .before .before .before .before .before .before .before .before .join4 .ensures .2 ∙ ap (λ (z : ℤ). lowOf 2048 z % 256) (kept (at 15) (c .before .before .before .before .before .before .before .before .before .before .before .before .before .before .before .before .before .join-arg8 .given)))
+    (cons (at-byte .byte .ensures ∙ ap (lowOf 128) (kept (at 0) (at-byte-arg .byte-arg .given)))
+    (cons (at-byte2 .byte2 .ensures ∙ ap (lowOf 128) (kept (at 1) (at-byte-arg2 .byte-arg2 .given)))
+    (cons (at-byte3 .byte3 .ensures ∙ ap (lowOf 128) (kept (at 2) (at-byte-arg3 .byte-arg3 .given)))
+    (cons (at-byte4 .byte4 .ensures ∙ ap (lowOf 128) (kept (at 3) (at-byte-arg4 .byte-arg4 .given)))
+    (cons (at-byte5 .byte5 .ensures ∙ ap (lowOf 128) (kept (at 4) (at-byte-arg5 .byte-arg5 .given)))
+    (cons (at-byte6 .byte6 .ensures ∙ ap (lowOf 128) (kept (at 5) (at-byte-arg6 .byte-arg6 .given)))
+    (cons (at-byte7 .byte7 .ensures ∙ ap (lowOf 128) (kept (at 6) (at-byte-arg7 .byte-arg7 .given)))
+    (cons (c .byte8 .ensures ∙ ap (lowOf 128) (kept (at 7) (at-byte-arg8 .byte-arg8 .given)))
+    (cons (join .ensures .0 ∙ ap (λ (z : ℤ). lowOf 2048 z / 16) (kept (at 8) (join-arg .given)))
+    (cons (join .ensures .1 ∙ middle (kept (at 8) (join-arg .given)) (kept (at 9) (join-arg2 .given)))
+    (cons (join .ensures .2 ∙ ap (λ (z : ℤ). lowOf 2048 z % 256) (kept (at 9) (join-arg2 .given)))
+    (cons (join2 .ensures .0 ∙ ap (λ (z : ℤ). lowOf 2048 z / 16) (kept (at 10) (join-arg3 .given)))
+    (cons (join2 .ensures .1 ∙ middle (kept (at 10) (join-arg3 .given)) (kept (at 11) (join-arg4 .given)))
+    (cons (join2 .ensures .2 ∙ ap (λ (z : ℤ). lowOf 2048 z % 256) (kept (at 11) (join-arg4 .given)))
+    (cons (join3 .ensures .0 ∙ ap (λ (z : ℤ). lowOf 2048 z / 16) (kept (at 12) (join-arg5 .given)))
+    (cons (join3 .ensures .1 ∙ middle (kept (at 12) (join-arg5 .given)) (kept (at 13) (join-arg6 .given)))
+    (cons (join3 .ensures .2 ∙ ap (λ (z : ℤ). lowOf 2048 z % 256) (kept (at 13) (join-arg6 .given)))
+    (cons (join4 .ensures .0 ∙ ap (λ (z : ℤ). lowOf 2048 z / 16) (kept (at 14) (join-arg7 .given)))
+    (cons (join4 .ensures .1 ∙ middle (kept (at 14) (join-arg7 .given)) (kept (at 15) (join-arg8 .given)))
+    (cons (join4 .ensures .2 ∙ ap (λ (z : ℤ). lowOf 2048 z % 256) (kept (at 15) (join-arg8 .given)))
     refl))))))))))))))))))))
-    ∙ ap packOf (listed-at (pos 0) v 16 (c .before .before .before .before .before .before .before .before .before .before .before .before .before .before .before .before .before .before .before .before .before .before .before .before .before .before .before .before .good .0 .1 .0 .1))
+    ∙ ap packOf (listed-at (pos 0) v 16 (start .good .0 .1 .0 .1))
 
 pub bytes-of-spec : {M : Type 1} → statement M
 bytes-of-spec =

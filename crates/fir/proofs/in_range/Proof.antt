@@ -22,10 +22,13 @@ all-within-requires-2 c κs = search needs
 returns : tie.Need-returns
 unfolding firFits
 returns c =
-    let v = c .before .before .args .v in
-    let n : length v ≡ 16 = c .before .before .good .0 .1 .0 .1 in
+    let at-all-within = c .before in
+    let start = at-all-within .before in
+    let args = start .args in
+    let v = args .v in
+    let n : length v ≡ 16 = start .good .0 .1 .0 .1 in
     let l : length (drop 8 v) ≤ 8 = omega (arith, length-drop 8 v) in
-    ap (λ (b : Bool). b && c .all-within2 .result) (c .before .all-within .ensures)
+    ap (λ (b : Bool). b && c .all-within2 .result) (at-all-within .all-within .ensures)
     ∙ ap (λ (b : Bool). every (within 128) (take 8 v) && b) (c .all-within2 .ensures)
     ∙ ap (λ (u : List ℤ). every (within 128) (take 8 v) && every (within 2048) u) (take-all 8 (drop 8 v) l)
 

@@ -19,10 +19,15 @@ low-requires-2 : tie.Need-low-requires-2
 low-requires-2 c κs = search needs
 
 first : (c : tie.After-low2) → c .before .low .result ≡ lowOf 2048 (c .before .before .args .a)
-first c = c .before .low .ensures ∙ ap (lowOf 2048) (toZ-ofZ w32 (c .before .before .args .a) (c .before .before .fits .a))
+first c =
+    let at-low = c .before in
+    let start = at-low .before in
+    at-low .low .ensures ∙ ap (lowOf 2048) (toZ-ofZ w32 (start .args .a) (start .fits .a))
 
 second : (c : tie.After-low2) → c .low2 .result ≡ lowOf 2048 (c .before .before .args .b)
-second c = c .low2 .ensures ∙ ap (lowOf 2048) (toZ-ofZ w32 (c .before .before .args .b) (c .before .before .fits .b))
+second c =
+    let start = c .before .before in
+    c .low2 .ensures ∙ ap (lowOf 2048) (toZ-ofZ w32 (start .args .b) (start .fits .b))
 
 cast-t6 : tie.Need-cast-t6
 cast-t6 c = omega (arith, first c, low-lt 2048 (c .before .before .args .a) (lit< tt))
@@ -35,8 +40,9 @@ add-t10 c = search needs
 
 cast-t11 : tie.Need-cast-t11
 cast-t11 c =
+    let args = c .before .before .args in
     omega
-    (arith, first c, low-lt 2048 (c .before .before .args .a) (lit< tt), second c, low-lt 2048 (c .before .before .args .b) (lit< tt))
+    (arith, first c, low-lt 2048 (args .a) (lit< tt), second c, low-lt 2048 (args .b) (lit< tt))
 
 cast-t13 : tie.Need-cast-t13
 cast-t13 c = search needs

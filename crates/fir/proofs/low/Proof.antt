@@ -30,26 +30,35 @@ sub-result c = search needs
 
 sub-result-2 : tie.Need-sub-result-2
 sub-result-2 c =
-    let h = c .before .before .args .half in
+    let at-size = c .before in
+    let size = at-size .size in
+    let args = at-size .before .args in
+    let h = args .half in
     let p : 0 < 2 * h = omega arith in
-    let l : c .before .size .result % (2 * h) < 2 * h = mod-lt (c .before .size .result) p in
+    let l : size .result % (2 * h) < 2 * h = mod-lt (size .result) p in
     omega arith
 
 returns : tie.Need-returns
 returns c =
-    let h = c .before .before .args .half in
-    let z = c .before .before .args .z in
-    ap (λ (n : ℕ). 2 * h - 1 - n % (2 * h)) (c .before .size .ensures)
+    let at-size = c .before in
+    let start = at-size .before in
+    let args = start .args in
+    let h = args .half in
+    let z = args .z in
+    ap (λ (n : ℕ). 2 * h - 1 - n % (2 * h)) (at-size .size .ensures)
     ∙ low-under h (toZ w32 (ofZ w32 z)) (c .if1 .taken)
-    ∙ ap (lowOf h) (toZ-ofZ w32 z (c .before .before .fits .z))
+    ∙ ap (lowOf h) (toZ-ofZ w32 z (start .fits .z))
 
 returns-2 : tie.Need-returns-2
 returns-2 c =
-    let h = c .before .before .args .half in
-    let z = c .before .before .args .z in
-    ap (λ (n : ℕ). n % (2 * h)) (c .before .size .ensures)
+    let at-size = c .before in
+    let start = at-size .before in
+    let args = start .args in
+    let h = args .half in
+    let z = args .z in
+    ap (λ (n : ℕ). n % (2 * h)) (at-size .size .ensures)
     ∙ low-over h (toZ w32 (ofZ w32 z)) (c .if1 .left)
-    ∙ ap (lowOf h) (toZ-ofZ w32 z (c .before .before .fits .z))
+    ∙ ap (lowOf h) (toZ-ofZ w32 z (start .fits .z))
 
 pub low-spec : {M : Type 1} → statement M
 low-spec =

@@ -110,26 +110,52 @@ short-requires-8 c κs = search needs
 returns : tie.Need-returns
 unfolding unpackOf
 returns c =
-    let b = c .before .before .before .before .before .before .before .before .before .before .before .before .before .before .before .before .args .t1 in
+    let at-short8 = c .before .before .before .before in
+    let short8 = at-short8 .short8 in
+    let at-short7 = at-short8 .before in
+    let short7 = at-short7 .short7 in
+    let at-short6 = at-short7 .before in
+    let short6 = at-short6 .short6 in
+    let at-short5 = at-short6 .before in
+    let short5 = at-short5 .short5 in
+    let at-short4 = at-short5 .before in
+    let short4 = at-short4 .short4 in
+    let at-short3 = at-short4 .before in
+    let short3 = at-short3 .short3 in
+    let at-short2 = at-short3 .before in
+    let short2 = at-short2 .short2 in
+    let at-short = at-short2 .before in
+    let short = at-short .short in
+    let at-split4 = at-short .before in
+    let split4 = at-split4 .split4 in
+    let at-split3 = at-split4 .before in
+    let split3 = at-split3 .split3 in
+    let at-split2 = at-split3 .before in
+    let split2 = at-split2 .split2 in
+    let at-split = at-split2 .before in
+    let split = at-split .split in
+    let start = at-split .before in
+    let args = start .args in
+    let b = args .t1 in
     let at : ℕ → ℕ = λ k. getD b k 0 in
-    (cons (told 128 (at 0) (c .before .before .before .before .before .before .before .before .before .before .before .short .result) (lit< tt) (lit≤ tt) (c .before .before .before .before .before .before .before .before .before .before .before .short .ensures))
-    (cons (told 128 (at 1) (c .before .before .before .before .before .before .before .before .before .before .short2 .result) (lit< tt) (lit≤ tt) (c .before .before .before .before .before .before .before .before .before .before .short2 .ensures))
-    (cons (told 128 (at 2) (c .before .before .before .before .before .before .before .before .before .short3 .result) (lit< tt) (lit≤ tt) (c .before .before .before .before .before .before .before .before .before .short3 .ensures))
-    (cons (told 128 (at 3) (c .before .before .before .before .before .before .before .before .short4 .result) (lit< tt) (lit≤ tt) (c .before .before .before .before .before .before .before .before .short4 .ensures))
-    (cons (told 128 (at 4) (c .before .before .before .before .before .before .before .short5 .result) (lit< tt) (lit≤ tt) (c .before .before .before .before .before .before .before .short5 .ensures))
-    (cons (told 128 (at 5) (c .before .before .before .before .before .before .short6 .result) (lit< tt) (lit≤ tt) (c .before .before .before .before .before .before .short6 .ensures))
-    (cons (told 128 (at 6) (c .before .before .before .before .before .short7 .result) (lit< tt) (lit≤ tt) (c .before .before .before .before .before .short7 .ensures))
-    (cons (told 128 (at 7) (c .before .before .before .before .short8 .result) (lit< tt) (lit≤ tt) (c .before .before .before .before .short8 .ensures))
-    (cons (told 2048 (at 8 * 16 + at 9 / 16) (c .before .before .before .before .before .before .before .before .before .before .before .before .before .before .before .split .result .a) (lit< tt) (lit≤ tt) (c .before .before .before .before .before .before .before .before .before .before .before .before .before .before .before .split .ensures .0))
-    (cons (told 2048 (at 9 % 16 * 256 + at 10) (c .before .before .before .before .before .before .before .before .before .before .before .before .before .before .before .split .result .b) (lit< tt) (lit≤ tt) (c .before .before .before .before .before .before .before .before .before .before .before .before .before .before .before .split .ensures .1))
-    (cons (told 2048 (at 11 * 16 + at 12 / 16) (c .before .before .before .before .before .before .before .before .before .before .before .before .before .before .split2 .result .a) (lit< tt) (lit≤ tt) (c .before .before .before .before .before .before .before .before .before .before .before .before .before .before .split2 .ensures .0))
-    (cons (told 2048 (at 12 % 16 * 256 + at 13) (c .before .before .before .before .before .before .before .before .before .before .before .before .before .before .split2 .result .b) (lit< tt) (lit≤ tt) (c .before .before .before .before .before .before .before .before .before .before .before .before .before .before .split2 .ensures .1))
-    (cons (told 2048 (at 14 * 16 + at 15 / 16) (c .before .before .before .before .before .before .before .before .before .before .before .before .before .split3 .result .a) (lit< tt) (lit≤ tt) (c .before .before .before .before .before .before .before .before .before .before .before .before .before .split3 .ensures .0))
-    (cons (told 2048 (at 15 % 16 * 256 + at 16) (c .before .before .before .before .before .before .before .before .before .before .before .before .before .split3 .result .b) (lit< tt) (lit≤ tt) (c .before .before .before .before .before .before .before .before .before .before .before .before .before .split3 .ensures .1))
-    (cons (told 2048 (at 17 * 16 + at 18 / 16) (c .before .before .before .before .before .before .before .before .before .before .before .before .split4 .result .a) (lit< tt) (lit≤ tt) (c .before .before .before .before .before .before .before .before .before .before .before .before .split4 .ensures .0))
-    (cons (told 2048 (at 18 % 16 * 256 + at 19) (c .before .before .before .before .before .before .before .before .before .before .before .before .split4 .result .b) (lit< tt) (lit≤ tt) (c .before .before .before .before .before .before .before .before .before .before .before .before .split4 .ensures .1))
+    (cons (told 128 (at 0) (short .result) (lit< tt) (lit≤ tt) (short .ensures))
+    (cons (told 128 (at 1) (short2 .result) (lit< tt) (lit≤ tt) (short2 .ensures))
+    (cons (told 128 (at 2) (short3 .result) (lit< tt) (lit≤ tt) (short3 .ensures))
+    (cons (told 128 (at 3) (short4 .result) (lit< tt) (lit≤ tt) (short4 .ensures))
+    (cons (told 128 (at 4) (short5 .result) (lit< tt) (lit≤ tt) (short5 .ensures))
+    (cons (told 128 (at 5) (short6 .result) (lit< tt) (lit≤ tt) (short6 .ensures))
+    (cons (told 128 (at 6) (short7 .result) (lit< tt) (lit≤ tt) (short7 .ensures))
+    (cons (told 128 (at 7) (short8 .result) (lit< tt) (lit≤ tt) (short8 .ensures))
+    (cons (told 2048 (at 8 * 16 + at 9 / 16) (split .result .a) (lit< tt) (lit≤ tt) (split .ensures .0))
+    (cons (told 2048 (at 9 % 16 * 256 + at 10) (split .result .b) (lit< tt) (lit≤ tt) (split .ensures .1))
+    (cons (told 2048 (at 11 * 16 + at 12 / 16) (split2 .result .a) (lit< tt) (lit≤ tt) (split2 .ensures .0))
+    (cons (told 2048 (at 12 % 16 * 256 + at 13) (split2 .result .b) (lit< tt) (lit≤ tt) (split2 .ensures .1))
+    (cons (told 2048 (at 14 * 16 + at 15 / 16) (split3 .result .a) (lit< tt) (lit≤ tt) (split3 .ensures .0))
+    (cons (told 2048 (at 15 % 16 * 256 + at 16) (split3 .result .b) (lit< tt) (lit≤ tt) (split3 .ensures .1))
+    (cons (told 2048 (at 17 * 16 + at 18 / 16) (split4 .result .a) (lit< tt) (lit≤ tt) (split4 .ensures .0))
+    (cons (told 2048 (at 18 % 16 * 256 + at 19) (split4 .result .b) (lit< tt) (lit≤ tt) (split4 .ensures .1))
     refl))))))))))))))))
-    ∙ ap unpackOf (listed-at 0 b 20 (c .before .before .before .before .before .before .before .before .before .before .before .before .before .before .before .before .good .0 .1 .0 .1))
+    ∙ ap unpackOf (listed-at 0 b 20 (start .good .0 .1 .0 .1))
 
 pub unpack-fir-spec : {M : Type 1} → statement M
 unpack-fir-spec =

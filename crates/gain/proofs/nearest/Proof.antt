@@ -39,21 +39,27 @@ at-least : (c : tie.Else1) → T (nonNeg (toZ w32 (ofZ w32 (c .before .args .t))
 at-least c = from-zero (toZ w32 (ofZ w32 (c .before .args .t))) (c .if1 .left)
 
 cast-nearest-up : tie.Need-cast-nearest-up
-cast-nearest-up c = (
-  at-least c,
-  in-range (toZ w32 (ofZ w32 (c .before .args .t)))
-      (subst (SFits w32) (sym (toZ-ofZ w32 (c .before .args .t) (c .before .fits .t))) (c .before .fits .t))
-      (at-least c),
-)
+cast-nearest-up c =
+    let start = c .before in
+    let args = start .args in
+    let fits = start .fits in (
+      at-least c,
+      in-range (toZ w32 (ofZ w32 (args .t)))
+          (subst (SFits w32) (sym (toZ-ofZ w32 (args .t) (fits .t))) (fits .t))
+          (at-least c),
+    )
 
 nearest-up-requires : tie.Need-nearest-up-requires
 nearest-up-requires c κs = search needs
 
 returns-2 : tie.Need-returns-2
 returns-2 c =
-    let t = c .before .before .args .t in
+    let earlier = c .before in
+    let start = earlier .before in
+    let args = start .args in
+    let t = args .t in
     c .nearest-up .ensures
-    ∙ ap nearestOf (pos-natAbs (toZ w32 (ofZ w32 t)) (at-least (c .before)) ∙ toZ-ofZ w32 t (c .before .before .fits .t))
+    ∙ ap nearestOf (pos-natAbs (toZ w32 (ofZ w32 t)) (at-least (earlier)) ∙ toZ-ofZ w32 t (start .fits .t))
 
 pub nearest-spec : {M : Type 1} → statement M
 nearest-spec = tie.close (tie.spec returns cast-nearest-up nearest-up-requires returns-2)

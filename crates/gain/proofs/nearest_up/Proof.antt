@@ -33,11 +33,14 @@ cast-n c = tt
 add-n : tie.Need-add-n Inv-loop μ-loop
 unfolding steps
 add-n c =
-    let k = c .before .loop .k in
-    let n = c .before .loop .n in
-    let t = c .before .before .args .t in
+    let at-loop = c .before in
+    let loop = at-loop .loop in
+    let k = loop .k in
+    let n = loop .n in
+    let args = at-loop .before .args in
+    let t = args .t in
     let next = n + boolByte (ltb (middleAt k) t) in
-    let w = nearest-first (k + 1) next (pos t) (counted k n t (omega arith) (c .before .loop .inv .1)) .within in
+    let w = nearest-first (k + 1) next (pos t) (counted k n t (omega arith) (loop .inv .1)) .within in
     record { fits = omega arith }
 
 add-k : tie.Need-add-k Inv-loop μ-loop
@@ -49,20 +52,28 @@ loop-less c = omega arith
 loop-again : tie.Need-loop-again Inv-loop μ-loop
 unfolding steps
 loop-again c =
-    let k = c .before .loop .k in
-    let t = c .before .before .args .t in
-    (omega arith, counted k (c .before .loop .n) t (omega arith) (c .before .loop .inv .1))
+    let at-loop = c .before in
+    let loop = at-loop .loop in
+    let k = loop .k in
+    let t = at-loop .before .args .t in
+    (omega arith, counted k (loop .n) t (omega arith) (loop .inv .1))
 
 cast-result : tie.Need-cast-result Inv-loop μ-loop
 cast-result c =
-    let w = nearest-first (c .before .loop .k) (c .before .loop .n) (pos (c .before .before .args .t)) (c .before .loop .inv .1) .within in
+    let at-loop = c .before in
+    let loop = at-loop .loop in
+    let start = at-loop .before in
+    let w = nearest-first (loop .k) (loop .n) (pos (start .args .t)) (loop .inv .1) .within in
     record { fits = omega arith }
 
 returns : tie.Need-returns Inv-loop μ-loop
 unfolding nearestOf
 returns c =
-    let k : c .before .loop .k + 1 ≡ 29 = omega arith in
-    c .before .loop .inv .1 ∙ ap (λ (m : ℕ). nearestIn m (pos (c .before .before .args .t))) k
+    let at-loop = c .before in
+    let loop = at-loop .loop in
+    let start = at-loop .before in
+    let k : loop .k + 1 ≡ 29 = omega arith in
+    loop .inv .1 ∙ ap (λ (m : ℕ). nearestIn m (pos (start .args .t))) k
 
 pub nearest-up-spec : {M : Type 1} → statement M
 nearest-up-spec =

@@ -39,28 +39,46 @@ cast-result c = search needs
 
 returns-2 : tie.Need-returns-2
 returns-2 c =
-    let x = c .before .before .before .before .args .x in
-    let n = c .before .before .whole-part .result in
+    let at-if2 = c .before in
+    let at-whole-part = at-if2 .before in
+    let whole-part = at-whole-part .whole-part in
+    let n = whole-part .result in
+    let at-if1 = at-whole-part .before in
+    let start = at-if1 .before in
+    let args = start .args in
+    let x = args .x in
     toZ-pos w32 n (search needs)
-    ∙ signed x (pos n) false (subst T (sym (c .before .before .before .before .good .0 .1)) tt) (c .before .before .before .if1 .left)
-    (lt-leb 0x8000_0000 (toBits binary32 x) (c .before .if2 .taken))
-    (inside (wholeOf (toBits binary32 x)) n (c .before .before .whole-part .ensures) (c .if3 .taken))
+    ∙ signed x (pos n) false (subst T (sym (start .good .0 .1)) tt) (at-if1 .if1 .left)
+    (lt-leb 0x8000_0000 (toBits binary32 x) (at-if2 .if2 .taken))
+    (inside (wholeOf (toBits binary32 x)) n (whole-part .ensures) (c .if3 .taken))
 
 returns-3 : tie.Need-returns-3
 returns-3 c =
-    let x = c .before .before .before .before .args .x in
-    let n = c .before .before .whole-part .result in
-    signed x (pos 0x7fff_ffff) false (subst T (sym (c .before .before .before .before .good .0 .1)) tt) (c .before .before .before .if1 .left)
-    (lt-leb 0x8000_0000 (toBits binary32 x) (c .before .if2 .taken))
-    (outside (wholeOf (toBits binary32 x)) n (c .before .before .whole-part .ensures) (c .if3 .left))
+    let at-if2 = c .before in
+    let at-whole-part = at-if2 .before in
+    let whole-part = at-whole-part .whole-part in
+    let n = whole-part .result in
+    let at-if1 = at-whole-part .before in
+    let start = at-if1 .before in
+    let args = start .args in
+    let x = args .x in
+    signed x (pos 0x7fff_ffff) false (subst T (sym (start .good .0 .1)) tt) (at-if1 .if1 .left)
+    (lt-leb 0x8000_0000 (toBits binary32 x) (at-if2 .if2 .taken))
+    (outside (wholeOf (toBits binary32 x)) n (whole-part .ensures) (c .if3 .left))
 
 returns-4 : tie.Need-returns-4
 returns-4 c =
-    let x = c .before .before .before .before .args .x in
-    let n = c .before .before .whole-part .result in
-    signed x (pos 0) true (subst T (sym (c .before .before .before .before .good .0 .1)) tt) (c .before .before .before .if1 .left)
-    (le-leb 0x8000_0000 (toBits binary32 x) (c .before .if2 .left))
-    (nought (wholeOf (toBits binary32 x)) n (c .before .before .whole-part .ensures) (c .if4 .taken))
+    let at-if2 = c .before in
+    let at-whole-part = at-if2 .before in
+    let whole-part = at-whole-part .whole-part in
+    let n = whole-part .result in
+    let at-if1 = at-whole-part .before in
+    let start = at-if1 .before in
+    let args = start .args in
+    let x = args .x in
+    signed x (pos 0) true (subst T (sym (start .good .0 .1)) tt) (at-if1 .if1 .left)
+    (le-leb 0x8000_0000 (toBits binary32 x) (at-if2 .if2 .left))
+    (nought (wholeOf (toBits binary32 x)) n (whole-part .ensures) (c .if4 .taken))
 
 sub-result : tie.Need-sub-result
 sub-result c = search needs
@@ -79,15 +97,22 @@ negative x n f h b e p =
 
 last : (c : tie.Else4) → negsuc 0 -ℤ toZ w32 (c .before .before .whole-part .result - 1) ≡ toSigned 31 (c .before .before .before .before .args .x)
 last c =
-    negative (c .before .before .before .before .args .x) (c .before .before .whole-part .result)
-    (subst T (sym (c .before .before .before .before .good .0 .1)) tt)
-    (c .before .before .before .if1 .left)
-    (c .before .if2 .left)
-    (c .before .before .whole-part .ensures)
+    let at-if2 = c .before in
+    let at-whole-part = at-if2 .before in
+    let whole-part = at-whole-part .whole-part in
+    let at-if1 = at-whole-part .before in
+    let start = at-if1 .before in
+    negative (start .args .x) (whole-part .result)
+    (subst T (sym (start .good .0 .1)) tt)
+    (at-if1 .if1 .left)
+    (at-if2 .if2 .left)
+    (whole-part .ensures)
     (omega arith)
 
 sub-result-2 : tie.Need-sub-result-2
-sub-result-2 c = subst (SFits w32) (sym (last c)) (record { sfits = toSigned-in 31 (c .before .before .before .before .args .x) })
+sub-result-2 c =
+    let start = c .before .before .before .before in
+    subst (SFits w32) (sym (last c)) (record { sfits = toSigned-in 31 (start .args .x) })
 
 returns-5 : tie.Need-returns-5
 returns-5 c = toZ-ofZ w32 _ (sub-result-2 c) ∙ last c

@@ -18,7 +18,9 @@ shr-result : tie.Need-shr-result
 shr-result c = search needs
 
 returns-2 : tie.Need-returns-2
-returns-2 c = is-fewer (c .before .before .args .field) (c .before .before .args .digits) (search needs) (search needs) (search needs)
+returns-2 c =
+    let args = c .before .before .args in
+    is-fewer (args .field) (args .digits) (search needs) (search needs) (search needs)
 
 sub-result-2 : tie.Need-sub-result-2
 sub-result-2 c = search needs
@@ -27,10 +29,14 @@ shl-result : tie.Need-shl-result
 shl-result c = search needs
 
 returns-3 : tie.Need-returns-3
-returns-3 c = is-more (c .before .before .before .args .field) (c .before .before .before .args .digits) (search needs) (search needs) (search needs)
+returns-3 c =
+    let args = c .before .before .before .args in
+    is-more (args .field) (args .digits) (search needs) (search needs) (search needs)
 
 returns-4 : tie.Need-returns-4
-returns-4 c = is-past (c .before .before .before .args .field) (c .before .before .before .args .digits) (search needs)
+returns-4 c =
+    let args = c .before .before .before .args in
+    is-past (args .field) (args .digits) (search needs)
 
 pub whole-part-spec : {M : Type 1} → statement M
 whole-part-spec =

@@ -13,10 +13,14 @@ use Rattle.lending.proofs.lend.Statement.{statement}
 use Rattle.lending.proofs.lend.Tie as tie
 
 returns : tie.Need-returns
-returns c = refused (c .before .before .before .args .refusal) (c .before .before .before .args .value) (now (c .before .before .before .args .bytes)) (now (c .before .before .before .args .out)) (omega arith)
+returns c =
+    let args = c .before .before .before .args in
+    refused (args .refusal) (args .value) (now (args .bytes)) (now (args .out)) (omega arith)
 
 returns-2 : tie.Need-returns-2
-returns-2 c = let a = c .before .before .before .before .args in too-short (a .refusal) (a .value) (now (a .bytes)) (now (a .out)) (omega arith) (omega arith)
+returns-2 c =
+    let a = c .before .before .before .before .args in
+    too-short (a .refusal) (a .value) (now (a .bytes)) (now (a .out)) (omega arith) (omega arith)
 
 copy-requires : tie.Need-copy-requires
 copy-requires c κs = search needs
@@ -25,7 +29,11 @@ same-length : tie.Need-same-length
 same-length c = search needs
 
 returns-3 : tie.Need-returns-3
-returns-3 c = let a = c .before .before .before .before .before .before .before .before .args in ap (λ (l : List ℕ). given (Done (a .value)) l) (c .before .before .copy .ensures) ∙ laid (a .refusal) (a .value) (now (a .bytes)) (now (a .out)) (omega arith) (omega arith)
+returns-3 c =
+    let at-copy = c .before .before in
+    let a = at-copy .before .before .before .before .before .before .args in
+    ap (λ (l : List ℕ). given (Done (a .value)) l) (at-copy .copy .ensures)
+    ∙ laid (a .refusal) (a .value) (now (a .bytes)) (now (a .out)) (omega arith) (omega arith)
 
 pub lend-spec : {M : Type 1} → statement M
 lend-spec = tie.close (tie.spec returns returns-2 copy-requires same-length returns-3)

@@ -23,10 +23,15 @@ same-length c = search needs
 
 returns : tie.Need-returns
 returns c =
-    let a = c .before .before .before .before .before .before .before .before .args in
-    c .before .before .lend .ensures
-    ∙ ap (λ (n : ℕ). lentTo n (c .before .before .before .before .value-of .result) (now (a .bytes)) (now (a .out))) (c .before .before .before .before .before .number-of .ensures)
-    ∙ ap (λ (n : ℕ). lentTo (numberOf (a .answer)) n (now (a .bytes)) (now (a .out))) (c .before .before .before .before .value-of .ensures)
+    let at-lend = c .before .before in
+    let at-value-of = at-lend .before .before in
+    let value-of = at-value-of .value-of in
+    let at-number-of = at-value-of .before in
+    let a = at-number-of .before .before .before .args in
+    let bytes = now (a .bytes) in
+    at-lend .lend .ensures
+    ∙ ap (λ (n : ℕ). lentTo n (value-of .result) bytes (now (a .out))) (at-number-of .number-of .ensures)
+    ∙ ap (λ (n : ℕ). lentTo (numberOf (a .answer)) n bytes (now (a .out))) (value-of .ensures)
 
 pub lend-answer-spec : {M : Type 1} → statement M
 lend-answer-spec =

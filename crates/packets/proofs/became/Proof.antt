@@ -18,7 +18,10 @@ array-write-image : tie.Need-array-write-image
 array-write-image c = search needs
 
 returns-2 : tie.Need-returns-2
-returns-2 c = turns (c .before .before .before .args .t1) (c .picked .result) (c .before .before .if1 .left) (c .picked .ensures)
+returns-2 c =
+    let at-if1 = c .before .before in
+    let start = at-if1 .before in
+    turns (start .args .t1) (c .picked .result) (at-if1 .if1 .left) (c .picked .ensures)
 
 pub became-spec : {M : Type 1} → statement M
 became-spec =

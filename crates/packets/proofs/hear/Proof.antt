@@ -17,7 +17,9 @@ nothing-requires : tie.Need-nothing-requires
 nothing-requires c κs = search needs
 
 returns : tie.Need-returns
-returns c = c .nothing .ensures ∙ heard-short (drop (c .before .before .before .args .at) (now (c .before .before .before .args .s))) (omega (arith, length-drop (c .before .before .before .args .at) (now (c .before .before .before .args .s))))
+returns c =
+    let args = c .before .before .before .args in
+    c .nothing .ensures ∙ heard-short (drop (args .at) (now (args .s))) (omega (arith, length-drop (args .at) (now (args .s))))
 
 get-requires : tie.Need-get-requires
 get-requires c κs = search needs
@@ -29,7 +31,13 @@ sent-by-requires : tie.Need-sent-by-requires
 sent-by-requires c κs = search needs
 
 in-table-requires : tie.Need-in-table-requires
-in-table-requires c κs = row (drop (c .before .before .before .before .before .args .at) (now (c .before .before .before .before .before .args .s))) (c .before .before .get .result) (c .before .named .result) (c .before .before .get .ensures .0) (c .before .named .ensures) (c .sent-by .result) (c .sent-by .ensures .0)
+in-table-requires c κs =
+    let at-named = c .before in
+    let named = at-named .named in
+    let at-get = at-named .before in
+    let get = at-get .get in
+    let args = at-get .before .before .before .args in
+    row (drop (args .at) (now (args .s))) (get .result) (named .result) (get .ensures .0) (named .ensures) (c .sent-by .result) (c .sent-by .ensures .0)
 
 setup-of-requires : tie.Need-setup-of-requires
 setup-of-requires c κs = search needs
@@ -38,7 +46,22 @@ nothing-requires-2 : tie.Need-nothing-requires-2
 nothing-requires-2 c κs = search needs
 
 returns-2 : tie.Need-returns-2
-returns-2 c = c .nothing2 .ensures ∙ heard-other (drop (c .before .before .before .before .before .before .before .before .before .args .at) (now (c .before .before .before .before .before .before .before .before .before .args .s))) (c .before .before .before .before .before .before .get .result) (c .before .before .before .before .before .named .result) (c .before .before .before .before .before .before .get .ensures .0) (c .before .before .before .before .before .named .ensures) (c .before .before .before .before .sent-by .result) (c .before .before .before .before .sent-by .ensures .0) (c .before .before .before .in-table .result) (c .before .before .setup-of .result) (c .before .before .before .in-table .ensures) (c .before .before .setup-of .ensures) (not-true _ (c .before .if2 .taken))
+returns-2 c =
+    let at-if2 = c .before in
+    let at-setup-of = at-if2 .before in
+    let setup-of = at-setup-of .setup-of in
+    let at-in-table = at-setup-of .before in
+    let in-table = at-in-table .in-table in
+    let at-sent-by = at-in-table .before in
+    let sent-by = at-sent-by .sent-by in
+    let at-named = at-sent-by .before in
+    let named = at-named .named in
+    let at-get = at-named .before in
+    let get = at-get .get in
+    let args = at-get .before .before .before .args in
+    c .nothing2 .ensures
+    ∙ heard-other (drop (args .at) (now (args .s))) (get .result) (named .result) (get .ensures .0) (named .ensures) (sent-by .result) (sent-by .ensures .0)
+    (in-table .result) (setup-of .result) (in-table .ensures) (setup-of .ensures) (not-true _ (at-if2 .if2 .taken))
 
 add-if3 : tie.Need-add-if3
 add-if3 c = search needs
@@ -47,13 +70,54 @@ nothing-requires-3 : tie.Need-nothing-requires-3
 nothing-requires-3 c κs = search needs
 
 returns-3 : tie.Need-returns-3
-returns-3 c = c .nothing3 .ensures ∙ heard-cut (drop (c .before .before .before .before .before .before .before .before .before .before .args .at) (now (c .before .before .before .before .before .before .before .before .before .before .args .s))) (c .before .before .before .before .before .before .before .get .result) (c .before .before .before .before .before .before .named .result) (c .before .before .before .before .before .before .before .get .ensures .0) (c .before .before .before .before .before .before .named .ensures) (c .before .before .before .before .before .sent-by .result) (c .before .before .before .before .before .sent-by .ensures .0) (omega (arith, length-drop (c .before .before .before .before .before .before .before .before .before .before .args .at) (now (c .before .before .before .before .before .before .before .before .before .before .args .s))))
+returns-3 c =
+    let at-sent-by = c .before .before .before .before .before in
+    let sent-by = at-sent-by .sent-by in
+    let at-named = at-sent-by .before in
+    let named = at-named .named in
+    let at-get = at-named .before in
+    let get = at-get .get in
+    let args = at-get .before .before .before .args in
+    c .nothing3 .ensures
+    ∙ heard-cut (drop (args .at) (now (args .s))) (get .result) (named .result) (get .ensures .0) (named .ensures) (sent-by .result) (sent-by .ensures .0)
+    (omega (arith, length-drop (args .at) (now (args .s))))
 
 with-data-requires : tie.Need-with-data-requires
-with-data-requires c κs = (few (drop (c .before .before .before .before .before .before .before .before .before .args .at) (now (c .before .before .before .before .before .before .before .before .before .args .s))) (c .before .before .before .before .before .before .get .result) (c .before .before .before .before .before .named .result) (c .before .before .before .before .before .before .get .ensures .0) (c .before .before .before .before .before .named .ensures) (c .before .before .before .before .sent-by .result) (c .before .before .before .before .sent-by .ensures .0) (c .before .before .before .in-table .result) (c .before .before .setup-of .result) (c .before .before .before .in-table .ensures) (not-false _ (c .before .if2 .left)), omega arith)
+with-data-requires c κs =
+    let at-if2 = c .before in
+    let at-setup-of = at-if2 .before in
+    let at-in-table = at-setup-of .before in
+    let in-table = at-in-table .in-table in
+    let at-sent-by = at-in-table .before in
+    let sent-by = at-sent-by .sent-by in
+    let at-named = at-sent-by .before in
+    let named = at-named .named in
+    let at-get = at-named .before in
+    let get = at-get .get in
+    let args = at-get .before .before .before .args in (
+      few (drop (args .at) (now (args .s))) (get .result) (named .result) (get .ensures .0) (named .ensures) (sent-by .result) (sent-by .ensures .0)
+          (in-table .result) (at-setup-of .setup-of .result) (in-table .ensures) (not-false _ (at-if2 .if2 .left)),
+      omega arith,
+    )
 
 returns-4 : tie.Need-returns-4
-returns-4 c = c .with-data .ensures ∙ heard-told (drop (c .before .before .before .before .before .before .before .before .before .before .args .at) (now (c .before .before .before .before .before .before .before .before .before .before .args .s))) (c .before .before .before .before .before .before .before .get .result) (c .before .before .before .before .before .before .named .result) (c .before .before .before .before .before .before .before .get .ensures .0) (c .before .before .before .before .before .before .named .ensures) (c .before .before .before .before .before .sent-by .result) (c .before .before .before .before .before .sent-by .ensures .0) (c .before .before .before .before .in-table .result) (c .before .before .before .setup-of .result) (c .before .before .before .before .in-table .ensures) (c .before .before .before .setup-of .ensures) (not-false _ (c .before .before .if2 .left)) (omega (arith, length-drop (c .before .before .before .before .before .before .before .before .before .before .args .at) (now (c .before .before .before .before .before .before .before .before .before .before .args .s)))) (omega (arith, length-drop (c .before .before .before .before .before .before .before .before .before .before .args .at) (now (c .before .before .before .before .before .before .before .before .before .before .args .s))))
+returns-4 c =
+    let at-if2 = c .before .before in
+    let at-setup-of = at-if2 .before in
+    let setup-of = at-setup-of .setup-of in
+    let at-in-table = at-setup-of .before in
+    let in-table = at-in-table .in-table in
+    let at-sent-by = at-in-table .before in
+    let sent-by = at-sent-by .sent-by in
+    let at-named = at-sent-by .before in
+    let named = at-named .named in
+    let at-get = at-named .before in
+    let get = at-get .get in
+    let args = at-get .before .before .before .args in
+    c .with-data .ensures
+    ∙ heard-told (drop (args .at) (now (args .s))) (get .result) (named .result) (get .ensures .0) (named .ensures) (sent-by .result) (sent-by .ensures .0)
+    (in-table .result) (setup-of .result) (in-table .ensures) (setup-of .ensures) (not-false _ (at-if2 .if2 .left))
+    (omega (arith, length-drop (args .at) (now (args .s)))) (omega (arith, length-drop (args .at) (now (args .s))))
 
 pub hear-spec : {M : Type 1} → statement M
 hear-spec =

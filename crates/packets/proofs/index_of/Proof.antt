@@ -20,13 +20,27 @@ add-result : tie.Need-add-result
 add-result c = search needs
 
 returns : tie.Need-returns
-returns c = let e = c .before .before .before .before .args .e in (rw (c .wide .ensures .0, c .before .before .before .write-bit .ensures .0) (index-demod e (sym (c .before .before .is-demod .ensures) ∙ c .before .if1 .taken)), omega (arith, c .wide .ensures .1, c .before .before .before .write-bit .ensures .1))
+returns c =
+    let at-if1 = c .before in
+    let at-is-demod = at-if1 .before in
+    let at-write-bit = at-is-demod .before in
+    let write-bit = at-write-bit .write-bit in
+    let e = at-write-bit .before .args .e in (
+      rw (c .wide .ensures .0, write-bit .ensures .0) (index-demod e (sym (at-is-demod .is-demod .ensures) ∙ at-if1 .if1 .taken)),
+      omega (arith, c .wide .ensures .1, write-bit .ensures .1),
+    )
 
 add-result-2 : tie.Need-add-result-2
 add-result-2 c = search needs
 
 returns-2 : tie.Need-returns-2
-returns-2 c = let e = c .before .before .before .before .before .before .args .e in (rw (c .before .before .before .before .before .write-bit .ensures .0) (index-i2c e (sym (c .before .before .before .before .is-demod .ensures) ∙ c .before .before .before .if1 .left) (c .if2 .taken)), omega (arith, c .before .before .before .before .before .write-bit .ensures .1))
+returns-2 c =
+    let at-if1 = c .before .before .before in
+    let at-is-demod = at-if1 .before in
+    let at-write-bit = at-is-demod .before in
+    let write-bit = at-write-bit .write-bit in
+    let e = at-write-bit .before .args .e in
+    (rw (write-bit .ensures .0) (index-i2c e (sym (at-is-demod .is-demod .ensures) ∙ at-if1 .if1 .left) (c .if2 .taken)), omega (arith, write-bit .ensures .1))
 
 wide-requires-2 : tie.Need-wide-requires-2
 wide-requires-2 c κs = search needs
@@ -38,7 +52,16 @@ add-result-3 : tie.Need-add-result-3
 add-result-3 c = search needs
 
 returns-3 : tie.Need-returns-3
-returns-3 c = let e = c .before .before .before .before .before .before .before .args .e in (rw (c .wide2 .ensures .0, c .before .before .before .before .before .before .write-bit .ensures .0) (index-block e (sym (c .before .before .before .before .before .is-demod .ensures) ∙ c .before .before .before .before .if1 .left) (c .before .if2 .left)), omega (arith, c .wide2 .ensures .1, c .before .before .before .before .before .before .write-bit .ensures .1))
+returns-3 c =
+    let at-if2 = c .before in
+    let at-if1 = at-if2 .before .before .before in
+    let at-is-demod = at-if1 .before in
+    let at-write-bit = at-is-demod .before in
+    let write-bit = at-write-bit .write-bit in
+    let e = at-write-bit .before .args .e in (
+      rw (c .wide2 .ensures .0, write-bit .ensures .0) (index-block e (sym (at-is-demod .is-demod .ensures) ∙ at-if1 .if1 .left) (at-if2 .if2 .left)),
+      omega (arith, c .wide2 .ensures .1, write-bit .ensures .1),
+    )
 
 pub index-of-spec : {M : Type 1} → statement M
 index-of-spec =

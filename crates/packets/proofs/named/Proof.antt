@@ -25,7 +25,12 @@ step-requires : tie.Need-step-requires
 step-requires c κs = search needs
 
 returns : tie.Need-returns
-returns c = c .step .ensures ∙ page-named (c .before .before .before .args .w) (c .before .picked .result) (c .before .before .if1 .taken) (c .before .picked .ensures)
+returns c =
+    let at-picked = c .before in
+    let picked = at-picked .picked in
+    let at-if1 = at-picked .before in
+    let start = at-if1 .before in
+    c .step .ensures ∙ page-named (start .args .w) (picked .result) (at-if1 .if1 .taken) (picked .ensures)
 
 picked-requires-2 : tie.Need-picked-requires-2
 picked-requires-2 c κs = search needs
@@ -37,7 +42,13 @@ step-requires-2 : tie.Need-step-requires-2
 step-requires-2 c κs = search needs
 
 returns-2 : tie.Need-returns-2
-returns-2 c = c .step2 .ensures ∙ i2c-named (c .before .before .before .before .args .w) (c .before .picked2 .result) (c .before .before .before .if1 .left) (c .before .before .if2 .taken) (c .before .picked2 .ensures)
+returns-2 c =
+    let at-picked2 = c .before in
+    let picked2 = at-picked2 .picked2 in
+    let at-if2 = at-picked2 .before in
+    let at-if1 = at-if2 .before in
+    let start = at-if1 .before in
+    c .step2 .ensures ∙ i2c-named (start .args .w) (picked2 .result) (at-if1 .if1 .left) (at-if2 .if2 .taken) (picked2 .ensures)
 
 picked-requires-3 : tie.Need-picked-requires-3
 picked-requires-3 c κs = search needs
@@ -49,7 +60,16 @@ step-requires-3 : tie.Need-step-requires-3
 step-requires-3 c κs = search needs
 
 returns-3 : tie.Need-returns-3
-returns-3 c = c .step3 .ensures ∙ block-named (c .before .before .before .before .before .args .w) (c .before .before .picked3 .result) (c .before .picked4 .result) (c .before .before .before .before .if1 .left) (c .before .before .before .if2 .left) (c .before .before .picked3 .ensures) (c .before .picked4 .ensures)
+returns-3 c =
+    let at-picked4 = c .before in
+    let picked4 = at-picked4 .picked4 in
+    let at-picked3 = at-picked4 .before in
+    let picked3 = at-picked3 .picked3 in
+    let at-if2 = at-picked3 .before in
+    let at-if1 = at-if2 .before in
+    let start = at-if1 .before in
+    c .step3 .ensures
+    ∙ block-named (start .args .w) (picked3 .result) (picked4 .result) (at-if1 .if1 .left) (at-if2 .if2 .left) (picked3 .ensures) (picked4 .ensures)
 
 pub named-spec : {M : Type 1} → statement M
 named-spec =

@@ -14,19 +14,32 @@ use Rattle.packets.proofs.put.Statement.{statement}
 use Rattle.packets.proofs.put.Tie as tie
 
 returns : tie.Need-returns
-returns c = ap (λ (l : List ℕ). sets (now (c .before .before .before .args .out)) (c .before .before .before .args .at) l) (waits (c .before .before .before .args .e) (c .if1 .taken))
+returns c =
+    let args = c .before .before .before .args in
+    ap (λ (l : List ℕ). sets (now (args .out)) (args .at) l) (waits (args .e) (c .if1 .taken))
 
 became-requires : tie.Need-became-requires
 became-requires c κs = search needs
 
 put-transfer-requires : tie.Need-put-transfer-requires
-put-transfer-requires c κs = let f = transfer-long (c .before .before .before .before .before .args .e) (search needs) (search needs) (c .before .became .result) (c .before .became .ensures) (c .before .before .if1 .left) in (f .0, omega (arith, f .1))
+put-transfer-requires c κs =
+    let became = c .before .became in
+    let args = c .before .before .before .before .before .args in
+    let f = transfer-long (args .e) (search needs) (search needs) (became .result) (became .ensures) (c .before .before .if1 .left) in
+    (f .0, omega (arith, f .1))
 
 same-length : tie.Need-same-length
 same-length c = search needs
 
 returns-2 : tie.Need-returns-2
-returns-2 c = let a = c .before .before .before .before .before .before .before .before .args in c .before .before .put-transfer .ensures ∙ ap (λ (t : Entry). sets (now (a .out)) (a .at) (packets t)) (c .before .before .before .before .became .ensures) ∙ ap (λ (l : List ℕ). sets (now (a .out)) (a .at) l) (moves (a .e) (c .before .before .before .before .before .if1 .left))
+returns-2 c =
+    let at-put-transfer = c .before .before in
+    let at-became = at-put-transfer .before .before in
+    let at-if1 = at-became .before in
+    let a = at-if1 .before .before .before .args in
+    at-put-transfer .put-transfer .ensures
+    ∙ ap (λ (t : Entry). sets (now (a .out)) (a .at) (packets t)) (at-became .became .ensures)
+    ∙ ap (λ (l : List ℕ). sets (now (a .out)) (a .at) l) (moves (a .e) (at-if1 .if1 .left))
 
 pub put-spec : {M : Type 1} → statement M
 put-spec = tie.close (tie.spec returns became-requires put-transfer-requires same-length returns-2)

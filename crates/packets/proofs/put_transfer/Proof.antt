@@ -29,7 +29,10 @@ part-copy-start : tie.Need-part-copy-start
 part-copy-start c = search needs
 
 part-copy-end : tie.Need-part-copy-end
-part-copy-end c = let a = c .before .before .before .before .before .before .before .before .before .before .args in let l : length (a .e .bytes) ≡ 8 = search needs in let f : a .e .n ≤ 8 = search needs in omega (arith, l, f, c .before .before .before .before .before .before .before .before .sent-by .ensures .1)
+part-copy-end c =
+    let at-sent-by = c .before .before .before .before .before .before .before .before in
+    let a = at-sent-by .before .before .args in
+    let l : length (a .e .bytes) ≡ 8 = search needs in let f : a .e .n ≤ 8 = search needs in omega (arith, l, f, at-sent-by .sent-by .ensures .1)
 
 copy-requires : tie.Need-copy-requires
 copy-requires c κs = search needs
@@ -51,9 +54,20 @@ same-length c = search needs
 
 returns : tie.Need-returns
 returns c =
-    let a = c .before .before .before .before .before .before .before .before .before .before .before .before .before .before .before .before .before .before .before .args in
-    transfer-stored (a .e) (search needs) (search needs) (now (a .out)) (c .before .before .before .before .before .before .before .before .before .before .before .before .before .put .last .0) (c .before .before .before .before .before .before .before .copy .last .0) (c .before .before .put2 .last .0) (a .at) (c .before .before .before .before .before .before .before .before .before .before .before .before .before .before .before .before .before .sent-by .result) (c .before .before .before .followed-by .result) (c .before .before .before .before .before .before .before .before .before .before .before .before .before .before .setup-of .result)
-    (c .before .before .before .before .before .before .before .before .before .before .before .before .before .before .before .before .before .sent-by .ensures .0) (c .before .before .before .followed-by .ensures .0) (c .before .before .before .before .before .before .before .before .before .before .before .before .before .before .setup-of .ensures) (c .before .before .before .before .before .before .before .before .before .before .before .before .before .put .ensures) (c .before .before .before .before .before .before .before .copy .ensures) (c .before .before .put2 .ensures)
+    let a =
+    c .before .before .before .before .before .before .before .before .before .before .before .before .before .before .before .before .before .before .before
+    .args in
+    transfer-stored (a .e) (search needs) (search needs) (now (a .out))
+    (c .before .before .before .before .before .before .before .before .before .before .before .before .before .put .last .0)
+    (c .before .before .before .before .before .before .before .copy .last .0) (c .before .before .put2 .last .0) (a .at)
+    (c .before .before .before .before .before .before .before .before .before .before .before .before .before .before .before .before .before .sent-by .result)
+    (c .before .before .before .followed-by .result)
+    (c .before .before .before .before .before .before .before .before .before .before .before .before .before .before .setup-of .result)
+    (c .before .before .before .before .before .before .before .before .before .before .before .before .before .before .before .before .before .sent-by
+    .ensures .0) (c .before .before .before .followed-by .ensures .0)
+    (c .before .before .before .before .before .before .before .before .before .before .before .before .before .before .setup-of .ensures)
+    (c .before .before .before .before .before .before .before .before .before .before .before .before .before .put .ensures)
+    (c .before .before .before .before .before .before .before .copy .ensures) (c .before .before .put2 .ensures)
 
 pub put-transfer-spec : {M : Type 1} → statement M
 put-transfer-spec =

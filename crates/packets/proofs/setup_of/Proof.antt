@@ -36,7 +36,14 @@ add-result-3 : tie.Need-add-result-3
 add-result-3 c = search needs
 
 returns : tie.Need-returns
-returns c = setup-made (c .before .before .before .before .args .e) _ _ _ _ (c .before .before .before .type-of .ensures .0) (c .before .before .value-of .ensures .0) (c .before .index-of .ensures .0) (c .before .index-of .ensures .1) (c .wide .ensures .0) (c .wide .ensures .1)
+returns c =
+    let at-index-of = c .before in
+    let index-of = at-index-of .index-of in
+    let at-value-of = at-index-of .before in
+    let at-type-of = at-value-of .before in
+    let start = at-type-of .before in
+    setup-made (start .args .e) _ _ _ _ (at-type-of .type-of .ensures .0) (at-value-of .value-of .ensures .0) (index-of .ensures .0) (index-of .ensures .1)
+    (c .wide .ensures .0) (c .wide .ensures .1)
 
 pub setup-of-spec : {M : Type 1} → statement M
 setup-of-spec =

@@ -27,7 +27,12 @@ add-result-2 : tie.Need-add-result-2
 add-result-2 c = search needs
 
 returns-2 : tie.Need-returns-2
-returns-2 c = ap₂ (λ (i j : ℕ). 8 + i + j) (c .before .sent-by .ensures .0) (c .followed-by .ensures .0) ∙ transfer-long (c .before .before .before .before .before .args .e) (search needs) (search needs) (c .before .before .became .result) (c .before .before .became .ensures) (c .before .before .before .if1 .left) .1
+returns-2 c =
+    let became = c .before .before .became in
+    let if1 = c .before .before .before .if1 in
+    let args = c .before .before .before .before .before .args in
+    ap₂ (λ (i j : ℕ). 8 + i + j) (c .before .sent-by .ensures .0) (c .followed-by .ensures .0)
+    ∙ transfer-long (args .e) (search needs) (search needs) (became .result) (became .ensures) (if1 .left) .1
 
 pub size-spec : {M : Type 1} → statement M
 size-spec =

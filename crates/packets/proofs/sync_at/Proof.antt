@@ -10,13 +10,18 @@ sub-if1 : tie.Need-sub-if1
 sub-if1 c = search needs
 
 returns : tie.Need-returns
-returns c = no-sync (now (c .before .before .args .s)) (c .before .before .args .at) (c .if1 .taken)
+returns c =
+    let args = c .before .before .args in
+    no-sync (now (args .s)) (args .at) (c .if1 .taken)
 
 get-requires : tie.Need-get-requires
 get-requires c κs = search needs
 
 returns-2 : tie.Need-returns-2
-returns-2 c = sync-told (now (c .before .before .before .args .s)) (c .before .before .before .args .at) (c .get .result) (c .before .if1 .left) (c .get .ensures .0)
+returns-2 c =
+    let at-if1 = c .before in
+    let args = at-if1 .before .before .args in
+    sync-told (now (args .s)) (args .at) (c .get .result) (at-if1 .if1 .left) (c .get .ensures .0)
 
 pub sync-at-spec : {M : Type 1} → statement M
 sync-at-spec = tie.close (tie.spec sub-if1 returns get-requires returns-2)

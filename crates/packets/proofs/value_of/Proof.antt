@@ -20,19 +20,35 @@ add-result : tie.Need-add-result
 add-result c = search needs
 
 returns : tie.Need-returns
-returns c = (value-demod (c .before .before .before .args .e) (sym (c .before .before .is-demod .ensures) ∙ c .before .if1 .taken), search needs)
+returns c =
+    let at-if1 = c .before in
+    let at-is-demod = at-if1 .before in
+    let start = at-is-demod .before in
+    (value-demod (start .args .e) (sym (at-is-demod .is-demod .ensures) ∙ at-if1 .if1 .taken), search needs)
 
 wide-requires : tie.Need-wide-requires
 wide-requires c κs = search needs
 
 returns-2 : tie.Need-returns-2
-returns-2 c = (c .wide .ensures .0 ∙ value-i2c (c .before .before .before .before .before .before .args .e) (sym (c .before .before .before .before .before .is-demod .ensures) ∙ c .before .before .before .before .if1 .left) (c .before .if2 .taken), omega (arith, c .wide .ensures .1))
+returns-2 c =
+    let at-if2 = c .before in
+    let at-if1 = at-if2 .before .before .before in
+    let at-is-demod = at-if1 .before in
+    let start = at-is-demod .before in (
+      c .wide .ensures .0 ∙ value-i2c (start .args .e) (sym (at-is-demod .is-demod .ensures) ∙ at-if1 .if1 .left) (at-if2 .if2 .taken),
+      omega (arith, c .wide .ensures .1),
+    )
 
 cast-result-2 : tie.Need-cast-result-2
 cast-result-2 c = search needs
 
 returns-3 : tie.Need-returns-3
-returns-3 c = (value-block (c .before .before .before .before .before .before .args .e) (sym (c .before .before .before .before .before .is-demod .ensures) ∙ c .before .before .before .before .if1 .left) (c .before .if2 .left), search needs)
+returns-3 c =
+    let at-if2 = c .before in
+    let at-if1 = at-if2 .before .before .before in
+    let at-is-demod = at-if1 .before in
+    let start = at-is-demod .before in
+    (value-block (start .args .e) (sym (at-is-demod .is-demod .ensures) ∙ at-if1 .if1 .left) (at-if2 .if2 .left), search needs)
 
 pub value-of-spec : {M : Type 1} → statement M
 value-of-spec =

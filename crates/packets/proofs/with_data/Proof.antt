@@ -40,7 +40,11 @@ add-t13 : tie.Need-add-t13
 add-t13 c = search needs
 
 returns : tie.Need-returns
-returns c = let a = c .before .before .before .before .before .before .args in told-made (now (a .s)) (a .at) (a .e) (a .sent) (c .sync-len .result) (c .before .before .copy .last .0) (c .before .before .copy .ensures) (c .sync-len .ensures .0)
+returns c =
+    let at-copy = c .before .before in
+    let copy = at-copy .copy in
+    let a = at-copy .before .before .before .before .args in
+    told-made (now (a .s)) (a .at) (a .e) (a .sent) (c .sync-len .result) (copy .last .0) (copy .ensures) (c .sync-len .ensures .0)
 
 pub with-data-spec : {M : Type 1} → statement M
 with-data-spec =

@@ -30,7 +30,9 @@ mul-i c = search needs
 
 add-i : tie.Need-add-i Inv-loop μ-loop
 add-i c =
-    let b = both-below (c .before .loop .k) (c .before .before .before .before .args .m) (c .before .before .before .before .args .n) (c .loop-test .taken) in
+    let at-loop = c .before in
+    let args = at-loop .before .before .before .args in
+    let b = both-below (at-loop .loop .k) (args .m) (args .n) (c .loop-test .taken) in
     search needs
 
 mul-j : tie.Need-mul-j Inv-loop μ-loop
@@ -38,12 +40,16 @@ mul-j c = search needs
 
 add-j : tie.Need-add-j Inv-loop μ-loop
 add-j c =
-    let b = both-below (c .before .loop .k) (c .before .before .before .before .args .m) (c .before .before .before .before .args .n) (c .loop-test .taken) in
+    let at-loop = c .before in
+    let args = at-loop .before .before .before .args in
+    let b = both-below (at-loop .loop .k) (args .m) (args .n) (c .loop-test .taken) in
     search needs
 
 add-same-step : tie.Need-add-same-step Inv-loop μ-loop
 add-same-step c =
-    let b = both-below (c .before .loop .k) (c .before .before .before .before .args .m) (c .before .before .before .before .args .n) (c .loop-test .taken) in
+    let at-loop = c .before in
+    let args = at-loop .before .before .before .args in
+    let b = both-below (at-loop .loop .k) (args .m) (args .n) (c .loop-test .taken) in
     search needs
 
 sub-same-step : tie.Need-sub-same-step Inv-loop μ-loop
@@ -51,17 +57,24 @@ sub-same-step c = search needs
 
 part-same-step-start : tie.Need-part-same-step-start Inv-loop μ-loop
 part-same-step-start c =
-    let b = both-below (c .before .loop .k) (c .before .before .before .before .args .m) (c .before .before .before .before .args .n) (c .loop-test .taken) in
+    let at-loop = c .before in
+    let args = at-loop .before .before .before .args in
+    let b = both-below (at-loop .loop .k) (args .m) (args .n) (c .loop-test .taken) in
     search needs
 
 part-same-step-end : tie.Need-part-same-step-end Inv-loop μ-loop
 part-same-step-end c =
-    let b = both-below (c .before .loop .k) (c .before .before .before .before .args .m) (c .before .before .before .before .args .n) (c .loop-test .taken) in
+    let at-loop = c .before in
+    let args = at-loop .before .before .before .args in
+    let b = both-below (at-loop .loop .k) (args .m) (args .n) (c .loop-test .taken) in
     search needs
 
 add-same-step-2 : tie.Need-add-same-step-2 Inv-loop μ-loop
 add-same-step-2 c =
-    let b = both-below (c .before .before .loop .k) (c .before .before .before .before .before .args .m) (c .before .before .before .before .before .args .n) (c .before .loop-test .taken) in
+    let at-test = c .before in
+    let at-loop = at-test .before in
+    let args = at-loop .before .before .before .args in
+    let b = both-below (at-loop .loop .k) (args .m) (args .n) (at-test .loop-test .taken) in
     search needs
 
 sub-same-step-2 : tie.Need-sub-same-step-2 Inv-loop μ-loop
@@ -69,47 +82,74 @@ sub-same-step-2 c = search needs
 
 part-same-step-start-2 : tie.Need-part-same-step-start-2 Inv-loop μ-loop
 part-same-step-start-2 c =
-    let b = both-below (c .before .before .loop .k) (c .before .before .before .before .before .args .m) (c .before .before .before .before .before .args .n) (c .before .loop-test .taken) in
+    let at-test = c .before in
+    let at-loop = at-test .before in
+    let args = at-loop .before .before .before .args in
+    let b = both-below (at-loop .loop .k) (args .m) (args .n) (at-test .loop-test .taken) in
     search needs
 
 part-same-step-end-2 : tie.Need-part-same-step-end-2 Inv-loop μ-loop
 part-same-step-end-2 c =
-    let b = both-below (c .before .before .loop .k) (c .before .before .before .before .before .args .m) (c .before .before .before .before .before .args .n) (c .before .loop-test .taken) in
+    let at-test = c .before in
+    let at-loop = at-test .before in
+    let args = at-loop .before .before .before .args in
+    let b = both-below (at-loop .loop .k) (args .m) (args .n) (at-test .loop-test .taken) in
     search needs
 
 same-step-requires : tie.Need-same-step-requires Inv-loop μ-loop
 same-step-requires c κs =
-    let b = both-below (c .before .before .before .loop .k) (c .before .before .before .before .before .before .args .m) (c .before .before .before .before .before .before .args .n) (c .before .before .loop-test .taken) in
+    let at-test = c .before .before in
+    let at-loop = at-test .before in
+    let args = at-loop .before .before .before .args in
+    let b = both-below (at-loop .loop .k) (args .m) (args .n) (at-test .loop-test .taken) in
     search needs
 
 returns : tie.Need-returns Inv-loop μ-loop
 returns c =
-    let a = c .before .before .before .before .before .before .before .before .args in
-    let l = c .before .before .before .before .before .loop in
-    let b = both-below (l .k) (a .m) (a .n) (c .before .before .before .before .loop-test .taken) in
-    let same = sym (ap₂ alike (entry-cut (a .a + 16 * l .k) (now (a .x))) (entry-cut (a .b + 16 * l .k) (now (a .y)))) ∙ sym (c .before .same-step .ensures) in
-    agree-stop (a .a) (a .m) (now (a .x)) (a .b) (a .n) (now (a .y)) (l .k) (b .0) (b .1) (same ∙ not-true (c .before .same-step .result) (c .if1 .taken)) ∙ l .inv .1 .1
+    let at-same-step = c .before in
+    let same-step = at-same-step .same-step in
+    let at-test = at-same-step .before .before .before in
+    let at-loop = at-test .before in
+    let l = at-loop .loop in
+    let a = at-loop .before .before .before .args in
+    let b = both-below (l .k) (a .m) (a .n) (at-test .loop-test .taken) in
+    let same = sym (ap₂ alike (entry-cut (a .a + 16 * l .k) (now (a .x))) (entry-cut (a .b + 16 * l .k) (now (a .y)))) ∙ sym (same-step .ensures) in
+    agree-stop (a .a) (a .m) (now (a .x)) (a .b) (a .n) (now (a .y)) (l .k) (b .0) (b .1) (same ∙ not-true (same-step .result) (c .if1 .taken)) ∙ l .inv .1 .1
 
 add-k : tie.Need-add-k Inv-loop μ-loop
 add-k c = search needs
 
 loop-less : tie.Need-loop-less Inv-loop μ-loop
 loop-less c =
-    let b = both-below (c .before .before .before .before .before .loop .k) (c .before .before .before .before .before .before .before .before .args .m) (c .before .before .before .before .before .before .before .before .args .n) (c .before .before .before .before .loop-test .taken) in
+    let at-test = c .before .before .before .before in
+    let at-loop = at-test .before in
+    let args = at-loop .before .before .before .args in
+    let b = both-below (at-loop .loop .k) (args .m) (args .n) (at-test .loop-test .taken) in
     omega arith
 
 loop-again : tie.Need-loop-again Inv-loop μ-loop
 loop-again c =
-    let a = c .before .before .before .before .before .before .before .before .args in
-    let l = c .before .before .before .before .before .loop in
-    let b = both-below (l .k) (a .m) (a .n) (c .before .before .before .before .loop-test .taken) in
-    let same = sym (ap₂ alike (entry-cut (a .a + 16 * l .k) (now (a .x))) (entry-cut (a .b + 16 * l .k) (now (a .y)))) ∙ sym (c .before .same-step .ensures) in
-    (omega arith, (omega arith, agree-on (a .a) (a .m) (now (a .x)) (a .b) (a .n) (now (a .y)) (l .k) (b .0) (b .1) (same ∙ not-false (c .before .same-step .result) (c .if1 .left)) ∙ l .inv .1 .1))
+    let at-same-step = c .before in
+    let same-step = at-same-step .same-step in
+    let at-test = at-same-step .before .before .before in
+    let at-loop = at-test .before in
+    let l = at-loop .loop in
+    let a = at-loop .before .before .before .args in
+    let b = both-below (l .k) (a .m) (a .n) (at-test .loop-test .taken) in
+    let same = sym (ap₂ alike (entry-cut (a .a + 16 * l .k) (now (a .x))) (entry-cut (a .b + 16 * l .k) (now (a .y)))) ∙ sym (same-step .ensures) in (
+      omega arith,
+      (
+        omega arith,
+        agree-on (a .a) (a .m) (now (a .x)) (a .b) (a .n) (now (a .y)) (l .k) (b .0) (b .1) (same ∙ not-false (same-step .result) (c .if1 .left))
+            ∙ l .inv .1 .1,
+      ),
+    )
 
 returns-2 : tie.Need-returns-2 Inv-loop μ-loop
 returns-2 c =
-    let a = c .before .before .before .before .args in
-    let l = c .before .loop in
+    let at-loop = c .before in
+    let l = at-loop .loop in
+    let a = at-loop .before .before .before .args in
     agree-end (a .a) (a .m) (now (a .x)) (a .b) (a .n) (now (a .y)) (l .k) (c .loop-test .left) ∙ l .inv .1 .1
 
 pub alike-from-spec : {M : Type 1} → statement M

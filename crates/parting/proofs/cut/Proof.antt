@@ -35,8 +35,10 @@ part-result-end-2 c = search needs
 
 returns-2 : tie.Need-returns-2
 returns-2 c =
-    let a = c .before .before .before .args in
-    past-end (a .start) (a .count) (now (a .s)) (c .before .before .if1 .left) (c .before .if2 .taken)
+    let at-if2 = c .before in
+    let at-if1 = at-if2 .before in
+    let a = at-if1 .before .args in
+    past-end (a .start) (a .count) (now (a .s)) (at-if1 .if1 .left) (at-if2 .if2 .taken)
 
 mul-result : tie.Need-mul-result
 mul-result c = search needs
@@ -55,8 +57,10 @@ part-result-end-3 c = search needs
 
 returns-3 : tie.Need-returns-3
 returns-3 c =
-    let a = c .before .before .before .args in
-    lies-in (a .start) (a .count) (now (a .s)) (c .before .before .if1 .left) (omega (arith, c .before .if2 .left))
+    let at-if2 = c .before in
+    let at-if1 = at-if2 .before in
+    let a = at-if1 .before .args in
+    lies-in (a .start) (a .count) (now (a .s)) (at-if1 .if1 .left) (omega (arith, at-if2 .if2 .left))
 
 pub cut-spec : {M : Type 1} → statement M
 cut-spec =

@@ -35,8 +35,9 @@ loop-less c = search needs
 
 loop-again : tie.Need-loop-again Inv-loop μ-loop
 loop-again c =
-    let a = c .before .before .before .before .args in
-    let l = c .before .before .before .loop in
+    let at-loop = c .before .before .before in
+    let l = at-loop .loop in
+    let a = at-loop .before .args in
     (l .inv .0, (l .inv .1 .0, equal-turn (l .ok) (now (a .a)) (now (a .b)) (l .i) (omega arith) (omega arith) ∙ l .inv .1 .1))
 
 returns : tie.Need-returns Inv-loop μ-loop

@@ -23,8 +23,10 @@ refused-requires c κs = search needs
 
 returns : tie.Need-returns
 returns c =
-    let a = c .before .before .before .before .before .before .args in
-    c .refused .ensures ∙ no-first (now (a .first)) (now (a .second)) (sym (c .before .enum-told .given .1) ∙ c .before .before .before .read-section .ensures)
+    let at-enum-told = c .before in
+    let at-read-section = at-enum-told .before .before in
+    let a = at-read-section .before .before .before .args in
+    c .refused .ensures ∙ no-first (now (a .first)) (now (a .second)) (sym (at-enum-told .enum-told .given .1) ∙ at-read-section .read-section .ensures)
 
 read-section-requires-2 : tie.Need-read-section-requires-2
 read-section-requires-2 c κs = search needs
@@ -40,31 +42,49 @@ refused-requires-2 c κs = search needs
 
 returns-2 : tie.Need-returns-2
 returns-2 c =
-    let a = c .before .before .before .before .before .before .before .before .before .before .args in
-    let one = sym (c .before .before .before .before .before .a .given .1) ∙ c .before .before .before .before .before .before .before .read-section .ensures in
-    c .refused2 .ensures ∙ no-second (now (a .first)) (now (a .second)) _ _ one (sym (c .before .enum-told2 .given .1) ∙ c .before .before .before .read-section2 .ensures)
+    let at-enum-told2 = c .before in
+    let at-read-section2 = at-enum-told2 .before .before in
+    let at-a = at-read-section2 .before .before in
+    let at-read-section = at-a .before .before in
+    let a = at-read-section .before .before .before .args in
+    let one = sym (at-a .a .given .1) ∙ at-read-section .read-section .ensures in
+    c .refused2 .ensures
+    ∙ no-second (now (a .first)) (now (a .second)) _ _ one (sym (at-enum-told2 .enum-told2 .given .1) ∙ at-read-section2 .read-section2 .ensures)
 
 alike-from-requires : tie.Need-alike-from-requires
 alike-from-requires c κs =
-    let a = c .before .before .before .before .before .before .before .before .before .before .args in
-    let one = lies (now (a .first)) _ _ (sym (c .before .before .before .before .before .a .given .1) ∙ c .before .before .before .before .before .before .before .read-section .ensures) in
-    let two = lies (now (a .second)) _ _ (sym (c .before .b .given .1) ∙ c .before .before .before .read-section2 .ensures) in
+    let at-b = c .before in
+    let at-read-section2 = at-b .before .before in
+    let at-a = at-read-section2 .before .before in
+    let at-read-section = at-a .before .before in
+    let a = at-read-section .before .before .before .args in
+    let one = lies (now (a .first)) _ _ (sym (at-a .a .given .1) ∙ at-read-section .read-section .ensures) in
+    let two = lies (now (a .second)) _ _ (sym (at-b .b .given .1) ∙ at-read-section2 .read-section2 .ensures) in
     (one, two)
 
 place-by-requires : tie.Need-place-by-requires
 place-by-requires c κs =
-    let a = c .before .before .before .before .before .before .before .before .before .before .before .args in
-    let one = lies (now (a .first)) _ _ (sym (c .before .before .before .before .before .before .a .given .1) ∙ c .before .before .before .before .before .before .before .before .read-section .ensures) in
-    let two = lies (now (a .second)) _ _ (sym (c .before .before .b .given .1) ∙ c .before .before .before .before .read-section2 .ensures) in
+    let at-b = c .before .before in
+    let at-read-section2 = at-b .before .before in
+    let at-a = at-read-section2 .before .before in
+    let at-read-section = at-a .before .before in
+    let a = at-read-section .before .before .before .args in
+    let one = lies (now (a .first)) _ _ (sym (at-a .a .given .1) ∙ at-read-section .read-section .ensures) in
+    let two = lies (now (a .second)) _ _ (sym (at-b .b .given .1) ∙ at-read-section2 .read-section2 .ensures) in
     let most = within-both (c .alike-from .result) _ _ _ _ (c .alike-from .ensures) in
     search needs
 
 returns-3 : tie.Need-returns-3
 returns-3 c =
-    let a = c .before .before .before .before .before .before .before .before .before .before .before .before .args in
-    let one = sym (c .before .before .before .before .before .before .before .a .given .1) ∙ c .before .before .before .before .before .before .before .before .before .read-section .ensures in
-    let two = sym (c .before .before .before .b .given .1) ∙ c .before .before .before .before .before .read-section2 .ensures in
-    c .place-by .ensures ∙ both-read (now (a .first)) (now (a .second)) _ _ _ _ _ one two (c .before .alike-from .ensures)
+    let at-alike-from = c .before in
+    let at-b = at-alike-from .before .before in
+    let at-read-section2 = at-b .before .before in
+    let at-a = at-read-section2 .before .before in
+    let at-read-section = at-a .before .before in
+    let a = at-read-section .before .before .before .args in
+    let one = sym (at-a .a .given .1) ∙ at-read-section .read-section .ensures in
+    let two = sym (at-b .b .given .1) ∙ at-read-section2 .read-section2 .ensures in
+    c .place-by .ensures ∙ both-read (now (a .first)) (now (a .second)) _ _ _ _ _ one two (at-alike-from .alike-from .ensures)
 
 pub parting-spec : {M : Type 1} → statement M
 parting-spec =

@@ -59,9 +59,11 @@ equal-bytes-requires c κs = search needs
 
 returns : tie.Need-returns
 returns c =
+    let get2 = c .before .before .before .get2 in
+    let get = c .before .before .before .before .get in
     let a = c .before .before .before .before .before .before .before .before .before .before .before .before .before .before .before .args in
-    same-made (now (a .e)) (now (a .f)) (c .before .before .before .before .get .result) (c .before .before .before .get2 .result) (c .equal-bytes .result)
-    (search needs) (search needs) (c .before .before .before .before .get .ensures .0) (c .before .before .before .get2 .ensures .0) (c .equal-bytes .ensures)
+    same-made (now (a .e)) (now (a .f)) (get .result) (get2 .result) (c .equal-bytes .result)
+    (search needs) (search needs) (get .ensures .0) (get2 .ensures .0) (c .equal-bytes .ensures)
 
 pub same-step-spec : {M : Type 1} → statement M
 same-step-spec =

@@ -19,7 +19,13 @@ same-length : tie.Need-same-length
 same-length c = search needs
 
 returns : tie.Need-returns
-returns c = lent-told _ _ _ _ (c .numbers .ensures) (c .before .before .before .fresh .ensures ∙ ap (λ (z : ℤ). freshInto (c .before .before .before .before .before .before .args .board) (c .before .before .before .before .before .before .args .nominal) z (c .before .before .before .before .before .before .args .frequency) (c .before .before .before .before .before .before .args .rate) (now (c .before .before .before .before .before .before .args .next))) (toZ-ofZ (c .before .before .before .before .before .before .fits .ppm)))
+returns c =
+    let at-fresh = c .before .before .before in
+    let start = at-fresh .before .before .before in
+    let args = start .args in
+    lent-told _ _ _ _ (c .numbers .ensures)
+    (at-fresh .fresh .ensures
+    ∙ ap (λ (z : ℤ). freshInto (args .board) (args .nominal) z (args .frequency) (args .rate) (now (args .next))) (toZ-ofZ (start .fits .ppm)))
 
 pub pasetone-driver-new-spec : {M : Type 1} → statement M
 pasetone-driver-new-spec = tie.close (tie.spec fresh-requires numbers-requires same-length returns)

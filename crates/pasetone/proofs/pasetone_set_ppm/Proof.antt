@@ -19,8 +19,10 @@ same-length-2 c = search needs
 
 returns : tie.Need-returns
 returns c =
-    let a = c .before .before .before .before .before .before .before .before .before .args in
-    c .before .before .before .before .set-ppm .ensures ∙ ap (λ (z : ℤ). correctOver z (now (a .tuner)) (now (a .driver))) (toZ-ofZ (c .before .before .before .before .before .before .before .before .before .fits .ppm))
+    let at-set-ppm = c .before .before .before .before in
+    let start = at-set-ppm .before .before .before .before .before in
+    let a = start .args in
+    at-set-ppm .set-ppm .ensures ∙ ap (λ (z : ℤ). correctOver z (now (a .tuner)) (now (a .driver))) (toZ-ofZ (start .fits .ppm))
 
 pub pasetone-set-ppm-spec : {M : Type 1} → statement M
 pasetone-set-ppm-spec = tie.close (tie.spec set-ppm-requires same-length same-length-2 returns)

@@ -20,8 +20,12 @@ same-length c = search needs
 
 returns : tie.Need-returns
 returns c =
-    let a = c .before .before .before .before .before .before .args in
-    lent-told _ _ _ _ (c .numbers .ensures) (c .before .before .before .write-1 .ensures ∙ ap (λ (z : ℤ). writtenTo1 (settings (a .kind) (a .board) z (a .rate) (a .frequency) (a .gain)) (now (a .out))) (toZ-ofZ (c .before .before .before .before .before .before .fits .correction)))
+    let at-write-1 = c .before .before .before in
+    let start = at-write-1 .before .before .before in
+    let a = start .args in
+    lent-told _ _ _ _ (c .numbers .ensures)
+    (at-write-1 .write-1 .ensures
+    ∙ ap (λ (z : ℤ). writtenTo1 (settings (a .kind) (a .board) z (a .rate) (a .frequency) (a .gain)) (now (a .out))) (toZ-ofZ (start .fits .correction)))
 
 pub pasetone-write-settings-1-spec : {M : Type 1} → statement M
 pasetone-write-settings-1-spec =

@@ -21,8 +21,13 @@ same-length c = search needs
 
 returns : tie.Need-returns
 returns c =
-    let a = c .before .before .before .before .before .before .args in
-    lent-told _ _ _ _ (c .numbers .ensures) (c .before .before .before .write-2 .ensures ∙ ap (λ (z : ℤ). writtenTo2 (wider (settings (a .kind) (a .board) z (a .rate) (a .frequency) (a .gain)) (a .intermediate)) (now (a .out))) (toZ-ofZ (c .before .before .before .before .before .before .fits .correction)))
+    let at-write-2 = c .before .before .before in
+    let start = at-write-2 .before .before .before in
+    let a = start .args in
+    lent-told _ _ _ _ (c .numbers .ensures)
+    (at-write-2 .write-2 .ensures
+    ∙ ap (λ (z : ℤ). writtenTo2 (wider (settings (a .kind) (a .board) z (a .rate) (a .frequency) (a .gain)) (a .intermediate)) (now (a .out)))
+    (toZ-ofZ (start .fits .correction)))
 
 pub pasetone-write-settings-2-spec : {M : Type 1} → statement M
 pasetone-write-settings-2-spec =

@@ -39,8 +39,10 @@ loop-less c = omega arith
 
 loop-again : tie.Need-loop-again Inv-loop μ-loop
 loop-again c =
-    let l = c .before .before .loop in
-    let k : ℕ = c .before .before .before .args .k in
+    let at-loop = c .before .before in
+    let l = at-loop .loop in
+    let start = at-loop .before in
+    let k : ℕ = start .args .k in
     let more : 0 < l .left = omega arith in (
       ap (turnsOf (l .left - 1) k (l .n * 2)) (c .turn .ensures) ∙ sym (turns-on (l .left) k (l .n) (l .s) more) ∙ l .inv .0,
       omega (arith, l .inv .1),

@@ -29,15 +29,25 @@ returns-2 : tie.Need-returns-2
 returns-2 c = sym (no-divider _ _ _ (sym (c .before .before .divider .ensures) ∙ c .enum-told .given .1))
 
 -- in the arm of the divider: it is the definition's, and lo·m is below 3,600,000,000
-came : (c : tie.After-known-told) → dividerOf (c .before .before .before .before .before .args .lo) ≡ By (c .before .m .given .0 .0) (c .before .m .given .0 .1 .0)
-came c = sym (c .before .before .before .divider .ensures) ∙ c .before .m .given .1
+came :
+    (c : tie.After-known-told) → dividerOf (c .before .before .before .before .before .args .lo) ≡ By (c .before .m .given .0 .0) (c .before .m .given .0 .1 .0)
+came c =
+    let at-m = c .before in
+    let at-divider = at-m .before .before in
+    sym (at-divider .divider .ensures) ∙ at-m .m .given .1
 
 bounded : (c : tie.After-known-told) → c .before .before .before .before .before .args .lo * c .before .m .given .0 .0 < 3_600_000_000
 bounded c = found _ _ _ (came c) .high
 
 -- where the cap was passed: N is below 128
-within : (c : tie.Else3) → c .before .before .before .before .before .before .before .before .args .lo * c .before .before .before .before .m .given .0 .0 / (2 * c .before .before .before .before .before .before .before .before .args .r) < 128
-within c = omega (arith, c .if3 .left, c .before .cap .ensures, cap-most (c .before .before .before .before .before .before .before .before .args .kind))
+within : (c : tie.Else3)
+    → c .before .before .before .before .before .before .before .before .args .lo
+    * c .before .before .before .before .m .given .0 .0 / (2 * c .before .before .before .before .before .before .before .before .args .r)
+    < 128
+within c =
+    let at-cap = c .before in
+    let start = at-cap .before .before .before .before .before .before .before in
+    omega (arith, c .if3 .left, at-cap .cap .ensures, cap-most (start .args .kind))
 
 mul-vco : tie.Need-mul-vco
 mul-vco c = omega (arith, bounded c)
@@ -56,14 +66,20 @@ cap-requires c κs = search needs
 
 returns-4 : tie.Need-returns-4
 returns-4 c =
-    sym (too-fast _ _ _ _ _ (came (c .before .before .before)) (c .before .before .if2 .left) (omega (arith, c .if3 .taken, c .before .cap .ensures)))
+    let at-cap = c .before in
+    let at-if2 = at-cap .before in
+    let earlier = at-if2 .before in
+    sym (too-fast _ _ _ _ _ (came (earlier)) (at-if2 .if2 .left) (omega (arith, c .if3 .taken, at-cap .cap .ensures)))
 
 mul-f : tie.Need-mul-f
 mul-f c = search needs
 
 mul-f-2 : tie.Need-mul-f-2
 mul-f-2 c =
-    omega (arith, bounded (c .before .before .before), mul-div-le (c .before .before .before .before .before .before .before .before .args .lo * c .before .before .before .before .m .given .0 .0) (2 * c .before .before .before .before .before .before .before .before .args .r))
+    let earlier = c .before .before .before in
+    let at-m = earlier .before in
+    let args = at-m .before .before .before .before .args in
+    omega (arith, bounded (earlier), mul-div-le (args .lo * at-m .m .given .0 .0) (2 * args .r))
 
 sub-f : tie.Need-sub-f
 sub-f c = mul-div-le _ _
@@ -82,9 +98,15 @@ cast-short c = record { fits = subst (λ (s : Sum). s .sum < 2 ^ 16) (sym (c .fr
 
 returns-5 : tie.Need-returns-5
 returns-5 c =
-    put-together _ _ _ _ _ _ (c .before .setting .ensures) (c .fraction .ensures)
+    let at-setting = c .before in
+    let at-if3 = at-setting .before in
+    let at-cap = at-if3 .before in
+    let at-if2 = at-cap .before in
+    let earlier = at-if2 .before in
+    let at-if1 = earlier .before .before .before .before in
+    put-together _ _ _ _ _ _ (at-setting .setting .ensures) (c .fraction .ensures)
     ∙ sym
-    (planned _ _ _ _ _ (c .before .before .before .before .before .before .before .before .before .if1 .left) (came (c .before .before .before .before .before)) (c .before .before .before .before .if2 .left) (omega (arith, c .before .before .if3 .left, c .before .before .before .cap .ensures)))
+    (planned _ _ _ _ _ (at-if1 .if1 .left) (came (earlier)) (at-if2 .if2 .left) (omega (arith, at-if3 .if3 .left, at-cap .cap .ensures)))
 
 pub plan-pll-spec : {M : Type 1} → statement M
 plan-pll-spec =

@@ -32,9 +32,12 @@ wraps n b r hn hb hr e = omega arith
 returns : tie.Need-returns
 unfolding settingOf
 returns c =
-    let n : ℕ = c .before .before .args .n in
-    let a : ℕ = c .before .quarter .result in
-    let q : a ≡ quarterOf n = c .before .quarter .ensures in
+    let at-quarter = c .before in
+    let quarter = at-quarter .quarter in
+    let start = at-quarter .before in
+    let n : ℕ = start .args .n in
+    let a : ℕ = quarter .result in
+    let q : a ≡ quarterOf n = quarter .ensures in
     let s : ℕ = c .wrapping-sub-u8 .result in
     let w : s ≡ (n + 256 - (13 + 4 * a)) % 256 = wraps n (13 + 4 * a) s (omega arith) (omega arith) (omega arith) (c .wrapping-sub-u8 .ensures) in
     ap₂ bitOr q (ap (λ (x : ℕ). x * 64 % 256) w ∙ ap (λ (x : ℕ). (n + 256 - (13 + 4 * x)) % 256 * 64 % 256) q)

@@ -30,7 +30,9 @@ div-weight : tie.Need-div-weight
 div-weight c = search needs
 
 add-t9 : tie.Need-add-t9
-add-t9 c = omega (arith, div-le-self 32_768 (c .before .before .before .before .args .n / 2))
+add-t9 c =
+    let start = c .before .before .before .before in
+    omega (arith, div-le-self 32_768 (start .args .n / 2))
 
 sub-t10 : tie.Need-sub-t10
 sub-t10 c = search needs
@@ -38,7 +40,10 @@ sub-t10 c = search needs
 returns-4 : tie.Need-returns-4
 unfolding turnOf
 returns-4 c =
-    simp (c .before .before .before .if1 .left, lt-ltb _ _ (c .before .before .if2 .left), lt-ltb _ _ (c .before .if3 .left))
+    let at-if3 = c .before in
+    let at-if2 = at-if3 .before in
+    let at-if1 = at-if2 .before in
+    simp (at-if1 .if1 .left, lt-ltb _ _ (at-if2 .if2 .left), lt-ltb _ _ (at-if3 .if3 .left))
 
 pub turn-spec : {M : Type 1} → statement M
 turn-spec =

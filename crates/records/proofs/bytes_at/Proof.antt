@@ -31,12 +31,13 @@ copy-requires c κs = search needs
 
 returns : tie.Need-returns
 returns c =
-    let a = c .before .before .before .before .before .args in
+    let at-copy = c .before in
+    let a = at-copy .before .before .before .before .args in
     let part = drop (a .at) (now (a .b)) in
     let wide : a .at + 27 - a .at ≡ 27 = omega arith in
     let left : length part ≡ length (now (a .b)) - a .at = length-drop (a .at) (now (a .b)) in
     let long : length (take 27 part) ≡ 27 = length-take 27 part ∙ omega arith in
-    c .before .copy .ensures ∙ ap (λ k. sets (replicate 27 0) 0 (take k part)) wide ∙ sets-whole (replicate 27 0) (take 27 part) long
+    at-copy .copy .ensures ∙ ap (λ k. sets (replicate 27 0) 0 (take k part)) wide ∙ sets-whole (replicate 27 0) (take 27 part) long
 
 pub bytes-at-spec : {M : Type 1} → statement M
 bytes-at-spec =

@@ -20,7 +20,10 @@ flags-at-requires c κs = search needs
 
 returns : tie.Need-returns
 returns c =
-    chip-made (now (c .before .before .before .before .args .b)) _ _ _ (c .before .before .get .ensures .0) (c .before .bytes-at .ensures) (c .flags-at .ensures)
+    let at-bytes-at = c .before in
+    let at-get = at-bytes-at .before in
+    let start = at-get .before .before in
+    chip-made (now (start .args .b)) _ _ _ (at-get .get .ensures .0) (at-bytes-at .bytes-at .ensures) (c .flags-at .ensures)
 
 pub chip-in-spec : {M : Type 1} → statement M
 chip-in-spec =

@@ -22,11 +22,22 @@ xtal-by-requires c κs = search needs
 
 returns-2 : tie.Need-returns-2
 returns-2 c =
-    driver-bad (now (c .before .before .before .before .before .before .before .args .b)) _ (c .before .before .before .before .before .if1 .left) (driver-tested (now (c .before .before .before .before .before .before .before .args .b)) _ _ _ (c .before .before .before .get .ensures .0) (c .before .before .before .before .driver-in .ensures) (search needs) (c .before .xtal-by .ensures)) (not-true _ (c .if2 .taken))
+    let get = c .before .before .before .get in
+    let driver-in = c .before .before .before .before .driver-in in
+    let if1 = c .before .before .before .before .before .if1 in
+    let args = c .before .before .before .before .before .before .before .args in
+    driver-bad (now (args .b)) _ (if1 .left)
+    (driver-tested (now (args .b)) _ _ _ (get .ensures .0) (driver-in .ensures) (search needs) (c .before .xtal-by .ensures)) (not-true _ (c .if2 .taken))
 
 returns-3 : tie.Need-returns-3
 returns-3 c =
-    driver-good (now (c .before .before .before .before .before .before .before .args .b)) _ _ (c .before .before .before .before .before .if1 .left) (driver-tested (now (c .before .before .before .before .before .before .before .args .b)) _ _ _ (c .before .before .before .get .ensures .0) (c .before .before .before .before .driver-in .ensures) (search needs) (c .before .xtal-by .ensures)) (not-false _ (c .if2 .left)) (c .before .before .before .before .driver-in .ensures)
+    let get = c .before .before .before .get in
+    let driver-in = c .before .before .before .before .driver-in in
+    let if1 = c .before .before .before .before .before .if1 in
+    let args = c .before .before .before .before .before .before .before .args in
+    driver-good (now (args .b)) _ _ (if1 .left)
+    (driver-tested (now (args .b)) _ _ _ (get .ensures .0) (driver-in .ensures) (search needs) (c .before .xtal-by .ensures)) (not-false _ (c .if2 .left))
+    (driver-in .ensures)
 
 pub decode-driver-spec : {M : Type 1} → statement M
 decode-driver-spec =

@@ -12,21 +12,31 @@ new-requires c κs = search needs
 
 returns : tie.Need-returns
 returns c =
-    no-length (now (c .before .before .before .before .args .b)) _ (c .before .before .new .ensures) (c .if1 .taken)
+    let at-new = c .before .before in
+    let start = at-new .before .before in
+    no-length (now (start .args .b)) _ (at-new .new .ensures) (c .if1 .taken)
 
 tuner-fits-requires : tie.Need-tuner-fits-requires
 tuner-fits-requires c κs = search needs
 
 returns-2 : tie.Need-returns-2
 returns-2 c =
-    no-fit (now (c .before .before .before .before .before .before .args .b)) _ (c .before .before .before .before .new .ensures) _ (c .before .before .if1 .left) (c .before .tuner-fits .ensures) (not-true _ (c .if2 .taken))
+    let at-tuner-fits = c .before in
+    let at-if1 = at-tuner-fits .before in
+    let at-new = at-if1 .before .before in
+    let start = at-new .before .before in
+    no-fit (now (start .args .b)) _ (at-new .new .ensures) _ (at-if1 .if1 .left) (at-tuner-fits .tuner-fits .ensures) (not-true _ (c .if2 .taken))
 
 tuner-in-requires : tie.Need-tuner-in-requires
 tuner-in-requires c κs = search needs
 
 returns-3 : tie.Need-returns-3
 returns-3 c =
-    whole (now (c .before .before .before .before .before .before .before .args .b)) _ _ (c .before .before .before .if1 .left) (c .before .before .tuner-fits .ensures) (not-false _ (c .before .if2 .left)) (c .tuner-in .ensures)
+    let at-if2 = c .before in
+    let at-tuner-fits = at-if2 .before in
+    let at-if1 = at-tuner-fits .before in
+    let start = at-if1 .before .before .before .before in
+    whole (now (start .args .b)) _ _ (at-if1 .if1 .left) (at-tuner-fits .tuner-fits .ensures) (not-false _ (at-if2 .if2 .left)) (c .tuner-in .ensures)
 
 pub decode-tuner-spec : {M : Type 1} → statement M
 decode-tuner-spec =

@@ -48,11 +48,28 @@ field-requires-6 c κs = search needs
 
 returns : tie.Need-returns
 returns c =
-    let d = c .before .before .before .before .before .before .before .before .before .before .before .before .before .before .before .before .before .args .d in
+    let d =
+    c .before .before .before .before .before .before .before .before .before .before .before .before .before .before .before .before .before .args .d in
     let small : SFits w32 (d .ppm) = search needs in
-    let bits : c .before .before .before .before .before .before .before .before .to-bits .result ≡ ofZ w32 (d .ppm) = c .before .before .before .before .before .before .before .before .to-bits .ensures ∙ ap (ofZ w32) (toZ-ofZ small) in
-    rw (c .field6 .ensures, c .before .before .field5 .ensures, c .before .before .before .before .before .field4 .ensures, c .before .before .before .before .before .before .before .field3 .ensures, bits, c .before .before .before .before .before .before .before .before .before .before .before .field2 .ensures, c .before .before .before .before .before .before .before .before .before .before .before .before .before .before .field .ensures, c .before .before .before .before .before .before .before .before .before .before .before .before .before .before .before .board-number .ensures)
-    (driver-image-whole d (replicate 29 0) refl)
+    let at-field5 = c .before .before in
+    let at-field4 = at-field5 .before .before .before in
+    let at-field3 = at-field4 .before .before in
+    let at-to-bits = at-field3 .before in
+    let to-bits = at-to-bits .to-bits in
+    let at-field2 = at-to-bits .before .before .before in
+    let at-field = at-field2 .before .before .before in
+    let at-board-number = at-field .before in
+    let bits : to-bits .result ≡ ofZ w32 (d .ppm) = to-bits .ensures ∙ ap (ofZ w32) (toZ-ofZ small) in
+    rw (
+      c .field6 .ensures,
+      at-field5 .field5 .ensures,
+      at-field4 .field4 .ensures,
+      at-field3 .field3 .ensures,
+      bits,
+      at-field2 .field2 .ensures,
+      at-field .field .ensures,
+      at-board-number .board-number .ensures,
+    ) (driver-image-whole d (replicate 29 0) refl)
 
 pub driver-image-spec : {M : Type 1} → statement M
 driver-image-spec =

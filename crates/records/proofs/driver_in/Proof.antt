@@ -41,7 +41,17 @@ get-requires-6 c κs = search needs
 
 returns : tie.Need-returns
 returns c =
-    driver-made (now (c .before .before .before .before .before .before .before .before .before .args .b)) _ _ _ _ _ _ _ _ (c .before .before .before .before .before .before .before .get .ensures .0) (c .before .before .before .before .before .before .board-from .ensures) (c .before .before .before .before .before .get2 .ensures .0) (c .before .before .before .before .get3 .ensures .0) (c .before .before .before .before .get3 .ensures .1) (c .before .before .before .to-signed .ensures) (c .before .before .get4 .ensures .0) (c .before .get5 .ensures .0) (c .get6 .ensures .0)
+    let at-get5 = c .before in
+    let at-get4 = at-get5 .before in
+    let at-to-signed = at-get4 .before in
+    let at-get3 = at-to-signed .before in
+    let get3 = at-get3 .get3 in
+    let at-get2 = at-get3 .before in
+    let at-board-from = at-get2 .before in
+    let at-get = at-board-from .before in
+    let start = at-get .before .before in
+    driver-made (now (start .args .b)) _ _ _ _ _ _ _ _ (at-get .get .ensures .0) (at-board-from .board-from .ensures) (at-get2 .get2 .ensures .0)
+    (get3 .ensures .0) (get3 .ensures .1) (at-to-signed .to-signed .ensures) (at-get4 .get4 .ensures .0) (at-get5 .get5 .ensures .0) (c .get6 .ensures .0)
 
 pub driver-in-spec : {M : Type 1} → statement M
 driver-in-spec =

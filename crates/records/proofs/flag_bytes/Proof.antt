@@ -40,11 +40,24 @@ loop-less c = search needs
 
 loop-again : tie.Need-loop-again Inv-loop μ-loop
 loop-again c =
-    (c .before .before .loop .inv .0, (search needs, ap (λ x. sets (set (c .before .before .loop .image) (c .before .before .loop .i) x) (c .before .before .loop .i + 1) (map flagByte (drop (c .before .before .loop .i + 1) (c .before .before .before .args .t1)))) (c .flag-byte .ensures) ∙ store-turn flagByte (c .before .before .loop .image) (c .before .before .loop .i) (c .before .before .before .args .t1) false (omega arith) ∙ c .before .before .loop .inv .1 .1))
+    let at-loop = c .before .before in
+    let loop = at-loop .loop in
+    let args = at-loop .before .args in (
+      loop .inv .0,
+      (
+        search needs,
+        ap (λ x. sets (set (loop .image) (loop .i) x) (loop .i + 1) (map flagByte (drop (loop .i + 1) (args .t1)))) (c .flag-byte .ensures)
+            ∙ store-turn flagByte (loop .image) (loop .i) (args .t1) false (omega arith)
+            ∙ loop .inv .1 .1,
+      ),
+    )
 
 returns : tie.Need-returns Inv-loop μ-loop
 returns c =
-    store-end flagByte (c .before .loop .image) (c .before .loop .i) (c .before .before .args .t1) (omega arith) ∙ c .before .loop .inv .1 .1
+    let at-loop = c .before in
+    let loop = at-loop .loop in
+    let start = at-loop .before in
+    store-end flagByte (loop .image) (loop .i) (start .args .t1) (omega arith) ∙ loop .inv .1 .1
 
 pub flag-bytes-spec : {M : Type 1} → statement M
 flag-bytes-spec =

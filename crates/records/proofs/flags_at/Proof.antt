@@ -40,11 +40,17 @@ loop-less c = search needs
 
 loop-again : tie.Need-loop-again Inv-loop μ-loop
 loop-again c =
-    (c .before .loop .inv .0, (search needs, store-turn flagRead (c .before .loop .flags) (c .before .loop .i) (c .before .before .bytes-at .result) 0 (omega arith) ∙ c .before .loop .inv .1 .1))
+    let at-loop = c .before in
+    let loop = at-loop .loop in
+    let at-bytes-at = at-loop .before in
+    (loop .inv .0, (search needs, store-turn flagRead (loop .flags) (loop .i) (at-bytes-at .bytes-at .result) 0 (omega arith) ∙ loop .inv .1 .1))
 
 returns : tie.Need-returns Inv-loop μ-loop
 returns c =
-    store-end flagRead (c .before .loop .flags) (c .before .loop .i) (c .before .before .bytes-at .result) (omega arith) ∙ c .before .loop .inv .1 .1 ∙ ap (map flagRead) (c .before .before .bytes-at .ensures)
+    let at-loop = c .before in
+    let loop = at-loop .loop in
+    let bytes-at = at-loop .before .bytes-at in
+    store-end flagRead (loop .flags) (loop .i) (bytes-at .result) (omega arith) ∙ loop .inv .1 .1 ∙ ap (map flagRead) (bytes-at .ensures)
 
 pub flags-at-spec : {M : Type 1} → statement M
 flags-at-spec =

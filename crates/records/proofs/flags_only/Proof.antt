@@ -34,11 +34,17 @@ loop-less c = search needs
 
 loop-again : tie.Need-loop-again Inv-loop μ-loop
 loop-again c =
-    (c .before .loop .inv .0, flags-turn (c .before .loop .ok) (c .before .before .bytes-at .result) (c .before .loop .i) (omega arith) ∙ c .before .loop .inv .1)
+    let at-loop = c .before in
+    let loop = at-loop .loop in
+    let at-bytes-at = at-loop .before in
+    (loop .inv .0, flags-turn (loop .ok) (at-bytes-at .bytes-at .result) (loop .i) (omega arith) ∙ loop .inv .1)
 
 returns : tie.Need-returns Inv-loop μ-loop
 returns c =
-    flags-end (c .before .loop .ok) (c .before .before .bytes-at .result) (c .before .loop .i) (omega arith) ∙ c .before .loop .inv .1 ∙ ap flagsOnly (c .before .before .bytes-at .ensures)
+    let at-loop = c .before in
+    let loop = at-loop .loop in
+    let bytes-at = at-loop .before .bytes-at in
+    flags-end (loop .ok) (bytes-at .result) (loop .i) (omega arith) ∙ loop .inv .1 ∙ ap flagsOnly (bytes-at .ensures)
 
 pub flags-only-spec : {M : Type 1} → statement M
 flags-only-spec =

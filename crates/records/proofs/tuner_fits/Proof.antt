@@ -32,7 +32,16 @@ flags-only-requires c κs = search needs
 
 returns : tie.Need-returns
 returns c =
-    fits-made (now (c .before .before .before .before .before .before .before .before .before .args .b)) _ _ _ _ _ _ _ _ (c .before .before .before .before .before .before .before .get .ensures .0) (c .before .before .before .before .before .before .get2 .ensures .0) (c .before .before .before .before .before .get3 .ensures .0) (c .before .before .before .before .get4 .ensures .0) (c .before .before .before .get5 .ensures .0) (c .before .before .proper-gain .ensures) (c .before .get6 .ensures .0) (c .flags-only .ensures)
+    let at-get6 = c .before in
+    let at-proper-gain = at-get6 .before in
+    let at-get5 = at-proper-gain .before in
+    let at-get4 = at-get5 .before in
+    let at-get3 = at-get4 .before in
+    let at-get2 = at-get3 .before in
+    let at-get = at-get2 .before in
+    let start = at-get .before .before in
+    fits-made (now (start .args .b)) _ _ _ _ _ _ _ _ (at-get .get .ensures .0) (at-get2 .get2 .ensures .0) (at-get3 .get3 .ensures .0)
+    (at-get4 .get4 .ensures .0) (at-get5 .get5 .ensures .0) (at-proper-gain .proper-gain .ensures) (at-get6 .get6 .ensures .0) (c .flags-only .ensures)
 
 pub tuner-fits-spec : {M : Type 1} → statement M
 tuner-fits-spec =

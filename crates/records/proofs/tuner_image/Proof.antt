@@ -77,10 +77,43 @@ list-requires-2 c κs = search needs
 
 returns : tie.Need-returns
 returns c =
-    let start = c .before .before .before .before .before .before .before .before .before .before .before .before .before .before .before .before .before .before .before .before .before .before .before .before .before .before .before .before .before .before .before in
-    let doubtful : length (map flagByte (start .args .t .chip .doubtful)) ≡ 27 = ap length (sym (c .before .flag-bytes .ensures)) ∙ c .list2 .ensures .1 in
-    rw (c .list2 .ensures .0, c .before .flag-bytes .ensures, c .before .before .before .number8 .ensures, c .before .before .before .before .flag-byte2 .ensures, c .before .before .before .before .before .before .number7 .ensures, c .before .before .before .before .before .before .before .before .number6 .ensures, c .before .before .before .before .before .before .before .before .before .bits-of .ensures, c .before .before .before .before .before .before .before .before .before .before .before .number5 .ensures, c .before .before .before .before .before .before .before .before .before .before .before .before .flag-byte .ensures, c .before .before .before .before .before .before .before .before .before .before .before .before .before .before .number4 .ensures, c .before .before .before .before .before .before .before .before .before .before .before .before .before .before .before .before .before .number3 .ensures, c .before .before .before .before .before .before .before .before .before .before .before .before .before .before .before .before .before .before .before .before .list .ensures .0, c .before .before .before .before .before .before .before .before .before .before .before .before .before .before .before .before .before .before .before .before .before .before .number2 .ensures, c .before .before .before .before .before .before .before .before .before .before .before .before .before .before .before .before .before .before .before .before .before .before .before .before .before .number .ensures, c .before .before .before .before .before .before .before .before .before .before .before .before .before .before .before .before .before .before .before .before .before .before .before .before .before .before .kind-number .ensures)
-    (image-whole (start .args .t) (replicate 78 0) (record { shadow = c .before .before .before .before .before .before .before .before .before .before .before .before .before .before .before .before .before .before .before .before .list .ensures .1; doubtful = sym (length-map (start .args .t .chip .doubtful) flagByte) ∙ doubtful }) refl)
+    let at-flag-bytes = c .before in
+    let flag-bytes = at-flag-bytes .flag-bytes in
+    let at-number8 = at-flag-bytes .before .before in
+    let at-flag-byte2 = at-number8 .before in
+    let at-number7 = at-flag-byte2 .before .before in
+    let at-number6 = at-number7 .before .before in
+    let at-bits-of = at-number6 .before in
+    let at-number5 = at-bits-of .before .before in
+    let at-flag-byte = at-number5 .before in
+    let at-number4 = at-flag-byte .before .before in
+    let at-number3 = at-number4 .before .before .before in
+    let at-list = at-number3 .before .before .before in
+    let list = at-list .list in
+    let at-number2 = at-list .before .before in
+    let at-number = at-number2 .before .before .before in
+    let at-kind-number = at-number .before in
+    let start = at-kind-number .before .before .before .before .before in
+    let args = start .args in
+    let chip-doubtful = args .t .chip .doubtful in
+    let doubtful : length (map flagByte chip-doubtful) ≡ 27 = ap length (sym (flag-bytes .ensures)) ∙ c .list2 .ensures .1 in
+    rw (
+      c .list2 .ensures .0,
+      flag-bytes .ensures,
+      at-number8 .number8 .ensures,
+      at-flag-byte2 .flag-byte2 .ensures,
+      at-number7 .number7 .ensures,
+      at-number6 .number6 .ensures,
+      at-bits-of .bits-of .ensures,
+      at-number5 .number5 .ensures,
+      at-flag-byte .flag-byte .ensures,
+      at-number4 .number4 .ensures,
+      at-number3 .number3 .ensures,
+      list .ensures .0,
+      at-number2 .number2 .ensures,
+      at-number .number .ensures,
+      at-kind-number .kind-number .ensures,
+    ) (image-whole (args .t) (replicate 78 0) (record { shadow = list .ensures .1; doubtful = sym (length-map chip-doubtful flagByte) ∙ doubtful }) refl)
 
 pub tuner-image-spec : {M : Type 1} → statement M
 tuner-image-spec =

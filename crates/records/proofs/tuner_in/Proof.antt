@@ -47,7 +47,19 @@ get-requires-7 c κs = search needs
 
 returns : tie.Need-returns
 returns c =
-    tuner-made (now (c .before .before .before .before .before .before .before .before .before .before .before .args .b)) _ _ _ _ _ _ _ _ _ _ (c .before .before .before .before .before .before .before .before .before .get .ensures .0) (c .before .before .before .before .before .before .before .before .kind-of .ensures) (c .before .before .before .before .before .before .before .chip-in .ensures) (c .before .before .before .before .before .before .get2 .ensures .0) (c .before .before .before .before .before .get3 .ensures .0) (c .before .before .before .before .get4 .ensures .0) (c .before .before .before .get5 .ensures .0) (c .before .before .float-of .ensures) (c .before .get6 .ensures .0) (c .get7 .ensures .0)
+    let at-get6 = c .before in
+    let at-float-of = at-get6 .before in
+    let at-get5 = at-float-of .before in
+    let at-get4 = at-get5 .before in
+    let at-get3 = at-get4 .before in
+    let at-get2 = at-get3 .before in
+    let at-chip-in = at-get2 .before in
+    let at-kind-of = at-chip-in .before in
+    let at-get = at-kind-of .before in
+    let start = at-get .before .before in
+    tuner-made (now (start .args .b)) _ _ _ _ _ _ _ _ _ _ (at-get .get .ensures .0) (at-kind-of .kind-of .ensures) (at-chip-in .chip-in .ensures)
+    (at-get2 .get2 .ensures .0) (at-get3 .get3 .ensures .0) (at-get4 .get4 .ensures .0) (at-get5 .get5 .ensures .0) (at-float-of .float-of .ensures)
+    (at-get6 .get6 .ensures .0) (c .get7 .ensures .0)
 
 pub tuner-in-spec : {M : Type 1} → statement M
 tuner-in-spec =

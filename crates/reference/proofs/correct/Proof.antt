@@ -25,8 +25,10 @@ share c = ap (λ (m : ℕ). c .before .args .nominal * m / 1_000_000) (size c)
 
 product : (c : tie.After-magnitude) → c .before .args .nominal * c .magnitude .result ≤ c .before .args .nominal * 2 ^ 31
 product c =
-    let m : natAbs (c .before .args .ppm) ≤ 2 ^ 31 = natAbs-le (c .before .args .ppm) (c .before .fits .ppm .sfits) in
-    mul-le-mul-left (c .before .args .nominal) (omega (arith, size c))
+    let start = c .before in
+    let args = start .args in
+    let m : natAbs (args .ppm) ≤ 2 ^ 31 = natAbs-le (args .ppm) (start .fits .ppm .sfits) in
+    mul-le-mul-left (args .nominal) (omega (arith, size c))
 
 mul-share : tie.Need-mul-share
 mul-share c = omega (arith, product c)
@@ -36,20 +38,25 @@ below c = subst (λ (z : ℤ). ltZ z (pos 0) ≡ true) (toZ-ofZ (c .before .befo
 
 returns : tie.Need-returns
 returns c =
-    let a = c .before .before .before .args in
+    let earlier = c .before in
+    let earlier-2 = earlier .before in
+    let a = earlier-2 .before .args in
     sym
-    (below-zero (a .nominal) (a .ppm) (below (c .before)) (subst (λ (q : ℕ). a .nominal < q) (share (c .before .before)) (c .if2 .taken)))
+    (below-zero (a .nominal) (a .ppm) (below (earlier)) (subst (λ (q : ℕ). a .nominal < q) (share (earlier-2)) (c .if2 .taken)))
 
 accept-requires : tie.Need-accept-requires
 accept-requires c κs = search needs
 
 returns-2 : tie.Need-returns-2
 returns-2 c =
-    let a = c .before .before .before .before .args in
-    let s = share (c .before .before .before) in
+    let at-if2 = c .before in
+    let earlier = at-if2 .before in
+    let earlier-2 = earlier .before in
+    let a = earlier-2 .before .args in
+    let s = share (earlier-2) in
     c .accept .ensures
     ∙ ap (λ (q : ℕ). acceptOf (pos (a .nominal - q))) s
-    ∙ sym (downward (a .nominal) (a .ppm) (below (c .before .before)) (subst (λ (q : ℕ). q ≤ a .nominal) s (c .before .if2 .left)))
+    ∙ sym (downward (a .nominal) (a .ppm) (below (earlier)) (subst (λ (q : ℕ). q ≤ a .nominal) s (at-if2 .if2 .left)))
 
 add-accept : tie.Need-add-accept
 add-accept c = omega (arith, product (c .before))
@@ -59,10 +66,13 @@ accept-requires-2 c κs = search needs
 
 returns-3 : tie.Need-returns-3
 returns-3 c =
+    let at-if1 = c .before in
+    let earlier = at-if1 .before in
+    let start = earlier .before in
     c .accept2 .ensures
-    ∙ ap (λ (q : ℕ). acceptOf (pos (c .before .before .before .args .nominal + q))) (share (c .before .before))
+    ∙ ap (λ (q : ℕ). acceptOf (pos (start .args .nominal + q))) (share (earlier))
     ∙ sym
-    (upward _ _ (subst (λ (z : ℤ). ltZ z (pos 0) ≡ false) (toZ-ofZ (c .before .before .before .fits .ppm)) (c .before .if1 .left)))
+    (upward _ _ (subst (λ (z : ℤ). ltZ z (pos 0) ≡ false) (toZ-ofZ (start .fits .ppm)) (at-if1 .if1 .left)))
 
 pub correct-spec : {M : Type 1} → statement M
 correct-spec =

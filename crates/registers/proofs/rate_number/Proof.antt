@@ -13,16 +13,31 @@ returns : tie.Need-returns
 returns c = number-first _ _ _ (c .before .zero-number .ensures) (c .if1 .taken)
 
 ratio-requires : tie.Need-ratio-requires
-ratio-requires c κs = none-given (c .before .before .args .rate) (c .before .before .args .xtal) 0 (sym (c .before .zero-number .ensures) ∙ c .if1 .left) .0
+ratio-requires c κs =
+    let at-zero-number = c .before in
+    let args = at-zero-number .before .args in
+    none-given (args .rate) (args .xtal) 0 (sym (at-zero-number .zero-number .ensures) ∙ c .if1 .left) .0
 
 ratio-holds-requires : tie.Need-ratio-holds-requires
 ratio-holds-requires c κs = search needs
 
 returns-2 : tie.Need-returns-2
-returns-2 c = sym (ap (λ (b : Bool). cond b 0 13) (c .if2 .taken)) ∙ number-last _ _ _ _ _ (c .before .before .before .before .zero-number .ensures) (c .before .before .before .if1 .left) (c .before .before .ratio .ensures) (c .before .ratio-holds .ensures)
+returns-2 c =
+    let at-ratio-holds = c .before in
+    let at-ratio = at-ratio-holds .before in
+    let at-if1 = at-ratio .before in
+    let at-zero-number = at-if1 .before in
+    sym (ap (λ (b : Bool). cond b 0 13) (c .if2 .taken))
+    ∙ number-last _ _ _ _ _ (at-zero-number .zero-number .ensures) (at-if1 .if1 .left) (at-ratio .ratio .ensures) (at-ratio-holds .ratio-holds .ensures)
 
 returns-3 : tie.Need-returns-3
-returns-3 c = sym (ap (λ (b : Bool). cond b 0 13) (c .if2 .left)) ∙ number-last _ _ _ _ _ (c .before .before .before .before .zero-number .ensures) (c .before .before .before .if1 .left) (c .before .before .ratio .ensures) (c .before .ratio-holds .ensures)
+returns-3 c =
+    let at-ratio-holds = c .before in
+    let at-ratio = at-ratio-holds .before in
+    let at-if1 = at-ratio .before in
+    let at-zero-number = at-if1 .before in
+    sym (ap (λ (b : Bool). cond b 0 13) (c .if2 .left))
+    ∙ number-last _ _ _ _ _ (at-zero-number .zero-number .ensures) (at-if1 .if1 .left) (at-ratio .ratio .ensures) (at-ratio-holds .ratio-holds .ensures)
 
 pub rate-number-spec : {M : Type 1} → statement M
 rate-number-spec =

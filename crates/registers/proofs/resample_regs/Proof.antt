@@ -15,7 +15,10 @@ returns : tie.Need-returns
 returns c = no-regs _ _ _ (c .before .zero-number .ensures) (c .if1 .taken)
 
 ratio-requires : tie.Need-ratio-requires
-ratio-requires c κs = none-given (c .before .before .args .rate) (c .before .before .args .xtal) 0 (sym (c .before .zero-number .ensures) ∙ c .if1 .left) .0
+ratio-requires c κs =
+    let at-zero-number = c .before in
+    let args = at-zero-number .before .args in
+    none-given (args .rate) (args .xtal) 0 (sym (at-zero-number .zero-number .ensures) ∙ c .if1 .left) .0
 
 cast-t10 : tie.Need-cast-t10
 cast-t10 c = search needs

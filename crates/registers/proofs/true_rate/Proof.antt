@@ -21,8 +21,10 @@ mul-result c = search needs
 
 div-result : tie.Need-div-result
 div-result c =
-    let a = c .before .before .args in
-    subst (λ (s : ℕ). 0 < s) (sym (c .sent .ensures ∙ ap sentOf (c .before .ratio .ensures))) (sent-some (a .rate) (a .xtal) (c .before .before .pre))
+    let at-ratio = c .before in
+    let start = at-ratio .before in
+    let a = start .args in
+    subst (λ (s : ℕ). 0 < s) (sym (c .sent .ensures ∙ ap sentOf (at-ratio .ratio .ensures))) (sent-some (a .rate) (a .xtal) (start .pre))
 
 returns : tie.Need-returns
 unfolding trueOf

@@ -32,13 +32,25 @@ enum-known-answer-3 : tie.Need-enum-known-answer-3
 enum-known-answer-3 c = search needs
 
 returns : tie.Need-returns
-returns c = told (c .before .before .before .before .args .answer) _ (c .before .before .before .before .args .count) _ (c .before .answer .given .1) (c .before .before .before .low-bits .ensures)
+returns c =
+    let at-answer = c .before in
+    let at-low-bits = at-answer .before .before in
+    let args = at-low-bits .before .args in
+    told (args .answer) _ (args .count) _ (at-answer .answer .given .1) (at-low-bits .low-bits .ensures)
 
 returns-2 : tie.Need-returns-2
-returns-2 c = told (c .before .before .before .before .args .answer) _ (c .before .before .before .before .args .count) _ (c .before .answer2 .given .1) (c .before .before .before .low-bits .ensures)
+returns-2 c =
+    let at-answer2 = c .before in
+    let at-low-bits = at-answer2 .before .before in
+    let args = at-low-bits .before .args in
+    told (args .answer) _ (args .count) _ (at-answer2 .answer2 .given .1) (at-low-bits .low-bits .ensures)
 
 returns-3 : tie.Need-returns-3
-returns-3 c = told (c .before .before .before .before .args .answer) _ (c .before .before .before .before .args .count) _ (c .before .answer3 .given .1) (c .before .before .before .low-bits .ensures)
+returns-3 c =
+    let at-answer3 = c .before in
+    let at-low-bits = at-answer3 .before .before in
+    let args = at-low-bits .before .args in
+    told (args .answer) _ (args .count) _ (at-answer3 .answer3 .given .1) (at-low-bits .low-bits .ensures)
 
 pub numbers-spec : {M : Type 1} → statement M
 numbers-spec =

@@ -24,8 +24,11 @@ sure-requires c κs = search needs
 
 returns : tie.Need-returns Inv-loop μ-loop
 returns c =
-    let l = c .before .before .before .loop in
-    sure-found (sureOf (now (c .before .before .before .before .before .args .marks))) (32 - l .r) (l .r) (omega arith) (sym (c .before .sure .ensures) ∙ c .if1 .taken) ∙ l .inv
+    let at-sure = c .before in
+    let at-loop = at-sure .before .before in
+    let l = at-loop .loop in
+    let start = at-loop .before .before in
+    sure-found (sureOf (now (start .args .marks))) (32 - l .r) (l .r) (omega arith) (sym (at-sure .sure .ensures) ∙ c .if1 .taken) ∙ l .inv
 
 add-r : tie.Need-add-r Inv-loop μ-loop
 add-r c = search needs
@@ -35,13 +38,18 @@ loop-less c = search needs
 
 loop-again : tie.Need-loop-again Inv-loop μ-loop
 loop-again c =
-    let l = c .before .before .before .loop in
-    sure-on (sureOf (now (c .before .before .before .before .before .args .marks))) 32 (l .r) (omega arith) (sym (c .before .sure .ensures) ∙ c .if1 .left) ∙ l .inv
+    let at-sure = c .before in
+    let at-loop = at-sure .before .before in
+    let l = at-loop .loop in
+    let start = at-loop .before .before in
+    sure-on (sureOf (now (start .args .marks))) 32 (l .r) (omega arith) (sym (at-sure .sure .ensures) ∙ c .if1 .left) ∙ l .inv
 
 returns-2 : tie.Need-returns-2 Inv-loop μ-loop
 returns-2 c =
-    let l = c .before .loop in
-    sure-none (sureOf (now (c .before .before .before .args .marks))) 32 (l .r) (omega arith) ∙ l .inv
+    let at-loop = c .before in
+    let l = at-loop .loop in
+    let start = at-loop .before .before in
+    sure-none (sureOf (now (start .args .marks))) 32 (l .r) (omega arith) ∙ l .inv
 
 pub next-sure-spec : {M : Type 1} → statement M
 next-sure-spec =

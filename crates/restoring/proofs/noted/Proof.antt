@@ -13,7 +13,9 @@ use Rattle.restoring.proofs.noted.Statement.{statement}
 use Rattle.restoring.proofs.noted.Tie as tie
 
 abbrev Inv-loop : tie.InvT-loop
-Inv-loop address marks₀ sent₀ mark n bytes first j₀ marks sent j = (length marks ≡ 32) × ((length sent ≡ 32) × ((j ≤ n) × (over (rest first n mark bytes j) 0 (knownAll marks sent) ≡ over (rest first n mark bytes 0) 0 (knownAll marks₀ sent₀))))
+Inv-loop address marks₀ sent₀ mark n bytes first j₀ marks sent j =
+    (length marks ≡ 32)
+    × ((length sent ≡ 32) × ((j ≤ n) × (over (rest first n mark bytes j) 0 (knownAll marks sent) ≡ over (rest first n mark bytes 0) 0 (knownAll marks₀ sent₀))))
 
 abbrev μ-loop : tie.MeasureT-loop
 μ-loop address marks₀ sent₀ mark n bytes first j₀ marks sent j = n - j
@@ -56,7 +58,11 @@ array-read-marked : tie.Need-array-read-marked Inv-loop μ-loop
 array-read-marked c = search needs
 
 marked-requires : tie.Need-marked-requires Inv-loop μ-loop
-marked-requires c κs = (mark-some (c .before .before .before .before .before .before .before .before .mark-of .result) (eqb (c .before .before .before .before .before .before .before .before .before .before .before .before .before .before .before .before .args .e .outcome) 0) (c .before .before .before .before .before .before .before .before .mark-of .ensures), search needs, search needs)
+marked-requires c κs =
+    let at-mark-of = c .before .before .before .before .before .before .before .before in
+    let mark-of = at-mark-of .mark-of in
+    let start = at-mark-of .before .before .before .before .before .before .before .before in
+    (mark-some (mark-of .result) (eqb (start .args .e .outcome) 0) (mark-of .ensures), search needs, search needs)
 
 add-j : tie.Need-add-j Inv-loop μ-loop
 add-j c = search needs
@@ -66,19 +72,29 @@ loop-less c = search needs
 
 loop-again : tie.Need-loop-again Inv-loop μ-loop
 loop-again c =
-    let l = c .before .before .before .before .before .before .before .before .before .loop in
-    let first = c .before .before .before .before .before .before .before .before .before .before .wide2 .result in
-    let n = c .before .before .before .before .before .before .before .before .before .before .before .before .wide .result in
-    let mark = c .before .before .before .before .before .before .before .before .before .before .before .before .before .mark-of .result in
-    let e = c .before .before .before .before .before .before .before .before .before .before .before .before .before .before .before .before .before .before .before .before .before .args .e in
+    let at-marked = c .before .before .before .before in
+    let at-upward = at-marked .before .before .before in
+    let at-loop = at-upward .before .before in
+    let l = at-loop .loop in
+    let at-wide2 = at-loop .before in
+    let first = at-wide2 .wide2 .result in
+    let at-wide = at-wide2 .before .before in
+    let n = at-wide .wide .result in
+    let at-mark-of = at-wide .before in
+    let mark-of = at-mark-of .mark-of in
+    let mark = mark-of .result in
+    let args = at-mark-of .before .before .before .before .before .before .before .before .args in
+    let e = args .e in
+    let known-all = knownAll (l .marks) (l .sent) in
     let byte = getD (e .bytes) (l .j + 1) 0 in
-    let was = c .before .before .before .before .marked .ensures ∙ ap (λ (r : ℕ). over (only r (knownAs mark byte)) 0 (knownAll (l .marks) (l .sent))) (c .before .before .before .before .before .before .before .upward .ensures) in (
+    let was = at-marked .marked .ensures ∙ ap (λ (r : ℕ). over (only r (knownAs mark byte)) 0 known-all) (at-upward .upward .ensures) in (
       search needs,
       (
         search needs,
         (
           omega arith,
-          rest-turn first n mark (e .bytes) (knownAll (l .marks) (l .sent)) (l .j) _ byte (omega arith) (mark-some mark (eqb (e .outcome) 0) (c .before .before .before .before .before .before .before .before .before .before .before .before .before .mark-of .ensures)) refl was ∙ l .inv .1 .1 .1,
+          rest-turn first n mark (e .bytes) known-all (l .j) _ byte (omega arith) (mark-some mark (eqb (e .outcome) 0) (mark-of .ensures)) refl was
+              ∙ l .inv .1 .1 .1,
         ),
       ),
     )
@@ -91,14 +107,24 @@ same-length-2 c = search needs
 
 returns-3 : tie.Need-returns-3 Inv-loop μ-loop
 returns-3 c =
-    let l = c .before .loop in
-    let a = c .before .before .before .before .before .before .before .before .before .before .before .before .before .args in
-    let first = c .before .before .wide2 .result in
-    let n = c .before .before .before .before .wide .result in
-    let mark = c .before .before .before .before .before .mark-of .result in
+    let at-loop = c .before in
+    let l = at-loop .loop in
+    let at-wide2 = at-loop .before in
+    let wide2 = at-wide2 .wide2 in
+    let first = wide2 .result in
+    let at-wide = at-wide2 .before .before in
+    let wide = at-wide .wide in
+    let n = wide .result in
+    let at-mark-of = at-wide .before in
+    let mark-of = at-mark-of .mark-of in
+    let mark = mark-of .result in
+    let at-if2 = at-mark-of .before .before in
+    let at-if1 = at-if2 .before .before in
+    let a = at-if1 .before .before .before .before .args in
     rest-end first n mark (a .e .bytes) (knownAll (l .marks) (l .sent)) (l .j) (omega arith)
     ∙ l .inv .1 .1 .1
-    ∙ rest-start (a .address) (a .e) (knownAll (now (a .marks)) (now (a .sent))) first n mark (c .before .before .before .before .before .before .before .before .before .if1 .left) (c .before .before .before .before .before .before .before .if2 .left) (c .before .before .wide2 .ensures .0) (c .before .before .before .before .wide .ensures .0) (c .before .before .before .before .before .mark-of .ensures)
+    ∙ rest-start (a .address) (a .e) (knownAll (now (a .marks)) (now (a .sent))) first n mark (at-if1 .if1 .left) (at-if2 .if2 .left) (wide2 .ensures .0)
+    (wide .ensures .0) (mark-of .ensures)
 
 pub noted-spec : {M : Type 1} → statement M
 noted-spec =

@@ -13,7 +13,12 @@ use Rattle.restoring.proofs.noted_all.Statement.{statement}
 use Rattle.restoring.proofs.noted_all.Tie as tie
 
 abbrev Inv-loop : tie.InvT-loop
-Inv-loop s start count address marks₀ sent₀ i₀ marks sent i = (i ≤ count) × ((length marks ≡ 32) × ((length sent ≡ 32) × (over (knownIn address (entriesIn i (drop start s))) 0 (knownAll marks sent) ≡ over (knownIn address (entriesIn count (drop start s))) 0 (knownAll marks₀ sent₀))))
+Inv-loop s start count address marks₀ sent₀ i₀ marks sent i =
+    (i ≤ count)
+    × ((length marks ≡ 32)
+    × ((length sent ≡ 32)
+    × (over (knownIn address (entriesIn i (drop start s))) 0 (knownAll marks sent)
+    ≡ over (knownIn address (entriesIn count (drop start s))) 0 (knownAll marks₀ sent₀))))
 
 abbrev μ-loop : tie.MeasureT-loop
 μ-loop s start count address marks₀ sent₀ i₀ marks sent i = i
@@ -35,19 +40,37 @@ get-requires c κs = search needs
 
 noted-requires : tie.Need-noted-requires Inv-loop μ-loop
 noted-requires c κs =
-    let a = c .before .before .before .before .before .before .before .before .args in
-    let l = c .before .before .before .before .loop in
-    let p = c .before .before .before .before .before .before .before .before .pre in
-    (few (now (a .s)) (a .start) (a .count) (l .i - 1) (c .before .before .get .result) (omega arith) (p .2) (c .before .before .get .ensures), search needs, search needs)
+    let at-get = c .before .before in
+    let get = at-get .get in
+    let at-loop = at-get .before .before in
+    let l = at-loop .loop in
+    let start = at-loop .before .before .before .before in
+    let a = start .args in
+    let p = start .pre in
+    (few (now (a .s)) (a .start) (a .count) (l .i - 1) (get .result) (omega arith) (p .2) (get .ensures), search needs, search needs)
 
 loop-less : tie.Need-loop-less Inv-loop μ-loop
 loop-less c = search needs
 
 loop-again : tie.Need-loop-again Inv-loop μ-loop
 loop-again c =
-    let a = c .before .before .before .before .before .before .before .before .before .before .before .before .before .args in
-    let l = c .before .before .before .before .before .before .before .before .before .loop in
-    (omega arith, (search needs, (search needs, entry-turn (a .address) (now (a .s)) (a .start) (l .i) (knownAll (l .marks) (l .sent)) _ (c .before .before .before .before .before .before .before .get .result) (omega arith) (c .before .before .before .before .before .before .before .get .ensures) (c .before .before .before .before .noted .ensures) ∙ l .inv .1 .1 .1)))
+    let at-noted = c .before .before .before .before in
+    let at-get = at-noted .before .before .before in
+    let get = at-get .get in
+    let at-loop = at-get .before .before in
+    let l = at-loop .loop in
+    let a = at-loop .before .before .before .before .args in (
+      omega arith,
+      (
+        search needs,
+        (
+          search needs,
+          entry-turn (a .address) (now (a .s)) (a .start) (l .i) (knownAll (l .marks) (l .sent)) _ (get .result) (omega arith) (get .ensures)
+              (at-noted .noted .ensures)
+              ∙ l .inv .1 .1 .1,
+        ),
+      ),
+    )
 
 same-length : tie.Need-same-length Inv-loop μ-loop
 same-length c = search needs
@@ -57,8 +80,9 @@ same-length-2 c = search needs
 
 returns : tie.Need-returns Inv-loop μ-loop
 returns c =
-    let a = c .before .before .before .before .before .args in
-    let l = c .before .loop in
+    let at-loop = c .before in
+    let l = at-loop .loop in
+    let a = at-loop .before .before .before .before .args in
     entries-end (a .address) (now (a .s)) (a .start) (l .i) (knownAll (l .marks) (l .sent)) (omega arith) ∙ l .inv .1 .1 .1
 
 pub noted-all-spec : {M : Type 1} → statement M

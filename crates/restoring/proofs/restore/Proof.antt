@@ -22,8 +22,10 @@ walked-requires c κs = search needs
 
 returns : tie.Need-returns
 returns c =
-    let a = c .before .before .before .before .before .before .before .before .args in
-    refuses (now (a .sections)) (a .address) (now (a .out)) (c .before .before .before .walked .result) (c .before .before .before .walked .ensures .0) (c .if1 .taken)
+    let at-walked = c .before .before .before in
+    let walked = at-walked .walked in
+    let a = at-walked .before .before .before .before .before .args in
+    refuses (now (a .sections)) (a .address) (now (a .out)) (walked .result) (walked .ensures .0) (c .if1 .taken)
 
 slice-aggregate-write-list : tie.Need-slice-aggregate-write-list
 slice-aggregate-write-list c = search needs
@@ -36,10 +38,13 @@ slice-aggregate-write-list-3 c = search needs
 
 write-list-requires : tie.Need-write-list-requires
 write-list-requires c κs =
-    let a = c .before .before .before .before .before .before .before .before .before .before .before .args in
-    let w = c .before .before .before .before .before .before .walked in
-    let good = all-good (now (a .sections)) (w .result) (w .ensures .0) (c .before .before .before .if1 .left) in
-    let few = fourteen (a .address) (chainEntries (now (a .sections))) (w .last .1 .1 .0) (w .last .1 .1 .1 .0) (search needs) (search needs) (w .ensures .1 good) in
+    let at-if1 = c .before .before .before in
+    let at-walked = at-if1 .before .before .before in
+    let w = at-walked .walked in
+    let a = at-walked .before .before .before .before .before .args in
+    let sections = now (a .sections) in
+    let good = all-good sections (w .result) (w .ensures .0) (at-if1 .if1 .left) in
+    let few = fourteen (a .address) (chainEntries sections) (w .last .1 .1 .0) (w .last .1 .1 .1 .0) (search needs) (search needs) (w .ensures .1 good) in
     (search needs, omega (arith, few))
 
 sub-lend : tie.Need-sub-lend
@@ -50,12 +55,17 @@ part-lend-start c = search needs
 
 part-lend-end : tie.Need-part-lend-end
 part-lend-end c =
-    let a = c .before .before .before .before .before .before .before .before .before .before .before .before .before .before .args in
-    let w = c .before .before .before .before .before .before .before .before .before .walked in
-    let good = all-good (now (a .sections)) (w .result) (w .ensures .0) (c .before .before .before .before .before .before .if1 .left) in
-    let few = fourteen (a .address) (chainEntries (now (a .sections))) (w .last .1 .1 .0) (w .last .1 .1 .1 .0) (search needs) (search needs) (w .ensures .1 good) in
-    let long : length (c .before .before .write-list .last .1 .1 .1 .0) ≡ 232 = search needs in
-    omega (arith, few, long, c .before .before .write-list .ensures .0)
+    let at-write-list = c .before .before in
+    let write-list = at-write-list .write-list in
+    let at-if1 = at-write-list .before .before .before .before in
+    let at-walked = at-if1 .before .before .before in
+    let w = at-walked .walked in
+    let a = at-walked .before .before .before .before .before .args in
+    let sections = now (a .sections) in
+    let good = all-good sections (w .result) (w .ensures .0) (at-if1 .if1 .left) in
+    let few = fourteen (a .address) (chainEntries sections) (w .last .1 .1 .0) (w .last .1 .1 .1 .0) (search needs) (search needs) (w .ensures .1 good) in
+    let long : length (write-list .last .1 .1 .1 .0) ≡ 232 = search needs in
+    omega (arith, few, long, write-list .ensures .0)
 
 lend-requires : tie.Need-lend-requires
 lend-requires c κs = search needs
@@ -65,11 +75,18 @@ same-length c = search needs
 
 returns-2 : tie.Need-returns-2
 returns-2 c =
-    let a = c .before .before .before .before .before .before .before .before .before .before .before .before .before .before .before .before .before .before .before .args in
-    let w = c .before .before .before .before .before .before .before .before .before .before .before .before .before .before .walked in
-    let good = all-good (now (a .sections)) (w .result) (w .ensures .0) (c .before .before .before .before .before .before .before .before .before .before .before .if1 .left) in
-    c .before .before .lend .ensures
-    ∙ lends (now (a .sections)) (a .address) good (w .last .1 .1 .0) (w .last .1 .1 .1 .0) (search needs) (search needs) (w .ensures .1 good) _ _ (now (a .out)) (c .before .before .before .before .before .before .before .write-list .result) (search needs) (c .before .before .before .before .before .before .before .write-list .ensures .0) (c .before .before .before .before .before .before .before .write-list .ensures .1)
+    let at-lend = c .before .before in
+    let at-write-list = at-lend .before .before .before .before .before in
+    let write-list = at-write-list .write-list in
+    let at-if1 = at-write-list .before .before .before .before in
+    let at-walked = at-if1 .before .before .before in
+    let w = at-walked .walked in
+    let a = at-walked .before .before .before .before .before .args in
+    let sections = now (a .sections) in
+    let good = all-good sections (w .result) (w .ensures .0) (at-if1 .if1 .left) in
+    at-lend .lend .ensures
+    ∙ lends sections (a .address) good (w .last .1 .1 .0) (w .last .1 .1 .1 .0) (search needs) (search needs) (w .ensures .1 good) _ _ (now (a .out))
+    (write-list .result) (search needs) (write-list .ensures .0) (write-list .ensures .1)
 
 pub restore-spec : {M : Type 1} → statement M
 restore-spec =

@@ -29,8 +29,12 @@ sure-requires c κs = search needs
 
 returns : tie.Need-returns Inv-loop μ-loop
 returns c =
-    let l = c .before .before .before .loop in
-    run-stops (sureOf (now (c .before .before .before .before .before .args .marks))) (c .before .before .before .before .before .args .i) (l .k) (omega arith) (sym (c .before .sure .ensures) ∙ not-true (c .before .sure .result) (c .if1 .taken)) ∙ l .inv .1
+    let at-sure = c .before in
+    let sure = at-sure .sure in
+    let at-loop = at-sure .before .before in
+    let l = at-loop .loop in
+    let args = at-loop .before .before .args in
+    run-stops (sureOf (now (args .marks))) (args .i) (l .k) (omega arith) (sym (sure .ensures) ∙ not-true (sure .result) (c .if1 .taken)) ∙ l .inv .1
 
 add-k : tie.Need-add-k Inv-loop μ-loop
 add-k c = search needs
@@ -40,13 +44,21 @@ loop-less c = search needs
 
 loop-again : tie.Need-loop-again Inv-loop μ-loop
 loop-again c =
-    let l = c .before .before .before .loop in
-    (omega arith, run-on (sureOf (now (c .before .before .before .before .before .args .marks))) (c .before .before .before .before .before .args .i) (l .k) (omega arith) (sym (c .before .sure .ensures) ∙ not-false (c .before .sure .result) (c .if1 .left)) ∙ l .inv .1)
+    let at-sure = c .before in
+    let sure = at-sure .sure in
+    let at-loop = at-sure .before .before in
+    let l = at-loop .loop in
+    let args = at-loop .before .before .args in (
+      omega arith,
+      run-on (sureOf (now (args .marks))) (args .i) (l .k) (omega arith) (sym (sure .ensures) ∙ not-false (sure .result) (c .if1 .left)) ∙ l .inv .1,
+    )
 
 returns-2 : tie.Need-returns-2 Inv-loop μ-loop
 returns-2 c =
-    let l = c .before .loop in
-    run-full (sureOf (now (c .before .before .before .args .marks))) (c .before .before .before .args .i) (l .k) (omega arith) ∙ l .inv .1
+    let at-loop = c .before in
+    let l = at-loop .loop in
+    let args = at-loop .before .before .args in
+    run-full (sureOf (now (args .marks))) (args .i) (l .k) (omega arith) ∙ l .inv .1
 
 pub run-len-spec : {M : Type 1} → statement M
 run-len-spec =

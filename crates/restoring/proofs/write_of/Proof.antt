@@ -39,8 +39,15 @@ byte-at-requires-7 c κs = search needs
 
 returns : tie.Need-returns
 returns c =
-    let a = c .before .before .before .before .before .before .before .before .before .args in
-    write-told (a .address) (heldOf (now (a .marks)) (now (a .sent))) (a .i) (a .m) (c .before .before .before .before .before .before .byte-at .ensures) (c .before .before .before .before .before .byte-at2 .ensures) (c .before .before .before .before .byte-at3 .ensures) (c .before .before .before .byte-at4 .ensures) (c .before .before .byte-at5 .ensures) (c .before .byte-at6 .ensures) (c .byte-at7 .ensures)
+    let at-byte-at6 = c .before in
+    let at-byte-at5 = at-byte-at6 .before in
+    let at-byte-at4 = at-byte-at5 .before in
+    let at-byte-at3 = at-byte-at4 .before in
+    let at-byte-at2 = at-byte-at3 .before in
+    let at-byte-at = at-byte-at2 .before in
+    let a = at-byte-at .before .before .before .args in
+    write-told (a .address) (heldOf (now (a .marks)) (now (a .sent))) (a .i) (a .m) (at-byte-at .byte-at .ensures) (at-byte-at2 .byte-at2 .ensures)
+    (at-byte-at3 .byte-at3 .ensures) (at-byte-at4 .byte-at4 .ensures) (at-byte-at5 .byte-at5 .ensures) (at-byte-at6 .byte-at6 .ensures) (c .byte-at7 .ensures)
 
 pub write-of-spec : {M : Type 1} → statement M
 write-of-spec =

@@ -50,8 +50,16 @@ get-requires-6 c κs = search needs
 
 returns : tie.Need-returns
 returns c =
-    let a = c .before .before .before .before .before .before .before .before .args in
-    fields-made (now (a .s)) (a .at) _ _ _ _ _ _ _ (c .before .before .before .before .before .before .get .ensures .0) (c .before .before .before .before .before .get2 .ensures .0) (c .before .before .before .before .get3 .ensures .0) (c .before .before .before .before .get3 .ensures .1) (c .before .before .before .to-signed .ensures) (c .before .before .get4 .ensures .0) (c .before .get5 .ensures .0) (c .get6 .ensures .0)
+    let at-get5 = c .before in
+    let at-get4 = at-get5 .before in
+    let at-to-signed = at-get4 .before in
+    let at-get3 = at-to-signed .before in
+    let get3 = at-get3 .get3 in
+    let at-get2 = at-get3 .before in
+    let at-get = at-get2 .before in
+    let a = at-get .before .before .args in
+    fields-made (now (a .s)) (a .at) _ _ _ _ _ _ _ (at-get .get .ensures .0) (at-get2 .get2 .ensures .0) (get3 .ensures .0) (get3 .ensures .1)
+    (at-to-signed .to-signed .ensures) (at-get4 .get4 .ensures .0) (at-get5 .get5 .ensures .0) (c .get6 .ensures .0)
 
 pub fields-at-spec : {M : Type 1} → statement M
 fields-at-spec =

@@ -23,7 +23,12 @@ seal-requires c κs = search needs
 
 returns : tie.Need-returns
 returns c =
-    c .before .seal .ensures ∙ ap (λ l. sets l 19 (trailer 1 19)) (c .before .before .before .before .put-fields .ensures) ∙ image-laid 1 widths1 (numbers1 (c .before .before .before .before .before .before .args .s)) (replicate 23 0) refl refl
+    let at-seal = c .before in
+    let at-put-fields = at-seal .before .before .before in
+    let start = at-put-fields .before .before in
+    at-seal .seal .ensures
+    ∙ ap (λ l. sets l 19 (trailer 1 19)) (at-put-fields .put-fields .ensures)
+    ∙ image-laid 1 widths1 (numbers1 (start .args .s)) (replicate 23 0) refl refl
 
 pub image-1-spec : {M : Type 1} → statement M
 image-1-spec =

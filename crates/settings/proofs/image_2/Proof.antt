@@ -34,9 +34,14 @@ seal-requires c κs = search needs
 
 returns : tie.Need-returns
 returns c =
-    let w = c .before .before .before .before .before .before .before .before .before .before .before .args .w in
-    c .before .seal .ensures
-    ∙ ap (λ l. sets l 23 (trailer 2 23)) (c .before .before .before .before .put .ensures ∙ ap (λ l. sets l 19 (leBytes 4 (w .ifreq))) (c .before .before .before .before .before .before .before .before .put-fields .ensures) ∙ if-laid (replicate 27 0) w)
+    let at-seal = c .before in
+    let at-put = at-seal .before .before .before in
+    let at-put-fields = at-put .before .before .before .before in
+    let args = at-put-fields .before .before .before .args in
+    let w = args .w in
+    at-seal .seal .ensures
+    ∙ ap (λ l. sets l 23 (trailer 2 23))
+    (at-put .put .ensures ∙ ap (λ l. sets l 19 (leBytes 4 (w .ifreq))) (at-put-fields .put-fields .ensures) ∙ if-laid (replicate 27 0) w)
     ∙ image-laid 2 widths2 (numbers2 w) (replicate 27 0) refl refl
 
 pub image-2-spec : {M : Type 1} → statement M

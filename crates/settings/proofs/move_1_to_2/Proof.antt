@@ -23,8 +23,12 @@ same-length c = search needs
 
 returns : tie.Need-returns
 returns c =
-    let a = c .before .before .before .before .before .before .before .before .before .before .args in
-    moved-2 (now (a .s)) (now (a .out)) _ (c .before .before .before .before .before .before .before .read-1 .result) _ (c .before .before .lend .ensures) (c .before .before .before .before .before .image-2 .ensures) (c .before .before .before .before .before .before .before .read-1 .ensures)
+    let at-lend = c .before .before in
+    let at-image-2 = at-lend .before .before .before in
+    let at-read-1 = at-image-2 .before .before in
+    let read-1 = at-read-1 .read-1 in
+    let a = at-read-1 .before .before .before .args in
+    moved-2 (now (a .s)) (now (a .out)) _ (read-1 .result) _ (at-lend .lend .ensures) (at-image-2 .image-2 .ensures) (read-1 .ensures)
 
 pub move-1-to-2-spec : {M : Type 1} → statement M
 move-1-to-2-spec =

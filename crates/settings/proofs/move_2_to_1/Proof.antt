@@ -26,8 +26,14 @@ same-length c = search needs
 
 returns : tie.Need-returns
 returns c =
-    let a = c .before .before .before .before .before .before .before .before .before .before .before .before .args in
-    moved-1 (now (a .s)) (now (a .out)) _ (c .before .before .before .before .before .before .before .before .before .read-only-2 .result) _ _ (c .before .before .lend .ensures) (c .before .before .before .before .before .narrow-refusal .ensures) (c .before .before .before .before .before .before .image-1 .ensures) (c .before .before .before .before .before .before .before .before .before .read-only-2 .ensures)
+    let at-lend = c .before .before in
+    let at-narrow-refusal = at-lend .before .before .before in
+    let at-image-1 = at-narrow-refusal .before in
+    let at-read-only-2 = at-image-1 .before .before .before in
+    let read-only-2 = at-read-only-2 .read-only-2 in
+    let a = at-read-only-2 .before .before .before .args in
+    moved-1 (now (a .s)) (now (a .out)) _ (read-only-2 .result) _ _ (at-lend .lend .ensures) (at-narrow-refusal .narrow-refusal .ensures)
+    (at-image-1 .image-1 .ensures) (read-only-2 .ensures)
 
 pub move-2-to-1-spec : {M : Type 1} → statement M
 move-2-to-1-spec =

@@ -10,11 +10,15 @@ returns c =
 
 returns-2 : tie.Need-returns-2
 returns-2 c =
-    narrow-other (c .before .before .before .before .before .args .read) (c .before .before .before .if1 .left) (c .if2 .taken)
+    let at-if1 = c .before .before .before in
+    let start = at-if1 .before .before in
+    narrow-other (start .args .read) (at-if1 .if1 .left) (c .if2 .taken)
 
 returns-3 : tie.Need-returns-3
 returns-3 c =
-    narrow-usual (c .before .before .before .before .before .args .read) (c .before .before .before .if1 .left) (c .if2 .left)
+    let at-if1 = c .before .before .before in
+    let start = at-if1 .before .before in
+    narrow-usual (start .args .read) (at-if1 .if1 .left) (c .if2 .left)
 
 pub narrow-refusal-spec : {M : Type 1} → statement M
 narrow-refusal-spec = tie.close (tie.spec returns returns-2 returns-3)

@@ -42,10 +42,20 @@ same-length c = search needs
 
 returns : tie.Need-returns
 returns c =
-    let a = c .before .before .before .before .before .before .before .before .before .before .before .before .before .before .before .before .before .before .before .before .before .before .before .before .before .before .before .before .args in
+    let a =
+    c .before .before .before .before .before .before .before .before .before .before .before .before .before .before .before .before .before .before .before
+    .before .before .before .before .before .before .before .before .before .args in
     let small : SFits w32 (a .s .ppm) = search needs in
-    let bits : c .before .before .before .before .before .before .before .before .before .before .before .before .before .before .before .before .to-bits .result ≡ ofZ w32 (a .s .ppm) = c .before .before .before .before .before .before .before .before .before .before .before .before .before .before .before .before .to-bits .ensures ∙ ap (ofZ w32) (toZ-ofZ small) in
-    rw (c .before .before .put6 .ensures, c .before .before .before .before .before .before .put5 .ensures, c .before .before .before .before .before .before .before .before .before .before .put4 .ensures, c .before .before .before .before .before .before .before .before .before .before .before .before .before .before .before .put3 .ensures, bits, c .before .before .before .before .before .before .before .before .before .before .before .before .before .before .before .before .before .before .before .before .before .put2 .ensures, c .before .before .before .before .before .before .before .before .before .before .before .before .before .before .before .before .before .before .before .before .before .before .before .before .before .put .ensures)
+    let at-put6 = c .before .before in
+    let at-put5 = at-put6 .before .before .before .before in
+    let at-put4 = at-put5 .before .before .before .before in
+    let at-put3 = at-put4 .before .before .before .before .before in
+    let at-to-bits = at-put3 .before in
+    let to-bits = at-to-bits .to-bits in
+    let at-put2 = at-to-bits .before .before .before .before .before in
+    let at-put = at-put2 .before .before .before .before in
+    let bits : to-bits .result ≡ ofZ w32 (a .s .ppm) = to-bits .ensures ∙ ap (ofZ w32) (toZ-ofZ small) in
+    rw (at-put6 .put6 .ensures, at-put5 .put5 .ensures, at-put4 .put4 .ensures, at-put3 .put3 .ensures, bits, at-put2 .put2 .ensures, at-put .put .ensures)
     (fields-laid (now (a .image)) (a .s))
 
 pub put-fields-spec : {M : Type 1} → statement M

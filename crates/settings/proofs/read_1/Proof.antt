@@ -16,16 +16,24 @@ refuse-requires c κs = search needs
 
 returns : tie.Need-returns
 returns c =
-    c .refuse .ensures ∙ by-refusal (now (c .before .before .before .before .args .s)) (c .before .before .trailer-refusal .result) (c .before .before .trailer-refusal .ensures) (c .before .if1 .taken)
+    let at-if1 = c .before in
+    let at-trailer-refusal = at-if1 .before in
+    let trailer-refusal = at-trailer-refusal .trailer-refusal in
+    let start = at-trailer-refusal .before .before in
+    c .refuse .ensures ∙ by-refusal (now (start .args .s)) (trailer-refusal .result) (trailer-refusal .ensures) (at-if1 .if1 .taken)
 
 sub-fields-at : tie.Need-sub-fields-at
 sub-fields-at c =
-    let h = sealed 1 19 (now (c .before .before .before .args .s)) (sym (c .before .trailer-refusal .ensures) ∙ c .if1 .left) in
+    let at-trailer-refusal = c .before in
+    let start = at-trailer-refusal .before .before in
+    let h = sealed 1 19 (now (start .args .s)) (sym (at-trailer-refusal .trailer-refusal .ensures) ∙ c .if1 .left) in
     omega (arith, h .long, h .room)
 
 fields-at-requires : tie.Need-fields-at-requires
 fields-at-requires c κs =
-    let h = sealed 1 19 (now (c .before .before .before .args .s)) (sym (c .before .trailer-refusal .ensures) ∙ c .if1 .left) in
+    let at-trailer-refusal = c .before in
+    let start = at-trailer-refusal .before .before in
+    let h = sealed 1 19 (now (start .args .s)) (sym (at-trailer-refusal .trailer-refusal .ensures) ∙ c .if1 .left) in
     omega (arith, h .long, h .room)
 
 refusal-requires : tie.Need-refusal-requires
@@ -36,19 +44,36 @@ refuse-requires-2 c κs = search needs
 
 returns-2 : tie.Need-returns-2
 returns-2 c =
-    let s = now (c .before .before .before .before .before .before .before .args .s) in
-    let r = c .before .before .before .before .before .trailer-refusal in
-    let h = sealed 1 19 s (sym (r .ensures) ∙ c .before .before .before .before .if1 .left) in
-    let v = there s (c .before .before .before .fields-at .result) (omega (arith, h .long, h .room)) (c .before .before .before .fields-at .ensures) in
-    c .refuse2 .ensures ∙ by-field s (r .result) (r .ensures) (c .before .before .before .fields-at .result) (c .before .before .refusal .result) (c .before .before .before .before .if1 .left) v (c .before .before .refusal .ensures) (c .before .if2 .taken)
+    let at-if2 = c .before in
+    let at-refusal = at-if2 .before in
+    let refusal = at-refusal .refusal in
+    let at-fields-at = at-refusal .before in
+    let fields-at = at-fields-at .fields-at in
+    let at-if1 = at-fields-at .before in
+    let if1 = at-if1 .if1 in
+    let at-trailer-refusal = at-if1 .before in
+    let start = at-trailer-refusal .before .before in
+    let s = now (start .args .s) in
+    let r = at-trailer-refusal .trailer-refusal in
+    let h = sealed 1 19 s (sym (r .ensures) ∙ if1 .left) in
+    let v = there s (fields-at .result) (omega (arith, h .long, h .room)) (fields-at .ensures) in
+    c .refuse2 .ensures ∙ by-field s (r .result) (r .ensures) (fields-at .result) (refusal .result) (if1 .left) v (refusal .ensures) (at-if2 .if2 .taken)
 
 returns-3 : tie.Need-returns-3
 returns-3 c =
-    let s = now (c .before .before .before .before .before .before .args .s) in
-    let r = c .before .before .before .before .trailer-refusal in
-    let h = sealed 1 19 s (sym (r .ensures) ∙ c .before .before .before .if1 .left) in
-    let v = there s (c .before .before .fields-at .result) (omega (arith, h .long, h .room)) (c .before .before .fields-at .ensures) in
-    taken s (r .result) (r .ensures) (c .before .before .fields-at .result) (c .before .refusal .result) (c .before .before .before .if1 .left) v (c .before .refusal .ensures) (c .if2 .left)
+    let at-refusal = c .before in
+    let refusal = at-refusal .refusal in
+    let at-fields-at = at-refusal .before in
+    let fields-at = at-fields-at .fields-at in
+    let at-if1 = at-fields-at .before in
+    let if1 = at-if1 .if1 in
+    let at-trailer-refusal = at-if1 .before in
+    let start = at-trailer-refusal .before .before in
+    let s = now (start .args .s) in
+    let r = at-trailer-refusal .trailer-refusal in
+    let h = sealed 1 19 s (sym (r .ensures) ∙ if1 .left) in
+    let v = there s (fields-at .result) (omega (arith, h .long, h .room)) (fields-at .ensures) in
+    taken s (r .result) (r .ensures) (fields-at .result) (refusal .result) (if1 .left) v (refusal .ensures) (c .if2 .left)
 
 pub read-1-spec : {M : Type 1} → statement M
 read-1-spec =

@@ -17,11 +17,20 @@ widen-requires c κs = search needs
 
 returns : tie.Need-returns
 returns c =
-    c .widen .ensures ∙ by-old (now (c .before .before .before .before .before .before .args .s)) (c .before .before .before .before .read-only-2 .result) (c .before .read-1 .result) (c .before .before .before .before .read-only-2 .ensures) (c .before .read-1 .ensures) (c .before .before .if1 .taken)
+    let at-read-1 = c .before in
+    let read-1 = at-read-1 .read-1 in
+    let at-if1 = at-read-1 .before in
+    let at-read-only-2 = at-if1 .before .before in
+    let read-only-2 = at-read-only-2 .read-only-2 in
+    let start = at-read-only-2 .before .before in
+    c .widen .ensures ∙ by-old (now (start .args .s)) (read-only-2 .result) (read-1 .result) (read-only-2 .ensures) (read-1 .ensures) (at-if1 .if1 .taken)
 
 returns-2 : tie.Need-returns-2
 returns-2 c =
-    by-own (now (c .before .before .before .before .args .s)) (c .before .before .read-only-2 .result) (c .before .before .read-only-2 .ensures) (c .if1 .left)
+    let at-read-only-2 = c .before .before in
+    let read-only-2 = at-read-only-2 .read-only-2 in
+    let start = at-read-only-2 .before .before in
+    by-own (now (start .args .s)) (read-only-2 .result) (read-only-2 .ensures) (c .if1 .left)
 
 pub read-2-spec : {M : Type 1} → statement M
 read-2-spec =

@@ -16,16 +16,24 @@ refuse-2-requires c κs = search needs
 
 returns : tie.Need-returns
 returns c =
-    c .refuse-2 .ensures ∙ by-refusal2 (now (c .before .before .before .before .args .s)) (c .before .before .trailer-refusal .result) (c .before .before .trailer-refusal .ensures) (c .before .if1 .taken)
+    let at-if1 = c .before in
+    let at-trailer-refusal = at-if1 .before in
+    let trailer-refusal = at-trailer-refusal .trailer-refusal in
+    let start = at-trailer-refusal .before .before in
+    c .refuse-2 .ensures ∙ by-refusal2 (now (start .args .s)) (trailer-refusal .result) (trailer-refusal .ensures) (at-if1 .if1 .taken)
 
 sub-at : tie.Need-sub-at
 sub-at c =
-    let h = sealed 2 23 (now (c .before .before .before .args .s)) (sym (c .before .trailer-refusal .ensures) ∙ c .if1 .left) in
+    let at-trailer-refusal = c .before in
+    let start = at-trailer-refusal .before .before in
+    let h = sealed 2 23 (now (start .args .s)) (sym (at-trailer-refusal .trailer-refusal .ensures) ∙ c .if1 .left) in
     omega (arith, h .long, h .room)
 
 fields-at-requires : tie.Need-fields-at-requires
 fields-at-requires c κs =
-    let h = sealed 2 23 (now (c .before .before .before .args .s)) (sym (c .before .trailer-refusal .ensures) ∙ c .if1 .left) in
+    let at-trailer-refusal = c .before in
+    let start = at-trailer-refusal .before .before in
+    let h = sealed 2 23 (now (start .args .s)) (sym (at-trailer-refusal .trailer-refusal .ensures) ∙ c .if1 .left) in
     omega (arith, h .long, h .room)
 
 refusal-requires : tie.Need-refusal-requires
@@ -36,17 +44,29 @@ refuse-2-requires-2 c κs = search needs
 
 returns-2 : tie.Need-returns-2
 returns-2 c =
-    let s = now (c .before .before .before .before .before .before .before .args .s) in
-    let r = c .before .before .before .before .before .trailer-refusal in
-    let v = there2 s (c .before .before .before .fields-at .result) (c .before .before .before .fields-at .ensures) in
-    c .refuse-22 .ensures ∙ by-field2 s (r .result) (r .ensures) (c .before .before .before .fields-at .result) (c .before .before .refusal .result) (c .before .before .before .before .if1 .left) v (c .before .before .refusal .ensures) (c .before .if2 .taken)
+    let at-if2 = c .before in
+    let at-refusal = at-if2 .before in
+    let refusal = at-refusal .refusal in
+    let at-fields-at = at-refusal .before in
+    let fields-at = at-fields-at .fields-at in
+    let at-if1 = at-fields-at .before in
+    let at-trailer-refusal = at-if1 .before in
+    let start = at-trailer-refusal .before .before in
+    let s = now (start .args .s) in
+    let r = at-trailer-refusal .trailer-refusal in
+    let v = there2 s (fields-at .result) (fields-at .ensures) in
+    c .refuse-22 .ensures
+    ∙ by-field2 s (r .result) (r .ensures) (fields-at .result) (refusal .result) (at-if1 .if1 .left) v (refusal .ensures) (at-if2 .if2 .taken)
 
 add-get : tie.Need-add-get
 add-get c = search needs
 
 get-requires : tie.Need-get-requires
 get-requires c κs =
-    let h = sealed 2 23 (now (c .before .before .before .before .before .before .args .s)) (sym (c .before .before .before .before .trailer-refusal .ensures) ∙ c .before .before .before .if1 .left) in
+    let at-if1 = c .before .before .before in
+    let at-trailer-refusal = at-if1 .before in
+    let start = at-trailer-refusal .before .before in
+    let h = sealed 2 23 (now (start .args .s)) (sym (at-trailer-refusal .trailer-refusal .ensures) ∙ at-if1 .if1 .left) in
     (omega arith, omega (arith, h .long, h .room))
 
 cast-t9 : tie.Need-cast-t9
@@ -54,11 +74,21 @@ cast-t9 c = search needs
 
 returns-3 : tie.Need-returns-3
 returns-3 c =
-    let s = now (c .before .before .before .before .before .before .before .args .s) in
-    let r = c .before .before .before .before .before .trailer-refusal in
-    let h = sealed 2 23 s (sym (r .ensures) ∙ c .before .before .before .before .if1 .left) in
-    let v = there2 s (c .before .before .before .fields-at .result) (c .before .before .before .fields-at .ensures) in
-    taken2 s (r .result) (r .ensures) (c .before .before .before .fields-at .result) (c .before .before .refusal .result) (c .before .before .before .before .if1 .left) v (c .before .before .refusal .ensures) (c .get .result) (if-there s (c .get .result) (omega (arith, h .long, h .room)) (c .get .ensures .0)) (c .before .if2 .left)
+    let at-if2 = c .before in
+    let at-refusal = at-if2 .before in
+    let refusal = at-refusal .refusal in
+    let at-fields-at = at-refusal .before in
+    let fields-at = at-fields-at .fields-at in
+    let at-if1 = at-fields-at .before in
+    let if1 = at-if1 .if1 in
+    let at-trailer-refusal = at-if1 .before in
+    let start = at-trailer-refusal .before .before in
+    let s = now (start .args .s) in
+    let r = at-trailer-refusal .trailer-refusal in
+    let h = sealed 2 23 s (sym (r .ensures) ∙ if1 .left) in
+    let v = there2 s (fields-at .result) (fields-at .ensures) in
+    taken2 s (r .result) (r .ensures) (fields-at .result) (refusal .result) (if1 .left) v (refusal .ensures) (c .get .result)
+    (if-there s (c .get .result) (omega (arith, h .long, h .room)) (c .get .ensures .0)) (at-if2 .if2 .left)
 
 pub read-only-2-spec : {M : Type 1} → statement M
 read-only-2-spec =

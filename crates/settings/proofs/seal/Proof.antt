@@ -22,8 +22,9 @@ same-length c = search needs
 
 returns : tie.Need-returns
 returns c =
-    let a = c .before .before .before .before .before .args in
-    c .before .before .put .ensures ∙ ap (sets (now (a .image)) (a .at)) (trailer-number (a .edition) (a .at) (search needs))
+    let at-put = c .before .before in
+    let a = at-put .before .before .before .args in
+    at-put .put .ensures ∙ ap (sets (now (a .image)) (a .at)) (trailer-number (a .edition) (a .at) (search needs))
 
 pub seal-spec : {M : Type 1} → statement M
 seal-spec = tie.close (tie.spec mul-put add-put put-requires same-length returns)

@@ -9,14 +9,17 @@ use Rattle.settings.proofs.trailer_refusal.Tie as tie
 
 returns : tie.Need-returns
 returns c =
-    too-short (c .before .before .args .edition) (c .before .before .args .size) (now (c .before .before .args .s)) (c .if1 .taken)
+    let args = c .before .before .args in
+    too-short (args .edition) (args .size) (now (args .s)) (c .if1 .taken)
 
 shared-slice-read-if2 : tie.Need-shared-slice-read-if2
 shared-slice-read-if2 c = search needs
 
 returns-2 : tie.Need-returns-2
 returns-2 c =
-    other-edition (c .before .before .before .before .args .edition) (c .before .before .before .before .args .size) (now (c .before .before .before .before .args .s)) (c .before .before .if1 .left) (c .if2 .taken)
+    let at-if1 = c .before .before in
+    let args = at-if1 .before .before .args in
+    other-edition (args .edition) (args .size) (now (args .s)) (at-if1 .if1 .left) (c .if2 .taken)
 
 sub-get : tie.Need-sub-get
 sub-get c = search needs
@@ -32,13 +35,21 @@ shared-slice-read-if3 c = search needs
 
 returns-3 : tie.Need-returns-3
 returns-3 c =
-    let a = c .before .before .before .before .before .before .before .args in
-    by-trailer (a .edition) (a .size) (now (a .s)) (c .before .before .get .result) true (c .before .before .before .before .before .if1 .left) (c .before .before .before .if2 .left) (c .before .before .get .ensures .0) (c .if3 .taken)
+    let at-get = c .before .before in
+    let get = at-get .get in
+    let at-if2 = at-get .before in
+    let at-if1 = at-if2 .before .before in
+    let a = at-if1 .before .before .args in
+    by-trailer (a .edition) (a .size) (now (a .s)) (get .result) true (at-if1 .if1 .left) (at-if2 .if2 .left) (get .ensures .0) (c .if3 .taken)
 
 returns-4 : tie.Need-returns-4
 returns-4 c =
-    let a = c .before .before .before .before .before .before .before .args in
-    by-trailer (a .edition) (a .size) (now (a .s)) (c .before .before .get .result) false (c .before .before .before .before .before .if1 .left) (c .before .before .before .if2 .left) (c .before .before .get .ensures .0) (c .if3 .left)
+    let at-get = c .before .before in
+    let get = at-get .get in
+    let at-if2 = at-get .before in
+    let at-if1 = at-if2 .before .before in
+    let a = at-if1 .before .before .args in
+    by-trailer (a .edition) (a .size) (now (a .s)) (get .result) false (at-if1 .if1 .left) (at-if2 .if2 .left) (get .ensures .0) (c .if3 .left)
 
 pub trailer-refusal-spec : {M : Type 1} → statement M
 trailer-refusal-spec =

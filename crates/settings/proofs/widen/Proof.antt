@@ -10,11 +10,15 @@ refuse-2-requires c κs = search needs
 
 returns : tie.Need-returns
 returns c =
-    c .refuse-2 .ensures ∙ widened-refused (c .before .before .before .args .read) (c .before .if1 .taken)
+    let at-if1 = c .before in
+    let start = at-if1 .before .before in
+    c .refuse-2 .ensures ∙ widened-refused (start .args .read) (at-if1 .if1 .taken)
 
 returns-2 : tie.Need-returns-2
 returns-2 c =
-    widened-read (c .before .before .before .args .read) (c .before .if1 .left)
+    let at-if1 = c .before in
+    let start = at-if1 .before .before in
+    widened-read (start .args .read) (at-if1 .if1 .left)
 
 pub widen-spec : {M : Type 1} → statement M
 widen-spec = tie.close (tie.spec refuse-2-requires returns returns-2)

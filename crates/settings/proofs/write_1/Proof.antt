@@ -26,8 +26,12 @@ same-length c = search needs
 
 returns : tie.Need-returns
 returns c =
-    let a = c .before .before .before .before .before .before .before .before .args in
-    written-made (a .s) (image1 (a .s)) _ (now (a .out)) 23 _ _ (c .before .before .lend .ensures) (c .before .before .before .before .before .refusal .ensures) (c .before .before .before .before .before .before .image-1 .ensures) (length-image 1 widths1 (numbers1 (a .s)) refl)
+    let at-lend = c .before .before in
+    let at-refusal = at-lend .before .before .before in
+    let at-image-1 = at-refusal .before in
+    let a = at-image-1 .before .before .args in
+    written-made (a .s) (image1 (a .s)) _ (now (a .out)) 23 _ _ (at-lend .lend .ensures) (at-refusal .refusal .ensures) (at-image-1 .image-1 .ensures)
+    (length-image 1 widths1 (numbers1 (a .s)) refl)
 
 pub write-1-spec : {M : Type 1} → statement M
 write-1-spec =

@@ -26,8 +26,12 @@ same-length c = search needs
 
 returns : tie.Need-returns
 returns c =
-    let a = c .before .before .before .before .before .before .before .before .before .args in
-    written-made (a .w .settings) (image2 (a .w)) _ (now (a .out)) 27 _ _ (c .before .before .lend .ensures) (c .before .before .before .before .before .refusal .ensures) (c .before .before .before .before .before .before .image-2 .ensures) (length-image 2 widths2 (numbers2 (a .w)) refl)
+    let at-lend = c .before .before in
+    let at-refusal = at-lend .before .before .before in
+    let at-image-2 = at-refusal .before in
+    let a = at-image-2 .before .before .before .args in
+    written-made (a .w .settings) (image2 (a .w)) _ (now (a .out)) 27 _ _ (at-lend .lend .ensures) (at-refusal .refusal .ensures) (at-image-2 .image-2 .ensures)
+    (length-image 2 widths2 (numbers2 (a .w)) refl)
 
 pub write-2-spec : {M : Type 1} → statement M
 write-2-spec =

@@ -22,26 +22,51 @@ is-known-requires c κs = search needs
 
 returns : tie.Need-returns
 returns c =
-    unknown (now (c .before .before .before .before .before .args .bytes)) _ (c .before .before .before .get .ensures .0) (sym (c .before .is-known .ensures) ∙ not-true _ (c .if1 .taken))
+    let at-is-known = c .before in
+    let at-get = at-is-known .before .before in
+    let start = at-get .before .before in
+    unknown (now (start .args .bytes)) _ (at-get .get .ensures .0) (sym (at-is-known .is-known .ensures) ∙ not-true _ (c .if1 .taken))
 
 returns-2 : tie.Need-returns-2
 returns-2 c =
-    let bytes = now (c .before .before .before .before .before .before .args .bytes) in
-    let n = c .before .before .before .before .get .result in
-    known bytes n (c .before .before .before .before .get .ensures .0) _ (sym (c .before .before .is-known .ensures) ∙ not-false _ (c .before .if1 .left)) (sym (ap (λ (o : ℕ). named o n) (c .if2 .taken)))
+    let at-if1 = c .before in
+    let at-is-known = at-if1 .before in
+    let at-get = at-is-known .before .before in
+    let get = at-get .get in
+    let start = at-get .before .before in
+    let bytes = now (start .args .bytes) in
+    let n = get .result in
+    known bytes n (get .ensures .0) _ (sym (at-is-known .is-known .ensures) ∙ not-false _ (at-if1 .if1 .left)) (sym (ap (λ (o : ℕ). named o n) (c .if2 .taken)))
 
 cast-named-low : tie.Need-cast-named-low
 cast-named-low c =
-    omega (arith, low-fits (getD (now (c .before .before .before .before .before .before .args .bytes)) 0 0) (c .before .before .before .before .get .result) (sym (c .before .before .is-known .ensures) ∙ not-false _ (c .before .if1 .left)) (c .if2 .left))
+    let at-if1 = c .before in
+    let at-is-known = at-if1 .before in
+    let at-get = at-is-known .before .before in
+    let start = at-get .before .before in
+    omega (
+      arith,
+      low-fits (getD (now (start .args .bytes)) 0 0) (at-get .get .result) (sym (at-is-known .is-known .ensures) ∙ not-false _ (at-if1 .if1 .left))
+          (c .if2 .left),
+    )
 
 named-low-requires : tie.Need-named-low-requires
 named-low-requires c κs =
-    let k = sym (c .before .before .is-known .ensures) ∙ not-false _ (c .before .if1 .left) in
-    (omega (arith, at-least-one (getD (now (c .before .before .before .before .before .before .args .bytes)) 0 0) (c .before .before .before .before .get .result) k), k)
+    let at-if1 = c .before in
+    let at-is-known = at-if1 .before in
+    let at-get = at-is-known .before .before in
+    let start = at-get .before .before in
+    let k = sym (at-is-known .is-known .ensures) ∙ not-false _ (at-if1 .if1 .left) in
+    (omega (arith, at-least-one (getD (now (start .args .bytes)) 0 0) (at-get .get .result) k), k)
 
 returns-3 : tie.Need-returns-3
 returns-3 c =
-    known (now (c .before .before .before .before .before .before .before .args .bytes)) _ (c .before .before .before .before .before .get .ensures .0) _ (sym (c .before .before .before .is-known .ensures) ∙ not-false _ (c .before .before .if1 .left)) (c .named-low .ensures)
+    let at-if1 = c .before .before in
+    let at-is-known = at-if1 .before in
+    let at-get = at-is-known .before .before in
+    let start = at-get .before .before in
+    known (now (start .args .bytes)) _ (at-get .get .ensures .0) _ (sym (at-is-known .is-known .ensures) ∙ not-false _ (at-if1 .if1 .left))
+    (c .named-low .ensures)
 
 pub command-of-spec : {M : Type 1} → statement M
 command-of-spec =

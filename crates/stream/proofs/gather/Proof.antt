@@ -14,11 +14,17 @@ pending-count-requires : tie.Need-pending-count-requires
 pending-count-requires c κs = search needs
 
 returns : tie.Need-returns
-returns c = none-gathered (now (c .before .before .before .before .args .stream)) (now (c .before .before .before .before .args .chunk)) _ (c .before .pending-count .ensures) (c .if1 .taken)
+returns c =
+    let at-pending-count = c .before in
+    let args = at-pending-count .before .before .before .args in
+    none-gathered (now (args .stream)) (now (args .chunk)) _ (at-pending-count .pending-count .ensures) (c .if1 .taken)
 
 sub-least : tie.Need-sub-least
 sub-least c =
-    let h : c .before .pending-count .result ≤ 8 = at-most-eight (now (c .before .before .before .before .args .stream)) (now (c .before .before .before .before .args .chunk)) _ (c .before .pending-count .ensures) (c .if1 .left) in
+    let at-pending-count = c .before in
+    let pending-count = at-pending-count .pending-count in
+    let args = at-pending-count .before .before .before .args in
+    let h : pending-count .result ≤ 8 = at-most-eight (now (args .stream)) (now (args .chunk)) _ (pending-count .ensures) (c .if1 .left) in
     omega arith
 
 least-requires : tie.Need-least-requires
@@ -29,7 +35,11 @@ slice-aggregate-copy c = search needs
 
 add-copy : tie.Need-add-copy
 add-copy c =
-    let h : c .before .before .before .pending-count .result ≤ 8 = at-most-eight (now (c .before .before .before .before .before .before .args .stream)) (now (c .before .before .before .before .before .before .args .chunk)) _ (c .before .before .before .pending-count .ensures) (c .before .before .if1 .left) in
+    let at-if1 = c .before .before in
+    let at-pending-count = at-if1 .before in
+    let pending-count = at-pending-count .pending-count in
+    let args = at-pending-count .before .before .before .args in
+    let h : pending-count .result ≤ 8 = at-most-eight (now (args .stream)) (now (args .chunk)) _ (pending-count .ensures) (at-if1 .if1 .left) in
     omega arith
 
 sub-copy : tie.Need-sub-copy
@@ -40,15 +50,24 @@ part-copy-start c = search needs
 
 part-copy-end : tie.Need-part-copy-end
 part-copy-end c =
-    let b = now (c .before .before .before .before .before .before .args .stream) in
-    let chunk = now (c .before .before .before .before .before .before .args .chunk) in
-    let h : c .before .before .before .pending-count .result ≤ 8 = at-most-eight b chunk _ (c .before .before .before .pending-count .ensures) (c .before .before .if1 .left) in
-    let n : length b ≡ 9 = nine-bytes b chunk _ (c .before .before .before .pending-count .ensures) (c .before .before .if1 .left) in
+    let at-if1 = c .before .before in
+    let if1 = at-if1 .if1 in
+    let at-pending-count = at-if1 .before in
+    let pending-count = at-pending-count .pending-count in
+    let args = at-pending-count .before .before .before .args in
+    let b = now (args .stream) in
+    let chunk = now (args .chunk) in
+    let h : pending-count .result ≤ 8 = at-most-eight b chunk _ (pending-count .ensures) (if1 .left) in
+    let n : length b ≡ 9 = nine-bytes b chunk _ (pending-count .ensures) (if1 .left) in
     omega arith
 
 copy-requires : tie.Need-copy-requires
 copy-requires c κs =
-    let h : c .before .before .before .before .pending-count .result ≤ 8 = at-most-eight (now (c .before .before .before .before .before .before .before .args .stream)) (now (c .before .before .before .before .before .before .before .args .chunk)) _ (c .before .before .before .before .pending-count .ensures) (c .before .before .before .if1 .left) in
+    let at-if1 = c .before .before .before in
+    let at-pending-count = at-if1 .before in
+    let pending-count = at-pending-count .pending-count in
+    let args = at-pending-count .before .before .before .args in
+    let h : pending-count .result ≤ 8 = at-most-eight (now (args .stream)) (now (args .chunk)) _ (pending-count .ensures) (at-if1 .if1 .left) in
     simp length-take (omega arith)
 
 slice-aggregate-copy-2 : tie.Need-slice-aggregate-copy-2
@@ -62,27 +81,54 @@ part-copy-start-2 c = search needs
 
 part-copy-end-2 : tie.Need-part-copy-end-2
 part-copy-end-2 c =
-    used-bounds (now (c .before .before .before .before .before .before .before .before .before .before .args .stream)) (now (c .before .before .before .before .before .before .before .before .before .before .args .chunk)) _ (c .before .before .before .before .before .before .before .pending-count .ensures) (c .before .before .before .before .before .before .if1 .left) _ (c .before .before .before .before .before .least .ensures) .0
+    let at-least = c .before .before .before .before .before in
+    let at-if1 = at-least .before in
+    let at-pending-count = at-if1 .before in
+    let args = at-pending-count .before .before .before .args in
+    used-bounds (now (args .stream)) (now (args .chunk)) _ (at-pending-count .pending-count .ensures) (at-if1 .if1 .left) _ (at-least .least .ensures) .0
 
 copy-requires-2 : tie.Need-copy-requires-2
 copy-requires-2 c κs =
-    let b = now (c .before .before .before .before .before .before .before .before .before .before .before .args .stream) in
-    let chunk = now (c .before .before .before .before .before .before .before .before .before .before .before .args .chunk) in
-    let u : c .before .before .before .before .before .before .before .before .pending-count .result + c .before .before .before .before .before .before .least .result ≤ 9 = used-bounds b chunk _ (c .before .before .before .before .before .before .before .before .pending-count .ensures) (c .before .before .before .before .before .before .before .if1 .left) _ (c .before .before .before .before .before .before .least .ensures) .1 in
-    let k : length (take (c .before .before .before .before .before .before .least .result) chunk) ≡ c .before .before .before .before .before .before .least .result = part-length b chunk _ (c .before .before .before .before .before .before .before .before .pending-count .ensures) (c .before .before .before .before .before .before .before .if1 .left) _ (c .before .before .before .before .before .before .least .ensures) in
-    let n : length (c .before .before .before .copy .last .0) ≡ 9 = ap length (c .before .before .before .copy .ensures) ∙ simp length-sets in
+    let at-copy = c .before .before .before in
+    let copy = at-copy .copy in
+    let at-least = at-copy .before .before .before in
+    let least = at-least .least in
+    let at-if1 = at-least .before in
+    let if1 = at-if1 .if1 in
+    let at-pending-count = at-if1 .before in
+    let pending-count = at-pending-count .pending-count in
+    let args = at-pending-count .before .before .before .args in
+    let b = now (args .stream) in
+    let chunk = now (args .chunk) in
+    let u : pending-count .result + least .result ≤ 9 = used-bounds b chunk _ (pending-count .ensures) (if1 .left) _ (least .ensures) .1 in
+    let k : length (take (least .result) chunk) ≡ least .result = part-length b chunk _ (pending-count .ensures) (if1 .left) _ (least .ensures) in
+    let n : length (copy .last .0) ≡ 9 = ap length (copy .ensures) ∙ simp length-sets in
     omega arith
 
 add-t8 : tie.Need-add-t8
 add-t8 c =
-    let u : c .before .before .before .before .before .before .before .before .before .before .pending-count .result + c .before .before .before .before .before .before .before .before .least .result ≤ 9 = used-bounds (now (c .before .before .before .before .before .before .before .before .before .before .before .before .before .args .stream)) (now (c .before .before .before .before .before .before .before .before .before .before .before .before .before .args .chunk)) _ (c .before .before .before .before .before .before .before .before .before .before .pending-count .ensures) (c .before .before .before .before .before .before .before .before .before .if1 .left) _ (c .before .before .before .before .before .before .before .before .least .ensures) .1 in
+    let at-least = c .before .before .before .before .before .before .before .before in
+    let least = at-least .least in
+    let at-if1 = at-least .before in
+    let at-pending-count = at-if1 .before in
+    let pending-count = at-pending-count .pending-count in
+    let args = at-pending-count .before .before .before .args in
+    let u : pending-count .result + least .result ≤ 9 =
+    used-bounds (now (args .stream)) (now (args .chunk)) _ (pending-count .ensures) (at-if1 .if1 .left) _ (least .ensures) .1 in
     omega arith
 
 returns-2 : tie.Need-returns-2
 returns-2 c =
-    let b = now (c .before .before .before .before .before .before .before .before .before .before .before .before .before .args .stream) in
-    let chunk = now (c .before .before .before .before .before .before .before .before .before .before .before .before .before .args .chunk) in
-    all-gathered b chunk _ (c .before .before .before .before .before .before .before .before .before .before .pending-count .ensures) (c .before .before .before .before .before .before .before .before .before .if1 .left) _ (c .before .before .before .before .before .before .before .before .least .ensures) _ _ (c .before .before .before .before .before .copy .ensures) (c .before .copy2 .ensures)
+    let at-copy2 = c .before in
+    let at-copy = at-copy2 .before .before .before .before in
+    let at-least = at-copy .before .before .before in
+    let at-if1 = at-least .before in
+    let at-pending-count = at-if1 .before in
+    let args = at-pending-count .before .before .before .args in
+    let b = now (args .stream) in
+    let chunk = now (args .chunk) in
+    all-gathered b chunk _ (at-pending-count .pending-count .ensures) (at-if1 .if1 .left) _ (at-least .least .ensures) _ _ (at-copy .copy .ensures)
+    (at-copy2 .copy2 .ensures)
 
 pub gather-spec : {M : Type 1} → statement M
 gather-spec =

@@ -26,15 +26,20 @@ part-copy-start : tie.Need-part-copy-start
 part-copy-start c = search needs
 
 part-copy-end : tie.Need-part-copy-end
-part-copy-end c = let n : length (c .before .before .before .before .args .got .bytes) ≡ 9 = search needs in omega arith
+part-copy-end c =
+    let start = c .before .before .before .before in
+    let n : length (start .args .got .bytes) ≡ 9 = search needs in omega arith
 
 copy-requires : tie.Need-copy-requires
 copy-requires c κs = search needs
 
 returns-2 : tie.Need-returns-2
 returns-2 c =
-    let n : length (c .before .before .before .before .before .before .before .args .got .bytes) ≡ 9 = search needs in
-    some-kept (c .before .before .before .before .before .before .before .args .got) (c .before .before .before .before .before .before .if1 .left) n _ (c .before .copy .ensures)
+    let at-copy = c .before in
+    let at-if1 = at-copy .before .before .before .before .before in
+    let args = at-if1 .before .args in
+    let n : length (args .got .bytes) ≡ 9 = search needs in
+    some-kept (args .got) (at-if1 .if1 .left) n _ (at-copy .copy .ensures)
 
 pub image-spec : {M : Type 1} → statement M
 image-spec =

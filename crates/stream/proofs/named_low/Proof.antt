@@ -33,12 +33,17 @@ returns-4 c = sym (ap (λ (o : ℕ). named o (c .before .args .argument)) (c .ma
 
 returns-5 : tie.Need-returns-5
 returns-5 c =
-    ap Correction (signed-back _ _ (c .before .before .fits .argument) (c .to-signed .ensures)) ∙ sym (ap (λ (o : ℕ). named o (c .before .before .args .argument)) (c .before .match .keys5))
+    let at-match = c .before in
+    let start = at-match .before in
+    ap Correction (signed-back _ _ (start .fits .argument) (c .to-signed .ensures))
+    ∙ sym (ap (λ (o : ℕ). named o (start .args .argument)) (at-match .match .keys5))
 
 returns-6 : tie.Need-returns-6
 returns-6 c =
-    let seven : c .before .args .operation ≡ 7 = omega (arith, at-most-seven (c .before .args .operation) (c .before .args .argument) (c .before .pre .1)) in
-    sym (ap (λ (o : ℕ). named o (c .before .args .argument)) seven)
+    let start = c .before in
+    let args = start .args in
+    let seven : args .operation ≡ 7 = omega (arith, at-most-seven (args .operation) (args .argument) (start .pre .1)) in
+    sym (ap (λ (o : ℕ). named o (args .argument)) seven)
 
 pub named-low-spec : {M : Type 1} → statement M
 named-low-spec =

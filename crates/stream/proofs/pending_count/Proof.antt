@@ -20,7 +20,9 @@ wide-requires : tie.Need-wide-requires
 wide-requires c κs = search needs
 
 returns-2 : tie.Need-returns-2
-returns-2 c = too-many (now (c .before .before .before .before .before .args .s)) (omega arith) (omega arith)
+returns-2 c =
+    let start = c .before .before .before .before .before in
+    too-many (now (start .args .s)) (omega arith) (omega arith)
 
 add-get : tie.Need-add-get
 add-get c = search needs
@@ -30,16 +32,24 @@ get-requires c κs = search needs
 
 returns-3 : tie.Need-returns-3
 returns-3 c =
-    let s = now (c .before .before .before .before .before .before .before .args .s) in
-    let w = c .before .before .before .wide .ensures in
-    let r : c .before .get .result ≡ leValue (take (8 - getD s 0 0) (drop (1 + getD s 0 0) s)) = rw (← w) (c .before .get .ensures .0) in
+    let at-get = c .before in
+    let get = at-get .get in
+    let at-wide = at-get .before .before in
+    let start = at-wide .before .before .before .before in
+    let s = now (start .args .s) in
+    let w = at-wide .wide .ensures in
+    let r : get .result ≡ leValue (take (8 - getD s 0 0) (drop (1 + getD s 0 0) s)) = rw (← w) (get .ensures .0) in
     not-zeros s _ (omega arith) (omega arith) (whole-rest s _ (omega arith) r) (c .if3 .taken)
 
 returns-4 : tie.Need-returns-4
 returns-4 c =
-    let s = now (c .before .before .before .before .before .before .before .args .s) in
-    let w = c .before .before .before .wide .ensures in
-    let r : c .before .get .result ≡ leValue (take (8 - getD s 0 0) (drop (1 + getD s 0 0) s)) = rw (← w) (c .before .get .ensures .0) in
+    let at-get = c .before in
+    let get = at-get .get in
+    let at-wide = at-get .before .before in
+    let start = at-wide .before .before .before .before in
+    let s = now (start .args .s) in
+    let w = at-wide .wide .ensures in
+    let r : get .result ≡ leValue (take (8 - getD s 0 0) (drop (1 + getD s 0 0) s)) = rw (← w) (get .ensures .0) in
     w ∙ zeros s _ (omega arith) (omega arith) (whole-rest s _ (omega arith) r) (omega arith)
 
 pub pending-count-spec : {M : Type 1} → statement M

@@ -32,9 +32,13 @@ entry-fits-requires c κs = search needs
 
 returns : tie.Need-returns Inv-loop μ-loop
 returns c =
-    let a = c .before .before .before .before .before .args in
-    let l = c .before .before .before .loop in
-    fit-stop (now (a .s)) (a .at) (l .i) (a .count) (c .before .entry-fits .result) (omega arith) (c .before .entry-fits .ensures) (not-true (c .before .entry-fits .result) (c .if1 .taken)) ∙ l .inv .1
+    let at-entry-fits = c .before in
+    let entry-fits = at-entry-fits .entry-fits in
+    let at-loop = at-entry-fits .before .before in
+    let l = at-loop .loop in
+    let a = at-loop .before .before .args in
+    fit-stop (now (a .s)) (a .at) (l .i) (a .count) (entry-fits .result) (omega arith) (entry-fits .ensures) (not-true (entry-fits .result) (c .if1 .taken))
+    ∙ l .inv .1
 
 add-i : tie.Need-add-i Inv-loop μ-loop
 add-i c = search needs
@@ -44,14 +48,21 @@ loop-less c = search needs
 
 loop-again : tie.Need-loop-again Inv-loop μ-loop
 loop-again c =
-    let a = c .before .before .before .before .before .args in
-    let l = c .before .before .before .loop in
-    (omega arith, fit-on (now (a .s)) (a .at) (l .i) (a .count) (c .before .entry-fits .result) (omega arith) (c .before .entry-fits .ensures) (not-false (c .before .entry-fits .result) (c .if1 .left)) ∙ l .inv .1)
+    let at-entry-fits = c .before in
+    let entry-fits = at-entry-fits .entry-fits in
+    let at-loop = at-entry-fits .before .before in
+    let l = at-loop .loop in
+    let a = at-loop .before .before .args in (
+      omega arith,
+      fit-on (now (a .s)) (a .at) (l .i) (a .count) (entry-fits .result) (omega arith) (entry-fits .ensures) (not-false (entry-fits .result) (c .if1 .left))
+          ∙ l .inv .1,
+    )
 
 returns-2 : tie.Need-returns-2 Inv-loop μ-loop
 returns-2 c =
-    let a = c .before .before .before .args in
-    let l = c .before .loop in
+    let at-loop = c .before in
+    let l = at-loop .loop in
+    let a = at-loop .before .before .args in
     fit-end (now (a .s)) (a .at) (l .i) (a .count) (omega arith) ∙ l .inv .1
 
 pub all-fit-spec : {M : Type 1} → statement M

@@ -26,8 +26,10 @@ fits-requires c κs = search needs
 
 returns : tie.Need-returns
 returns c =
-    let a = c .before .before .before .before .before .args in
-    fits-made (now (a .s)) (a .at) (c .before .before .before .get .result) (c .fits2 .result) (c .before .before .before .get .ensures) (c .fits2 .ensures)
+    let at-get = c .before .before .before in
+    let get = at-get .get in
+    let a = at-get .before .before .args in
+    fits-made (now (a .s)) (a .at) (get .result) (c .fits2 .result) (get .ensures) (c .fits2 .ensures)
 
 pub entry-fits-spec : {M : Type 1} → statement M
 entry-fits-spec =

@@ -20,48 +20,77 @@ get-requires-2 c κs = search needs
 
 returns-2 : tie.Need-returns-2
 returns-2 c =
-    let s = now (c .before .before .before .before .before .args .s) in
-    let k = c .before .before .get in
-    let d = c .before .get2 in
-    too-many s (k .result) (d .result) (c .before .before .before .if1 .left) (k .ensures .0) (d .ensures .0) (c .if2 .taken)
+    let at-get2 = c .before in
+    let at-get = at-get2 .before in
+    let at-if1 = at-get .before in
+    let start = at-if1 .before .before in
+    let s = now (start .args .s) in
+    let k = at-get .get in
+    let d = at-get2 .get2 in
+    too-many s (k .result) (d .result) (at-if1 .if1 .left) (k .ensures .0) (d .ensures .0) (c .if2 .taken)
 
 mul-if3 : tie.Need-mul-if3
 mul-if3 c = search needs
 
 returns-3 : tie.Need-returns-3
 returns-3 c =
-    let s = now (c .before .before .before .before .before .before .args .s) in
-    let k = c .before .before .before .get in
-    let d = c .before .before .get2 in
-    too-far s (k .result) (d .result) (c .before .before .before .before .if1 .left) (k .ensures .0) (d .ensures .0) (c .before .if2 .left) (c .if3 .taken)
+    let at-if2 = c .before in
+    let at-get2 = at-if2 .before in
+    let at-get = at-get2 .before in
+    let at-if1 = at-get .before in
+    let start = at-if1 .before .before in
+    let s = now (start .args .s) in
+    let k = at-get .get in
+    let d = at-get2 .get2 in
+    too-far s (k .result) (d .result) (at-if1 .if1 .left) (k .ensures .0) (d .ensures .0) (at-if2 .if2 .left) (c .if3 .taken)
 
 returns-4 : tie.Need-returns-4
 returns-4 c =
-    let s = now (c .before .before .before .before .before .before .before .args .s) in
-    let k = c .before .before .before .before .get in
-    let d = c .before .before .before .get2 in
-    no-room s (k .result) (d .result) (c .before .before .before .before .before .if1 .left) (k .ensures .0) (d .ensures .0) (c .before .before .if2 .left) (c .before .if3 .left) (c .if4 .taken)
+    let at-if3 = c .before in
+    let at-if2 = at-if3 .before in
+    let at-get2 = at-if2 .before in
+    let at-get = at-get2 .before in
+    let at-if1 = at-get .before in
+    let start = at-if1 .before .before in
+    let s = now (start .args .s) in
+    let k = at-get .get in
+    let d = at-get2 .get2 in
+    no-room s (k .result) (d .result) (at-if1 .if1 .left) (k .ensures .0) (d .ensures .0) (at-if2 .if2 .left) (at-if3 .if3 .left) (c .if4 .taken)
 
 all-fit-requires : tie.Need-all-fit-requires
 all-fit-requires c κs = search needs
 
 returns-5 : tie.Need-returns-5
 returns-5 c =
-    let s = now (c .before .before .before .before .before .before .before .before .before .args .s) in
-    let k = c .before .before .before .before .before .before .get in
-    let d = c .before .before .before .before .before .get2 in
-    let a = c .before .all-fit in
-    settled s (k .result) (d .result) (c .before .before .before .before .before .before .before .if1 .left) (k .ensures .0) (d .ensures .0)
-    (a .result) (a .ensures) (c .before .before .before .if3 .left) (c .before .before .before .before .if2 .left) (c .before .before .if4 .left) (c .if5 .taken)
+    let at-all-fit = c .before in
+    let at-if4 = at-all-fit .before in
+    let at-if3 = at-if4 .before in
+    let at-if2 = at-if3 .before in
+    let at-get2 = at-if2 .before in
+    let at-get = at-get2 .before in
+    let at-if1 = at-get .before in
+    let start = at-if1 .before .before in
+    let s = now (start .args .s) in
+    let k = at-get .get in
+    let d = at-get2 .get2 in
+    let a = at-all-fit .all-fit in
+    settled s (k .result) (d .result) (at-if1 .if1 .left) (k .ensures .0) (d .ensures .0)
+    (a .result) (a .ensures) (at-if3 .if3 .left) (at-if2 .if2 .left) (at-if4 .if4 .left) (c .if5 .taken)
 
 returns-6 : tie.Need-returns-6
 returns-6 c =
-    let s = now (c .before .before .before .before .before .before .before .before .before .args .s) in
-    let k = c .before .before .before .before .before .before .get in
-    let d = c .before .before .before .before .before .get2 in
-    let a = c .before .all-fit in
-    unfit s (k .result) (d .result) (c .before .before .before .before .before .before .before .if1 .left) (k .ensures .0) (d .ensures .0)
-    (a .result) (a .ensures) (c .before .before .before .if3 .left) (c .if5 .left)
+    let at-all-fit = c .before in
+    let at-if3 = at-all-fit .before .before in
+    let at-get2 = at-if3 .before .before in
+    let at-get = at-get2 .before in
+    let at-if1 = at-get .before in
+    let start = at-if1 .before .before in
+    let s = now (start .args .s) in
+    let k = at-get .get in
+    let d = at-get2 .get2 in
+    let a = at-all-fit .all-fit in
+    unfit s (k .result) (d .result) (at-if1 .if1 .left) (k .ensures .0) (d .ensures .0)
+    (a .result) (a .ensures) (at-if3 .if3 .left) (c .if5 .left)
 
 pub read-section-spec : {M : Type 1} → statement M
 read-section-spec =

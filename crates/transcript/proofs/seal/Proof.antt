@@ -27,9 +27,11 @@ same-length c = search needs
 
 returns : tie.Need-returns
 returns c =
-    let a = c .before .before .before .before .before .before .before .before .before .args in
-    c .before .before .put2 .ensures
-    ∙ ap (λ l. sets l (16 * a .count + 4) (leBytes 4 (16 * a .count))) (c .before .before .before .before .before .before .put .ensures)
+    let at-put2 = c .before .before in
+    let at-put = at-put2 .before .before .before .before in
+    let a = at-put .before .before .before .args in
+    at-put2 .put2 .ensures
+    ∙ ap (λ l. sets l (16 * a .count + 4) (leBytes 4 (16 * a .count))) (at-put .put .ensures)
     ∙ trailer-laid (now (a .room)) (a .count)
 
 pub seal-spec : {M : Type 1} → statement M

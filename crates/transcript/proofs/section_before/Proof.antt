@@ -22,7 +22,10 @@ part-result-start c = search needs
 
 part-result-end : tie.Need-part-result-end
 part-result-end c =
-    let f = lies (now (c .before .before .before .before .before .args .s)) _ _ (sym (c .before .start .given .1) ∙ c .before .before .before .read-section .ensures) in
+    let at-start = c .before in
+    let at-read-section = at-start .before .before in
+    let start = at-read-section .before .before in
+    let f = lies (now (start .args .s)) _ _ (sym (at-start .start .given .1) ∙ at-read-section .read-section .ensures) in
     omega arith
 
 enum-told : tie.Need-enum-told
@@ -38,10 +41,18 @@ part-result-end-2 : tie.Need-part-result-end-2
 part-result-end-2 c = search needs
 
 returns : tie.Need-returns
-returns c = before-part (now (c .before .before .before .before .before .before .args .s)) _ _ (sym (c .before .before .start .given .1) ∙ c .before .before .before .before .read-section .ensures)
+returns c =
+    let at-start = c .before .before in
+    let at-read-section = at-start .before .before in
+    let start = at-read-section .before .before in
+    before-part (now (start .args .s)) _ _ (sym (at-start .start .given .1) ∙ at-read-section .read-section .ensures)
 
 returns-2 : tie.Need-returns-2
-returns-2 c = none-before (now (c .before .before .before .before .before .args .s)) (sym (c .before .enum-told .given .1) ∙ c .before .before .before .read-section .ensures)
+returns-2 c =
+    let at-enum-told = c .before in
+    let at-read-section = at-enum-told .before .before in
+    let start = at-read-section .before .before in
+    none-before (now (start .args .s)) (sym (at-enum-told .enum-told .given .1) ∙ at-read-section .read-section .ensures)
 
 pub section-before-spec : {M : Type 1} → statement M
 section-before-spec =

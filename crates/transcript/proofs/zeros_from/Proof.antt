@@ -23,7 +23,11 @@ array-read-if1 : tie.Need-array-read-if1 Inv-loop μ-loop
 array-read-if1 c = search needs
 
 returns : tie.Need-returns Inv-loop μ-loop
-returns c = zeros-stop (c .before .before .before .args .t1) (c .before .before .loop .i) (omega arith) (c .if1 .taken) ∙ c .before .before .loop .inv .1
+returns c =
+    let at-loop = c .before .before in
+    let loop = at-loop .loop in
+    let start = at-loop .before in
+    zeros-stop (start .args .t1) (loop .i) (omega arith) (c .if1 .taken) ∙ loop .inv .1
 
 add-i : tie.Need-add-i Inv-loop μ-loop
 add-i c = search needs
@@ -32,10 +36,18 @@ loop-less : tie.Need-loop-less Inv-loop μ-loop
 loop-less c = search needs
 
 loop-again : tie.Need-loop-again Inv-loop μ-loop
-loop-again c = (c .before .before .loop .inv .0, zeros-on (c .before .before .before .args .t1) (c .before .before .loop .i) (omega arith) (c .if1 .left) ∙ c .before .before .loop .inv .1)
+loop-again c =
+    let at-loop = c .before .before in
+    let loop = at-loop .loop in
+    let start = at-loop .before in
+    (loop .inv .0, zeros-on (start .args .t1) (loop .i) (omega arith) (c .if1 .left) ∙ loop .inv .1)
 
 returns-2 : tie.Need-returns-2 Inv-loop μ-loop
-returns-2 c = zeros-end (c .before .before .args .t1) (c .before .loop .i) (omega arith) ∙ c .before .loop .inv .1
+returns-2 c =
+    let at-loop = c .before in
+    let loop = at-loop .loop in
+    let start = at-loop .before in
+    zeros-end (start .args .t1) (loop .i) (omega arith) ∙ loop .inv .1
 
 pub zeros-from-spec : {M : Type 1} → statement M
 zeros-from-spec =

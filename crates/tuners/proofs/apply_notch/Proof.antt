@@ -31,8 +31,13 @@ same-length-2 c = search needs
 
 returns-2 : tie.Need-returns-2
 returns-2 c =
-    let a = c .before .before .before .before .before .before .before .before .before .before .before .args in
-    changed (λ (x : TunerRead). x .ok) (λ (x : TunerRead). x .tuner) _ _ (c .before .before .before .before .before .before .before .before .decode-tuner .ensures) tunerBytes (quietly (Notch (a .on))) (now (a .tuner)) (not-false _ (c .before .before .before .before .before .before .if1 .left)) _ _ _ (c .before .before .before .before .with-notch .ensures) _ (c .before .before .lend .ensures)
+    let at-lend = c .before .before in
+    let at-with-notch = at-lend .before .before in
+    let at-if1 = at-with-notch .before .before in
+    let at-decode-tuner = at-if1 .before .before in
+    let a = at-decode-tuner .before .before .before .args in
+    changed (λ (x : TunerRead). x .ok) (λ (x : TunerRead). x .tuner) _ _ (at-decode-tuner .decode-tuner .ensures) tunerBytes (quietly (Notch (a .on)))
+    (now (a .tuner)) (not-false _ (at-if1 .if1 .left)) _ _ _ (at-with-notch .with-notch .ensures) _ (at-lend .lend .ensures)
 
 pub apply-notch-spec : {M : Type 1} → statement M
 apply-notch-spec =

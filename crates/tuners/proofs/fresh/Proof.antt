@@ -19,7 +19,11 @@ same-length : tie.Need-same-length
 same-length c = search needs
 
 returns : tie.Need-returns
-returns c = c .before .before .lend .ensures ∙ ap (λ (m : Made). answeredTo (m .answer) (tunerBytes (m .tuner)) (now (c .before .before .before .before .before .before .args .next))) (c .before .before .before .before .new .ensures)
+returns c =
+    let at-lend = c .before .before in
+    let at-new = at-lend .before .before in
+    let start = at-new .before .before in
+    at-lend .lend .ensures ∙ ap (λ (m : Made). answeredTo (m .answer) (tunerBytes (m .tuner)) (now (start .args .next))) (at-new .new .ensures)
 
 pub fresh-spec : {M : Type 1} → statement M
 fresh-spec = tie.close (tie.spec new-requires lend-requires same-length returns)

@@ -17,7 +17,11 @@ get-gain-requires : tie.Need-get-gain-requires
 get-gain-requires c κs = search needs
 
 returns-2 : tie.Need-returns-2
-returns-2 c = of-record (λ (x : TunerRead). x .ok) (λ (x : TunerRead). x .tuner) _ _ (c .before .before .before .before .decode-tuner .ensures) _ _ (not-false _ (c .before .before .if1 .left)) _ (c .get-gain .ensures)
+returns-2 c =
+    let at-if1 = c .before .before in
+    let at-decode-tuner = at-if1 .before .before in
+    of-record (λ (x : TunerRead). x .ok) (λ (x : TunerRead). x .tuner) _ _ (at-decode-tuner .decode-tuner .ensures) _ _ (not-false _ (at-if1 .if1 .left)) _
+    (c .get-gain .ensures)
 
 pub get-gain-spec : {M : Type 1} → statement M
 get-gain-spec = tie.close (tie.spec decode-tuner-requires returns get-gain-requires returns-2)

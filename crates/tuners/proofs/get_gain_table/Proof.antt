@@ -20,7 +20,12 @@ same-length : tie.Need-same-length
 same-length c = search needs
 
 returns-2 : tie.Need-returns-2
-returns-2 c = of-record (λ (x : TunerRead). x .ok) (λ (x : TunerRead). x .tuner) _ _ (c .before .before .before .before .before .before .before .decode-tuner .ensures) _ _ (not-false _ (c .before .before .before .before .before .if1 .left)) _ (c .before .before .gain-table .ensures)
+returns-2 c =
+    let at-gain-table = c .before .before in
+    let at-if1 = at-gain-table .before .before .before in
+    let at-decode-tuner = at-if1 .before .before in
+    of-record (λ (x : TunerRead). x .ok) (λ (x : TunerRead). x .tuner) _ _ (at-decode-tuner .decode-tuner .ensures) _ _ (not-false _ (at-if1 .if1 .left)) _
+    (at-gain-table .gain-table .ensures)
 
 pub get-gain-table-spec : {M : Type 1} → statement M
 get-gain-table-spec =

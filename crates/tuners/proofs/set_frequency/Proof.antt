@@ -28,14 +28,23 @@ tuned-requires c κs = search needs
 returns : tie.Need-returns
 unfolding resultOf
 returns c =
-    let a = c .before .before .before .before .before .before .before .before .before .before .before .before .args in
-    refused-untried (courseOf (Tune (a .hz) (now (a .replies)))) (now (a .outcomes)) (now (a .tuner)) (now (a .room)) (now (a .next)) _ (c .before .before .before .before .hz-refusal .result) _ (c .before .before .before .before .before .before .decode-tuner .ensures) (c .before .before .before .before .hz-refusal .ensures) (c .before .before .before .ready .ensures) _ _ (λ z. omega arith) (c .before .refuse .ensures) (c .tuned .ensures)
+    let at-refuse = c .before in
+    let at-ready = at-refuse .before .before in
+    let at-hz-refusal = at-ready .before in
+    let hz-refusal = at-hz-refusal .hz-refusal in
+    let at-decode-tuner = at-hz-refusal .before .before in
+    let a = at-decode-tuner .before .before .before .before .before .before .args in
+    refused-untried (courseOf (Tune (a .hz) (now (a .replies)))) (now (a .outcomes)) (now (a .tuner)) (now (a .room)) (now (a .next)) _ (hz-refusal .result) _
+    (at-decode-tuner .decode-tuner .ensures) (hz-refusal .ensures) (at-ready .ready .ensures) _ _ (λ z. omega arith) (at-refuse .refuse .ensures)
+    (c .tuned .ensures)
 
 set-frequency-requires : tie.Need-set-frequency-requires
 set-frequency-requires c κs = search needs
 
 hand-requires : tie.Need-hand-requires
-hand-requires c κs = fits _ _ _ _ (sym (c .before .before .before .before .before .before .ready .ensures) ∙ omega arith)
+hand-requires c κs =
+    let at-ready = c .before .before .before .before .before .before in
+    fits _ _ _ _ (sym (at-ready .ready .ensures) ∙ omega arith)
 
 tuned-requires-2 : tie.Need-tuned-requires-2
 tuned-requires-2 c κs = search needs
@@ -49,8 +58,16 @@ same-length-2 c = search needs
 returns-2 : tie.Need-returns-2
 unfolding resultOf lockTriesOf
 returns-2 c =
-    let a = c .before .before .before .before .before .before .before .before .before .before .before .before .before .before .before .before .before .before .before .args in
-    handed-tried (courseOf (Tune (a .hz) (now (a .replies)))) (now (a .outcomes)) (now (a .tuner)) (now (a .room)) (now (a .next)) _ (c .before .before .before .before .before .before .before .before .before .before .before .hz-refusal .result) _ (c .before .before .before .before .before .before .before .before .before .before .before .before .before .decode-tuner .ensures) (c .before .before .before .before .before .before .before .before .before .before .before .hz-refusal .ensures) (c .before .before .before .before .before .before .before .before .before .before .ready .ensures) (omega arith) _ _ _ _ _ (c .before .before .before .before .before .before .before .set-frequency .ensures) _ _ (c .before .before .before .hand .ensures) _ (c .tuned2 .ensures)
+    let at-hand = c .before .before .before in
+    let at-set-frequency = at-hand .before .before .before .before in
+    let at-ready = at-set-frequency .before .before .before in
+    let at-hz-refusal = at-ready .before in
+    let hz-refusal = at-hz-refusal .hz-refusal in
+    let at-decode-tuner = at-hz-refusal .before .before in
+    let a = at-decode-tuner .before .before .before .before .before .before .args in
+    handed-tried (courseOf (Tune (a .hz) (now (a .replies)))) (now (a .outcomes)) (now (a .tuner)) (now (a .room)) (now (a .next)) _ (hz-refusal .result) _
+    (at-decode-tuner .decode-tuner .ensures) (hz-refusal .ensures) (at-ready .ready .ensures) (omega arith) _ _ _ _ _ (at-set-frequency .set-frequency .ensures)
+    _ _ (at-hand .hand .ensures) _ (c .tuned2 .ensures)
 
 pub set-frequency-spec : {M : Type 1} → statement M
 set-frequency-spec =

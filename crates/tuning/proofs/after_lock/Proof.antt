@@ -14,13 +14,20 @@ masked-requires : tie.Need-masked-requires
 masked-requires c κs = search needs
 
 write-one-requires : tie.Need-write-one-requires
-write-one-requires c κs = (ap inRange (c .before .before .before .masked .ensures), omega (arith, c .before .before .before .before .before .before .pre .0), omega (arith, c .before .before .before .before .before .before .pre .1))
+write-one-requires c κs =
+    let at-masked = c .before .before .before in
+    let pre = at-masked .before .before .before .pre in
+    (ap inRange (at-masked .masked .ensures), omega (arith, pre .0), omega (arith, pre .1))
 
 same-length : tie.Need-same-length
 same-length c = search needs
 
 returns : tie.Need-returns
-returns c = (swap inRoom _ _ _ _ _ (ap (λ (u : Update). updates (u ∷ [])) (c .before .before .before .before .before .before .masked .ensures)) (c .before .before .write-one .ensures .0), c .before .before .write-one .ensures .1)
+returns c =
+    let at-write-one = c .before .before in
+    let write-one = at-write-one .write-one in
+    let at-masked = at-write-one .before .before .before .before in
+    (swap inRoom _ _ _ _ _ (ap (λ (u : Update). updates (u ∷ [])) (at-masked .masked .ensures)) (write-one .ensures .0), write-one .ensures .1)
 
 pub after-lock-spec : {M : Type 1} → statement M
 after-lock-spec = tie.close (tie.spec masked-requires write-one-requires same-length returns)

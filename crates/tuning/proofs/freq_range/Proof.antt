@@ -38,10 +38,20 @@ loop-less : tie.Need-loop-less Inv-loop μ-loop
 loop-less c = search needs
 
 loop-again : tie.Need-loop-again Inv-loop μ-loop
-loop-again c = ap (λ (r : FreqRange). lastAt (c .before .before .before .before .before .args .hz) r (drop (c .before .before .before .loop .i + 1) ranges)) (c .later .ensures) ∙ range-turn (c .before .before .before .before .before .args .hz) (c .before .before .before .loop .best) _ (c .before .before .before .loop .i) (search needs) ∙ c .before .before .before .loop .inv
+loop-again c =
+    let at-loop = c .before .before .before in
+    let loop = at-loop .loop in
+    let args = at-loop .before .before .args in
+    ap (λ (r : FreqRange). lastAt (args .hz) r (drop (loop .i + 1) ranges)) (c .later .ensures)
+    ∙ range-turn (args .hz) (loop .best) _ (loop .i) (search needs)
+    ∙ loop .inv
 
 returns : tie.Need-returns Inv-loop μ-loop
-returns c = range-end (c .before .before .before .args .hz) (c .before .loop .best) (c .before .loop .i) (search needs) ∙ c .before .loop .inv
+returns c =
+    let at-loop = c .before in
+    let loop = at-loop .loop in
+    let start = at-loop .before .before in
+    range-end (start .args .hz) (loop .best) (loop .i) (search needs) ∙ loop .inv
 
 pub freq-range-spec : {M : Type 1} → statement M
 freq-range-spec =

@@ -16,7 +16,11 @@ same-length : tie.Need-same-length
 same-length c = search needs
 
 returns : tie.Need-returns
-returns c = (λ chip. swap inRoom _ _ _ _ _ (status-made _ _ _ (c .before .before .before .before .reply-bytes .ensures)) (c .before .before .status-entries .ensures .0 chip), c .before .before .status-entries .ensures .1)
+returns c =
+    let at-status-entries = c .before .before in
+    let status-entries = at-status-entries .status-entries in
+    let at-reply-bytes = at-status-entries .before .before in
+    (λ chip. swap inRoom _ _ _ _ _ (status-made _ _ _ (at-reply-bytes .reply-bytes .ensures)) (status-entries .ensures .0 chip), status-entries .ensures .1)
 
 pub read-status-raw-spec : {M : Type 1} → statement M
 read-status-raw-spec =

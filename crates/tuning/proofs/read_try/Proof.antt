@@ -22,7 +22,11 @@ same-length : tie.Need-same-length
 same-length c = search needs
 
 returns : tie.Need-returns
-returns c = (λ chip. swap inRoom _ _ _ _ _ (try-made _ _ _ _ (c .before .before .before .before .reply-bytes .ensures)) (c .before .before .try-entries .ensures .0 chip), c .before .before .try-entries .ensures .1)
+returns c =
+    let at-try-entries = c .before .before in
+    let try-entries = at-try-entries .try-entries in
+    let at-reply-bytes = at-try-entries .before .before in
+    (λ chip. swap inRoom _ _ _ _ _ (try-made _ _ _ _ (at-reply-bytes .reply-bytes .ensures)) (try-entries .ensures .0 chip), try-entries .ensures .1)
 
 pub read-try-spec : {M : Type 1} → statement M
 read-try-spec =

@@ -17,7 +17,11 @@ mul-t8 : tie.Need-mul-t8
 mul-t8 c = search needs
 
 returns : tie.Need-returns
-returns c = repair-down _ _ _ _ _ (c .before .before .vco-power-ref .ensures) (c .before .before .before .vco-fine-tune .ensures) _ (c .before .if1 .taken) (c .lower .ensures)
+returns c =
+    let at-if1 = c .before in
+    let at-vco-power-ref = at-if1 .before in
+    let at-vco-fine-tune = at-vco-power-ref .before in
+    repair-down _ _ _ _ _ (at-vco-power-ref .vco-power-ref .ensures) (at-vco-fine-tune .vco-fine-tune .ensures) _ (at-if1 .if1 .taken) (c .lower .ensures)
 
 add-t9 : tie.Need-add-t9
 add-t9 c = search needs
@@ -26,10 +30,18 @@ mul-t10 : tie.Need-mul-t10
 mul-t10 c = search needs
 
 returns-2 : tie.Need-returns-2
-returns-2 c = repair-up _ _ _ _ _ (c .before .before .vco-power-ref .ensures) (c .before .before .before .vco-fine-tune .ensures) (c .before .if1 .left) (c .if2 .taken)
+returns-2 c =
+    let at-if1 = c .before in
+    let at-vco-power-ref = at-if1 .before in
+    let at-vco-fine-tune = at-vco-power-ref .before in
+    repair-up _ _ _ _ _ (at-vco-power-ref .vco-power-ref .ensures) (at-vco-fine-tune .vco-fine-tune .ensures) (at-if1 .if1 .left) (c .if2 .taken)
 
 returns-3 : tie.Need-returns-3
-returns-3 c = repair-none _ _ _ _ _ (c .before .before .vco-power-ref .ensures) (c .before .before .before .vco-fine-tune .ensures) (c .before .if1 .left) (c .if2 .left)
+returns-3 c =
+    let at-if1 = c .before in
+    let at-vco-power-ref = at-if1 .before in
+    let at-vco-fine-tune = at-vco-power-ref .before in
+    repair-none _ _ _ _ _ (at-vco-power-ref .vco-power-ref .ensures) (at-vco-fine-tune .vco-fine-tune .ensures) (at-if1 .if1 .left) (c .if2 .left)
 
 pub repair-spec : {M : Type 1} → statement M
 repair-spec =

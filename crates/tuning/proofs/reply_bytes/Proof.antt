@@ -27,7 +27,10 @@ copy-requires c κs = search needs
 
 returns : tie.Need-returns
 unfolding replyBytes
-returns c = let e : c .before .before .before .before .before .args .at + c .before .before .before .before .before .args .n - c .before .before .before .before .before .args .at ≡ c .before .before .before .before .before .args .n = omega arith in c .before .copy .ensures ∙ rw e
+returns c =
+    let at-copy = c .before in
+    let args = at-copy .before .before .before .before .args in
+    let e : args .at + args .n - args .at ≡ args .n = omega arith in at-copy .copy .ensures ∙ rw e
 
 pub reply-bytes-spec : {M : Type 1} → statement M
 reply-bytes-spec =

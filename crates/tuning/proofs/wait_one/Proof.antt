@@ -19,7 +19,15 @@ same-length : tie.Need-same-length
 same-length c = search needs
 
 returns : tie.Need-returns
-returns c = (λ chip. ended-here inRoom _ _ _ _ _ (by-entry inRoom _ _ _ _ _ (c .before .before .before .before .before .before .before .before .wait .ensures) (c .before .before .before .before .before .before .log-plain .ensures .0 chip)) (c .before .before .log-end .ensures .0 chip), omega (arith, c .before .before .log-end .ensures .1, c .before .before .before .before .before .before .log-plain .ensures .1))
+returns c =
+    let at-log-end = c .before .before in
+    let log-end = at-log-end .log-end in
+    let at-log-plain = at-log-end .before .before .before .before in
+    let log-plain = at-log-plain .log-plain in
+    let at-wait = at-log-plain .before .before in (
+      λ chip. ended-here inRoom _ _ _ _ _ (by-entry inRoom _ _ _ _ _ (at-wait .wait .ensures) (log-plain .ensures .0 chip)) (log-end .ensures .0 chip),
+      omega (arith, log-end .ensures .1, log-plain .ensures .1),
+    )
 
 pub wait-one-spec : {M : Type 1} → statement M
 wait-one-spec =

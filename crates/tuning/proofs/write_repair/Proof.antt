@@ -13,13 +13,21 @@ masked-requires : tie.Need-masked-requires
 masked-requires c κs = search needs
 
 write-one-requires : tie.Need-write-one-requires
-write-one-requires c κs = (ap inRange (c .before .before .before .masked .ensures), omega (arith, c .before .before .before .before .before .before .before .pre .0), omega (arith, c .before .before .before .before .before .before .before .pre .1))
+write-one-requires c κs =
+    let at-masked = c .before .before .before in
+    let pre = at-masked .before .before .before .before .pre in
+    (ap inRange (at-masked .masked .ensures), omega (arith, pre .0), omega (arith, pre .1))
 
 same-length : tie.Need-same-length
 same-length c = search needs
 
 returns : tie.Need-returns
-returns c = (swap inRoom _ _ _ _ _ (fix-made _ _ (c .before .before .before .before .before .before .before .if1 .taken) (c .before .before .before .before .before .before .masked .ensures)) (c .before .before .write-one .ensures .0), c .before .before .write-one .ensures .1)
+returns c =
+    let at-write-one = c .before .before in
+    let write-one = at-write-one .write-one in
+    let at-masked = at-write-one .before .before .before .before in
+    let at-if1 = at-masked .before in
+    (swap inRoom _ _ _ _ _ (fix-made _ _ (at-if1 .if1 .taken) (at-masked .masked .ensures)) (write-one .ensures .0), write-one .ensures .1)
 
 log-end-requires : tie.Need-log-end-requires
 log-end-requires c κs = search needs
@@ -28,7 +36,11 @@ same-length-2 : tie.Need-same-length-2
 same-length-2 c = search needs
 
 returns-2 : tie.Need-returns-2
-returns-2 c = (no-fix inRoom _ _ _ _ (c .before .before .before .before .if1 .left) (c .before .before .log-end .ensures .0 _), omega (arith, c .before .before .log-end .ensures .1))
+returns-2 c =
+    let at-log-end = c .before .before in
+    let log-end = at-log-end .log-end in
+    let at-if1 = at-log-end .before .before in
+    (no-fix inRoom _ _ _ _ (at-if1 .if1 .left) (log-end .ensures .0 _), omega (arith, log-end .ensures .1))
 
 pub write-repair-spec : {M : Type 1} → statement M
 write-repair-spec =

@@ -36,13 +36,21 @@ loop-less : tie.Need-loop-less Inv-loop μ-loop
 loop-less c = search needs
 
 loop-again : tie.Need-loop-again Inv-loop μ-loop
-loop-again c = (omega arith, (search needs, copy-turn (c .before .before .loop .dst) (c .before .before .before .args .at) (c .before .before .loop .i) (now (c .before .before .before .args .src)) (search needs) ∙ c .before .before .loop .inv .1 .1))
+loop-again c =
+    let at-loop = c .before .before in
+    let loop = at-loop .loop in
+    let args = at-loop .before .args in
+    (omega arith, (search needs, copy-turn (loop .dst) (args .at) (loop .i) (now (args .src)) (search needs) ∙ loop .inv .1 .1))
 
 same-length : tie.Need-same-length Inv-loop μ-loop
 same-length c = search needs
 
 returns : tie.Need-returns Inv-loop μ-loop
-returns c = copy-end (c .before .loop .dst) (c .before .before .args .at) (c .before .loop .i) (now (c .before .before .args .src)) (omega arith) ∙ c .before .loop .inv .1 .1
+returns c =
+    let at-loop = c .before in
+    let loop = at-loop .loop in
+    let args = at-loop .before .args in
+    copy-end (loop .dst) (args .at) (loop .i) (now (args .src)) (omega arith) ∙ loop .inv .1 .1
 
 pub copy-spec : {M : Type 1} → statement M
 copy-spec =

@@ -34,14 +34,16 @@ wide-requires c κs = search needs
 
 mul-n : tie.Need-mul-n Inv-loop μ-loop
 mul-n c =
-    let a = c .before .before .before .before .before .args in
-    let l = c .before .before .before .loop in
+    let at-loop = c .before .before .before in
+    let l = at-loop .loop in
+    let a = at-loop .before .before .args in
     record { fits = omega (arith, get-fits (l .n) (c .wide .result) (l .i) (a .k) (search needs) (search needs) (search needs) (l .inv .1 .1) (search needs)) }
 
 add-n : tie.Need-add-n Inv-loop μ-loop
 add-n c =
-    let a = c .before .before .before .before .before .args in
-    let l = c .before .before .before .loop in
+    let at-loop = c .before .before .before in
+    let l = at-loop .loop in
+    let a = at-loop .before .before .args in
     record { fits = get-fits (l .n) (c .wide .result) (l .i) (a .k) (search needs) (search needs) (search needs) (l .inv .1 .1) (search needs) }
 
 loop-less : tie.Need-loop-less Inv-loop μ-loop
@@ -49,17 +51,23 @@ loop-less c = search needs
 
 loop-again : tie.Need-loop-again Inv-loop μ-loop
 loop-again c =
-    let a = c .before .before .before .before .before .args in
-    let l = c .before .before .before .loop in (
+    let at-loop = c .before .before .before in
+    let l = at-loop .loop in
+    let a = at-loop .before .before .args in (
       omega arith,
       (
-        ap₂ (λ x y. x * 256 + y) (l .inv .1 .0) (c .wide .ensures .0) ∙ get-turn (now (a .s)) (a .at) (l .i) (a .k) (search needs) (search needs) (search needs),
+        ap₂ (λ x y. x * 256 + y) (l .inv .1 .0) (c .wide .ensures .0)
+            ∙ get-turn (now (a .s)) (a .at) (l .i) (a .k) (search needs) (search needs) (search needs),
         get-below (l .n) (c .wide .result) (l .i) (a .k) (search needs) (search needs) (l .inv .1 .1) (search needs),
       ),
     )
 
 returns : tie.Need-returns Inv-loop μ-loop
-returns c = get-end (now (c .before .before .before .args .s)) (c .before .before .before .args .at) (c .before .loop .i) (c .before .before .before .args .k) (c .before .loop .n) (search needs) (c .before .loop .inv .1 .0) (c .before .loop .inv .1 .1)
+returns c =
+    let at-loop = c .before in
+    let loop = at-loop .loop in
+    let args = at-loop .before .before .args in
+    get-end (now (args .s)) (args .at) (loop .i) (args .k) (loop .n) (search needs) (loop .inv .1 .0) (loop .inv .1 .1)
 
 pub get-spec : {M : Type 1} → statement M
 get-spec =

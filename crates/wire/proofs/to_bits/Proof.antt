@@ -16,10 +16,13 @@ sub-result : tie.Need-sub-result
 sub-result c = turned-fits (c .before .args .x) (c .before .fits .x) (c .if1 .taken)
 
 cast-result : tie.Need-cast-result
-cast-result c = subst (λ y. T (nonNeg y) × Fits w32 (natAbs y)) (sym (kept (c .before .args .x) (c .before .fits .x) (c .if1 .taken))) (tt, record { fits = omega (arith, c .before .fits .x .sfits) })
+cast-result c =
+    subst (λ y. T (nonNeg y) × Fits w32 (natAbs y)) (sym (kept (c .before .args .x) (c .before .fits .x) (c .if1 .taken)))
+    (tt, record { fits = omega (arith, c .before .fits .x .sfits) })
 
 sub-result-2 : tie.Need-sub-result-2
-sub-result-2 c = subst (λ y. natAbs y ≤ 4294967295) (sym (kept (c .before .args .x) (c .before .fits .x) (c .if1 .taken))) (omega (arith, c .before .fits .x .sfits))
+sub-result-2 c =
+    subst (λ y. natAbs y ≤ 4294967295) (sym (kept (c .before .args .x) (c .before .fits .x) (c .if1 .taken))) (omega (arith, c .before .fits .x .sfits))
 
 returns : tie.Need-returns
 returns c = kept-bits (c .before .args .x) (c .before .fits .x) (c .if1 .taken)

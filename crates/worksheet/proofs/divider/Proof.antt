@@ -33,10 +33,20 @@ loop-less : tie.Need-loop-less Inv-loop μ-loop
 loop-less c = search needs
 
 loop-again : tie.Need-loop-again Inv-loop μ-loop
-loop-again c = ap (λ (m : ℕ). bandsOf (c .before .before .before .before .args .lo) m (drop (c .before .before .before .loop .i + 1) bands)) (c .in-band .ensures) ∙ band-turn (c .before .before .before .before .args .lo) (c .before .before .before .loop .m) _ (c .before .before .before .loop .i) (search needs) ∙ c .before .before .before .loop .inv
+loop-again c =
+    let at-loop = c .before .before .before in
+    let loop = at-loop .loop in
+    let args = at-loop .before .args in
+    ap (λ (m : ℕ). bandsOf (args .lo) m (drop (loop .i + 1) bands)) (c .in-band .ensures)
+    ∙ band-turn (args .lo) (loop .m) _ (loop .i) (search needs)
+    ∙ loop .inv
 
 returns : tie.Need-returns Inv-loop μ-loop
-returns c = band-end (c .before .before .args .lo) (c .before .loop .m) (c .before .loop .i) (search needs) ∙ c .before .loop .inv
+returns c =
+    let at-loop = c .before in
+    let loop = at-loop .loop in
+    let start = at-loop .before in
+    band-end (start .args .lo) (loop .m) (loop .i) (search needs) ∙ loop .inv
 
 pub divider-spec : {M : Type 1} → statement M
 divider-spec =

@@ -36,11 +36,17 @@ most-requires c κs = search needs
 
 returns-4 : tie.Need-returns-4
 returns-4 c =
-    too-fast _ _ _ _ (c .before .before .before .before .divider .ensures) (c .before .before .if3 .left) (omega (arith, c .if4 .taken, c .before .most .ensures))
+    let at-most = c .before in
+    let at-if3 = at-most .before in
+    let at-divider = at-if3 .before .before in
+    too-fast _ _ _ _ (at-divider .divider .ensures) (at-if3 .if3 .left) (omega (arith, c .if4 .taken, at-most .most .ensures))
 
 byte-requires : tie.Need-byte-requires
 byte-requires c κs =
-    (c .before .before .if3 .left, omega (arith, c .if4 .left, c .before .most .ensures, cap-most (c .before .before .before .before .before .before .args .kind)))
+    let at-most = c .before in
+    let at-if3 = at-most .before in
+    let start = at-if3 .before .before .before .before in
+    (at-if3 .if3 .left, omega (arith, c .if4 .left, at-most .most .ensures, cap-most (start .args .kind)))
 
 mul-summed : tie.Need-mul-summed
 mul-summed c = search needs
@@ -53,14 +59,25 @@ summed-requires c κs = search needs
 
 cast-small : tie.Need-cast-small
 cast-small c =
-    omega (arith, c .before .before .if4 .left, c .before .before .before .most .ensures, cap-most (c .before .before .before .before .before .before .before .before .args .kind))
+    let at-if4 = c .before .before in
+    let at-most = at-if4 .before in
+    let start = at-most .before .before .before .before .before in
+    omega (arith, at-if4 .if4 .left, at-most .most .ensures, cap-most (start .args .kind))
 
 cast-short : tie.Need-cast-short
 cast-short c = record { fits = subst (λ (w : Work). w .sum < 2 ^ 16) (sym (c .summed .ensures)) (sum-short _ _) }
 
 returns-5 : tie.Need-returns-5
 returns-5 c =
-    filled _ _ _ _ _ _ (c .before .before .before .before .before .before .before .if1 .left) (c .before .before .before .before .before .if2 .left) (c .before .before .before .before .before .before .divider .ensures) (c .before .before .before .before .if3 .left) (omega (arith, c .before .before .if4 .left, c .before .before .before .most .ensures)) (c .before .byte .ensures) (c .summed .ensures)
+    let at-byte = c .before in
+    let at-if4 = at-byte .before in
+    let at-most = at-if4 .before in
+    let at-if3 = at-most .before in
+    let at-if2 = at-if3 .before in
+    let at-divider = at-if2 .before in
+    let at-if1 = at-divider .before in
+    filled _ _ _ _ _ _ (at-if1 .if1 .left) (at-if2 .if2 .left) (at-divider .divider .ensures) (at-if3 .if3 .left)
+    (omega (arith, at-if4 .if4 .left, at-most .most .ensures)) (at-byte .byte .ensures) (c .summed .ensures)
 
 pub fill-spec : {M : Type 1} → statement M
 fill-spec =

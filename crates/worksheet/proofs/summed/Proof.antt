@@ -42,8 +42,10 @@ loop-less c = search needs
 
 loop-again : tie.Need-loop-again Inv-loop μ-loop
 loop-again c =
-    let l = c .before .before .before .loop in
-    let k : ℕ = c .before .before .before .before .args .k in
+    let at-loop = c .before .before .before in
+    let l = at-loop .loop in
+    let start = at-loop .before in
+    let k : ℕ = start .args .k in
     let h : l .i < 16 = omega arith in
     let f = line-fair (adds 0 0 false) (l .i) h in (
       ap (λ (w : Work). linesOf k w (drop (l .i + 1) lines)) (c .worked-line .ensures)
@@ -53,7 +55,11 @@ loop-again c =
     )
 
 returns : tie.Need-returns Inv-loop μ-loop
-returns c = line-end (c .before .before .args .k) (c .before .loop .w) (c .before .loop .i) (search needs) ∙ c .before .loop .inv .0
+returns c =
+    let at-loop = c .before in
+    let loop = at-loop .loop in
+    let start = at-loop .before in
+    line-end (start .args .k) (loop .w) (loop .i) (search needs) ∙ loop .inv .0
 
 pub summed-spec : {M : Type 1} → statement M
 summed-spec =

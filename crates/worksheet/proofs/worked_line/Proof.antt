@@ -22,7 +22,10 @@ div-share c = search needs
 
 returns-3 : tie.Need-returns-3
 unfolding lineOf
-returns-3 c = simp (c .before .before .before .if1 .left, lt-ltb _ _ (c .before .before .if2 .left), le-ltb _ _ (c .if3 .taken))
+returns-3 c =
+    let at-if2 = c .before .before in
+    let at-if1 = at-if2 .before in
+    simp (at-if1 .if1 .left, lt-ltb _ _ (at-if2 .if2 .left), le-ltb _ _ (c .if3 .taken))
 
 add-t8 : tie.Need-add-t8
 add-t8 c = search needs
@@ -33,7 +36,10 @@ sub-t9 c = search needs
 returns-4 : tie.Need-returns-4
 unfolding lineOf
 returns-4 c =
-    simp (c .before .before .before .before .before .if1 .left, lt-ltb _ _ (c .before .before .before .before .if2 .left), lt-ltb _ _ (c .before .before .if3 .left))
+    let at-if3 = c .before .before in
+    let at-if2 = at-if3 .before .before in
+    let at-if1 = at-if2 .before in
+    simp (at-if1 .if1 .left, lt-ltb _ _ (at-if2 .if2 .left), lt-ltb _ _ (at-if3 .if3 .left))
 
 pub worked-line-spec : {M : Type 1} → statement M
 worked-line-spec =

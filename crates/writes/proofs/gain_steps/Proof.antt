@@ -20,25 +20,63 @@ enum-told-2 : tie.Need-enum-told-2
 enum-told-2 c = search needs
 
 log-close-requires : tie.Need-log-close-requires
-log-close-requires c κs = omega (arith, c .before .before .before .before .before .log-open .ensures .1, c .before .before .before .before .before .log-open .kept, c .before .before .before .before .before .before .before .before .before .before .pre .1, c .before .before .before .before .before .before .before .before .before .before .pre .2)
+log-close-requires c κs =
+    let at-log-open = c .before .before .before .before .before in
+    let log-open = at-log-open .log-open in
+    let pre = at-log-open .before .before .before .before .before .pre in
+    omega (arith, log-open .ensures .1, log-open .kept, pre .1, pre .2)
 
 same-length : tie.Need-same-length
 same-length c = search needs
 
 returns : tie.Need-returns
-returns c = (unopened inRoom _ (updates (gainUpdates (c .before .before .before .before .before .before .before .before .before .before .before .before .before .args .k))) _ _ _ (c .before .before .before .before .before .before .before .before .log-open .ensures .0 _) (ap goes (c .before .before .before .before .enum-told2 .given .1)) (every-inner updateStep inner-update (gainUpdates (c .before .before .before .before .before .before .before .before .before .before .before .before .before .args .k))) (c .before .before .log-close .ensures .0 _), omega (arith, c .before .before .before .before .before .before .before .before .log-open .ensures .1, c .before .before .log-close .ensures .1))
+returns c =
+    let at-log-close = c .before .before in
+    let log-close = at-log-close .log-close in
+    let at-enum-told2 = at-log-close .before .before in
+    let at-log-open = at-enum-told2 .before .before .before .before in
+    let log-open = at-log-open .log-open in
+    let args = at-log-open .before .before .before .before .before .args in (
+      unopened inRoom _ (updates (gainUpdates (args .k))) _ _ _ (log-open .ensures .0 _) (ap goes (at-enum-told2 .enum-told2 .given .1))
+          (every-inner updateStep inner-update (gainUpdates (args .k))) (log-close .ensures .0 _),
+      omega (arith, log-open .ensures .1, log-close .ensures .1),
+    )
 
 gain-writes-requires : tie.Need-gain-writes-requires
-gain-writes-requires c κs = (c .before .before .before .before .before .before .before .before .before .before .before .before .before .before .pre .0, omega (arith, c .before .before .before .before .before .before .before .before .before .log-open .ensures .1, c .before .before .before .before .before .before .before .before .before .before .before .before .before .before .pre .1), omega (arith, c .before .before .before .before .before .before .before .before .before .log-open .ensures .1, c .before .before .before .before .before .before .before .before .before .before .before .before .before .before .pre .2, c .before .before .before .before .before .before .before .before .before .log-open .kept))
+gain-writes-requires c κs =
+    let at-log-open = c .before .before .before .before .before .before .before .before .before in
+    let log-open = at-log-open .log-open in
+    let pre = at-log-open .before .before .before .before .before .pre in
+    (pre .0, omega (arith, log-open .ensures .1, pre .1), omega (arith, log-open .ensures .1, pre .2, log-open .kept))
 
 log-close-requires-2 : tie.Need-log-close-requires-2
-log-close-requires-2 c κs = omega (arith, c .before .before .before .before .before .before .before .before .before .before .before .before .before .log-open .ensures .1, c .before .before .before .gain-writes .ensures .1, c .before .before .before .before .before .before .before .before .before .before .before .before .before .before .before .before .before .before .pre .1, c .before .before .before .before .before .before .before .before .before .before .before .before .before .before .before .before .before .before .pre .2, c .before .before .before .before .before .before .before .before .before .before .before .before .before .log-open .kept, c .before .before .before .gain-writes .kept)
+log-close-requires-2 c κs =
+    let at-gain-writes = c .before .before .before in
+    let gain-writes = at-gain-writes .gain-writes in
+    let at-log-open = at-gain-writes .before .before .before .before .before .before .before .before .before .before in
+    let log-open = at-log-open .log-open in
+    let pre = at-log-open .before .before .before .before .before .pre in
+    omega (arith, log-open .ensures .1, gain-writes .ensures .1, pre .1, pre .2, log-open .kept, gain-writes .kept)
 
 same-length-2 : tie.Need-same-length-2
-same-length-2 c = omega (arith, c .before .before .before .before .before .before .before .before .before .before .before .before .before .before .before .before .log-open .kept, c .before .before .before .before .before .before .gain-writes .kept, c .before .before .log-close2 .kept)
+same-length-2 c =
+    let at-log-close2 = c .before .before in
+    let at-gain-writes = at-log-close2 .before .before .before .before in
+    let at-log-open = at-gain-writes .before .before .before .before .before .before .before .before .before .before in
+    omega (arith, at-log-open .log-open .kept, at-gain-writes .gain-writes .kept, at-log-close2 .log-close2 .kept)
 
 returns-2 : tie.Need-returns-2
-returns-2 c = (c .before .before .log-close2 .ensures .0 _ ∙ bracketed inRoom _ _ _ _ _ (c .before .before .before .before .before .before .before .before .before .before .before .before .before .before .before .before .log-open .ensures .0 _) (c .before .before .before .before .before .before .gain-writes .ensures .0), omega (arith, c .before .before .before .before .before .before .before .before .before .before .before .before .before .before .before .before .log-open .ensures .1, c .before .before .before .before .before .before .gain-writes .ensures .1, c .before .before .log-close2 .ensures .1))
+returns-2 c =
+    let at-log-close2 = c .before .before in
+    let log-close2 = at-log-close2 .log-close2 in
+    let at-gain-writes = at-log-close2 .before .before .before .before in
+    let gain-writes = at-gain-writes .gain-writes in
+    let log-open = at-gain-writes .before .before .before .before .before .before .before .before .before .before .log-open in (
+      log-close2 .ensures .0 _ ∙ bracketed inRoom _ _ _ _ _ (log-open .ensures .0 _) (gain-writes .ensures .0),
+      omega (arith, log-open .ensures .1, gain-writes .ensures .1, log-close2 .ensures .1),
+    )
 
 pub gain-steps-spec : {M : Type 1} → statement M
-gain-steps-spec = tie.close (tie.spec log-open-requires enum-told enum-told-2 log-close-requires same-length returns gain-writes-requires log-close-requires-2 same-length-2 returns-2)
+gain-steps-spec =
+    tie.close
+    (tie.spec log-open-requires enum-told enum-told-2 log-close-requires same-length returns gain-writes-requires log-close-requires-2 same-length-2 returns-2)

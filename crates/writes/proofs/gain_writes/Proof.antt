@@ -25,7 +25,17 @@ same-length c = search needs
 
 returns : tie.Need-returns
 unfolding every
-returns c = (parts inRoom _ (updates byHand) (updates (stepValues (entryAt (c .before .before .before .before .before .before .before .before .before .before .before .before .before .before .before .args .k)))) _ _ _ refl (c .before .before .before .before .before .before .before .before .gain-by-hand .ensures .0) (swap inRoom _ _ _ _ _ (ap (λ (g : GainEntry). updates (stepValues g)) (c .before .before .before .before .before .before .before .before .before .before .before .before .entry-at .ensures)) (c .before .before .gain-values .ensures .0)), omega (arith, c .before .before .before .before .before .before .before .before .gain-by-hand .ensures .1, c .before .before .gain-values .ensures .1))
+returns c =
+    let at-gain-values = c .before .before in
+    let gain-values = at-gain-values .gain-values in
+    let at-gain-by-hand = at-gain-values .before .before .before .before .before .before in
+    let gain-by-hand = at-gain-by-hand .gain-by-hand in
+    let at-entry-at = at-gain-by-hand .before .before .before .before in
+    let start = at-entry-at .before .before .before in (
+      parts inRoom _ (updates byHand) (updates (stepValues (entryAt (start .args .k)))) _ _ _ refl (gain-by-hand .ensures .0)
+          (swap inRoom _ _ _ _ _ (ap (λ (g : GainEntry). updates (stepValues g)) (at-entry-at .entry-at .ensures)) (gain-values .ensures .0)),
+      omega (arith, gain-by-hand .ensures .1, gain-values .ensures .1),
+    )
 
 pub gain-writes-spec : {M : Type 1} → statement M
 gain-writes-spec =

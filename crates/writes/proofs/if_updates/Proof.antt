@@ -23,7 +23,13 @@ two-requires : tie.Need-two-requires
 two-requires c κs = search needs
 
 returns : tie.Need-returns
-returns c = two-made _ _ _ _ _ (c .two .ensures) (c .before .before .masked .ensures ∙ ap (λ (x : ℕ). masked 0x0a x 0x70) (c .before .before .before .before .narrow-or-wide .ensures)) (c .before .masked2 .ensures ∙ ap (λ (x : ℕ). masked 0x0b x 0xef) (c .before .before .before .narrow-or-wide2 .ensures))
+returns c =
+    let at-masked2 = c .before in
+    let at-masked = at-masked2 .before in
+    let at-narrow-or-wide2 = at-masked .before in
+    let at-narrow-or-wide = at-narrow-or-wide2 .before in
+    two-made _ _ _ _ _ (c .two .ensures) (at-masked .masked .ensures ∙ ap (λ (x : ℕ). masked 0x0a x 0x70) (at-narrow-or-wide .narrow-or-wide .ensures))
+    (at-masked2 .masked2 .ensures ∙ ap (λ (x : ℕ). masked 0x0b x 0xef) (at-narrow-or-wide2 .narrow-or-wide2 .ensures))
 
 pub if-updates-spec : {M : Type 1} → statement M
 if-updates-spec = tie.close (tie.spec narrow-or-wide-requires narrow-or-wide-requires-2 masked-requires masked-requires-2 two-requires returns)

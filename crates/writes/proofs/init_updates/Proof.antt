@@ -30,7 +30,22 @@ array-set-from-list-4 : tie.Need-array-set-from-list-4
 array-set-from-list-4 c = search needs
 
 returns : tie.Need-returns
-returns c = λ i. listed (c .before .before .before .masked .ensures i ∷ c .before .before .masked2 .ensures i ∷ c .before .masked3 .ensures i ∷ c .masked4 .ensures i ∷ [])
+returns c =
+    let at-masked3 = c .before in
+    let at-masked2 = at-masked3 .before in
+    let at-masked = at-masked2 .before in
+    λ i. listed (at-masked .masked .ensures i ∷ at-masked2 .masked2 .ensures i ∷ at-masked3 .masked3 .ensures i ∷ c .masked4 .ensures i ∷ [])
 
 pub init-updates-spec : {M : Type 1} → statement M
-init-updates-spec = tie.close (tie.spec masked-requires array-set-from-list masked-requires-2 array-set-from-list-2 masked-requires-3 array-set-from-list-3 masked-requires-4 array-set-from-list-4 returns)
+init-updates-spec =
+    tie.close
+    (tie.spec
+    masked-requires
+    array-set-from-list
+    masked-requires-2
+    array-set-from-list-2
+    masked-requires-3
+    array-set-from-list-3
+    masked-requires-4
+    array-set-from-list-4
+    returns)

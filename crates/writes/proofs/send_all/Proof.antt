@@ -17,7 +17,15 @@ same-length : tie.Need-same-length
 same-length c = search needs
 
 returns : tie.Need-returns
-returns c = (then inRoom _ (tunerWrite (c .before .before .before .before .before .before .before .before .before .before .args .bs) 0 3) (tunerWrite (c .before .before .before .before .before .before .before .before .before .before .args .bs) 3 5) _ _ _ (c .before .before .before .before .before .before .i2c-write-first .ensures .0) (c .before .before .i2c-write-last .ensures .0), omega (arith, c .before .before .before .before .before .before .i2c-write-first .ensures .1, c .before .before .i2c-write-last .ensures .1))
+returns c =
+    let at-i2c-write-last = c .before .before in
+    let i2c-write-last = at-i2c-write-last .i2c-write-last in
+    let at-i2c-write-first = at-i2c-write-last .before .before .before .before in
+    let i2c-write-first = at-i2c-write-first .i2c-write-first in
+    let args = at-i2c-write-first .before .before .before .before .args in (
+      then inRoom _ (tunerWrite (args .bs) 0 3) (tunerWrite (args .bs) 3 5) _ _ _ (i2c-write-first .ensures .0) (i2c-write-last .ensures .0),
+      omega (arith, i2c-write-first .ensures .1, i2c-write-last .ensures .1),
+    )
 
 pub send-all-spec : {M : Type 1} → statement M
 send-all-spec = tie.close (tie.spec i2c-write-first-requires i2c-write-last-requires same-length returns)

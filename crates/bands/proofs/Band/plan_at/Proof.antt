@@ -15,8 +15,9 @@ refuse-requires c κs = search needs
 
 returns : tie.Need-returns
 returns c =
-    let a = c .before .before .before .before .before .args in
-    c .refuse .ensures ∙ past-64 (a .self) (a .hz) (c .before .before .before .if1 .taken) (omega arith)
+    let at-if1 = c .before .before .before in
+    let a = at-if1 .before .before .args in
+    c .refuse .ensures ∙ past-64 (a .self) (a .hz) (at-if1 .if1 .taken) (omega arith)
 
 add-tuned-to : tie.Need-add-tuned-to
 add-tuned-to c = search needs
@@ -26,8 +27,9 @@ tuned-to-requires c κs = search needs
 
 returns-2 : tie.Need-returns-2
 returns-2 c =
-    let a = c .before .before .before .before .before .before .args in
-    c .tuned-to .ensures ∙ shifted-up (a .self) (a .hz) (c .before .before .before .before .if1 .taken) (omega arith)
+    let at-if1 = c .before .before .before .before in
+    let a = at-if1 .before .before .args in
+    c .tuned-to .ensures ∙ shifted-up (a .self) (a .hz) (at-if1 .if1 .taken) (omega arith)
 
 sub-down : tie.Need-sub-down
 sub-down c = search needs
@@ -40,16 +42,20 @@ refuse-requires-2 c κs = search needs
 
 returns-3 : tie.Need-returns-3
 returns-3 c =
-    let a = c .before .before .before .before .before .args in
-    c .refuse2 .ensures ∙ below-0 (a .self) (a .hz) (c .before .before .before .if1 .left) (search needs) (c .before .if3 .taken)
+    let at-if3 = c .before in
+    let at-if1 = at-if3 .before .before in
+    let a = at-if1 .before .before .args in
+    c .refuse2 .ensures ∙ below-0 (a .self) (a .hz) (at-if1 .if1 .left) (search needs) (at-if3 .if3 .taken)
 
 tuned-to-requires-2 : tie.Need-tuned-to-requires-2
 tuned-to-requires-2 c κs = search needs
 
 returns-4 : tie.Need-returns-4
 returns-4 c =
-    let a = c .before .before .before .before .before .args in
-    c .tuned-to2 .ensures ∙ shifted-down (a .self) (a .hz) (c .before .before .before .if1 .left) (search needs) (search needs) (c .before .if3 .left)
+    let at-if3 = c .before in
+    let at-if1 = at-if3 .before .before in
+    let a = at-if1 .before .before .args in
+    c .tuned-to2 .ensures ∙ shifted-down (a .self) (a .hz) (at-if1 .if1 .left) (search needs) (search needs) (at-if3 .if3 .left)
 
 pub plan-at-spec : {M : Type 1} → statement M
 plan-at-spec =

@@ -13,8 +13,9 @@ route-of-requires c κs = search needs
 
 returns : tie.Need-returns
 returns c =
-    let a = c .before .before .before .args in
-    ap (λ (r : Route). planned 0 (plan (a .hz) (eqb (a .self .inverted) 1) r (eqb (a .self .notch) 1))) (c .before .route-of .ensures)
+    let at-route-of = c .before in
+    let a = at-route-of .before .before .args in
+    ap (λ (r : Route). planned 0 (plan (a .hz) (eqb (a .self .inverted) 1) r (eqb (a .self .notch) 1))) (at-route-of .route-of .ensures)
 
 pub tuned-to-spec : {M : Type 1} → statement M
 tuned-to-spec = tie.close (tie.spec route-of-requires returns)

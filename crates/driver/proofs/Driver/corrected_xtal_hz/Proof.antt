@@ -15,13 +15,27 @@ xtal-by-requires : tie.Need-xtal-by-requires
 xtal-by-requires c κs = search needs
 
 returns : tie.Need-returns
-returns c = xtal-refused _ _ (c .before .xtal-by .ensures ∙ ap (xtalBy (c .before .before .before .args .self .nominal)) (toZ-ofZ {w = w32} {z = c .before .before .before .args .self .ppm} (record { sfits = c .before .before .struct-told .given .1 .1 .0 .1 }))) (c .if1 .taken)
+returns c =
+    let at-xtal-by = c .before in
+    let at-struct-told = at-xtal-by .before in
+    let args = at-struct-told .before .args in
+    xtal-refused _ _
+    (at-xtal-by .xtal-by .ensures
+    ∙ ap (xtalBy (args .self .nominal)) (toZ-ofZ {w = w32} {z = args .self .ppm} (record { sfits = at-struct-told .struct-told .given .1 .1 .0 .1 })))
+    (c .if1 .taken)
 
 cast-t4 : tie.Need-cast-t4
 cast-t4 c = search needs
 
 returns-2 : tie.Need-returns-2
-returns-2 c = xtal-told _ _ (c .before .xtal-by .ensures ∙ ap (xtalBy (c .before .before .before .args .self .nominal)) (toZ-ofZ {w = w32} {z = c .before .before .before .args .self .ppm} (record { sfits = c .before .before .struct-told .given .1 .1 .0 .1 }))) (c .if1 .left)
+returns-2 c =
+    let at-xtal-by = c .before in
+    let at-struct-told = at-xtal-by .before in
+    let args = at-struct-told .before .args in
+    xtal-told _ _
+    (at-xtal-by .xtal-by .ensures
+    ∙ ap (xtalBy (args .self .nominal)) (toZ-ofZ {w = w32} {z = args .self .ppm} (record { sfits = at-struct-told .struct-told .given .1 .1 .0 .1 })))
+    (c .if1 .left)
 
 pub corrected-xtal-hz-spec : {M : Type 1} → statement M
 corrected-xtal-hz-spec = tie.close (tie.spec xtal-by-requires returns cast-t4 returns-2)

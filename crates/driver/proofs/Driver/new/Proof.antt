@@ -26,19 +26,40 @@ nothing-requires : tie.Need-nothing-requires
 nothing-requires c κs = search needs
 
 returns : tie.Need-returns
-returns c = c .nothing .ensures ∙ new-no-board (c .before .before .before .before .args .board) (c .before .before .before .before .args .nominal) (c .before .before .before .before .args .ppm) (c .before .before .before .before .args .frequency) (c .before .before .before .before .args .rate) _ (c .before .before .before .board-named .ensures) (c .before .enum-told .given .1)
+returns c =
+    let at-enum-told = c .before in
+    let at-board-named = at-enum-told .before .before in
+    let args = at-board-named .before .args in
+    c .nothing .ensures
+    ∙ new-no-board (args .board) (args .nominal) (args .ppm) (args .frequency) (args .rate) _ (at-board-named .board-named .ensures)
+    (at-enum-told .enum-told .given .1)
 
 nothing-requires-2 : tie.Need-nothing-requires-2
 nothing-requires-2 c κs = search needs
 
 returns-2 : tie.Need-returns-2
-returns-2 c = c .nothing2 .ensures ∙ new-low (c .before .before .before .before .before .before .args .board) (c .before .before .before .before .before .before .args .nominal) (c .before .before .before .before .before .before .args .ppm) (c .before .before .before .before .before .before .args .frequency) (c .before .before .before .before .before .before .args .rate) _ (c .before .before .before .before .before .board-named .ensures) _ (c .before .before .before .named .given .1) (c .before .if1 .taken)
+returns-2 c =
+    let at-if1 = c .before in
+    let at-named = at-if1 .before .before in
+    let at-board-named = at-named .before .before in
+    let args = at-board-named .before .args in
+    c .nothing2 .ensures
+    ∙ new-low (args .board) (args .nominal) (args .ppm) (args .frequency) (args .rate) _ (at-board-named .board-named .ensures) _ (at-named .named .given .1)
+    (at-if1 .if1 .taken)
 
 nothing-requires-3 : tie.Need-nothing-requires-3
 nothing-requires-3 c κs = search needs
 
 returns-3 : tie.Need-returns-3
-returns-3 c = c .nothing3 .ensures ∙ new-high (c .before .before .before .before .before .before .before .args .board) (c .before .before .before .before .before .before .before .args .nominal) (c .before .before .before .before .before .before .before .args .ppm) (c .before .before .before .before .before .before .before .args .frequency) (c .before .before .before .before .before .before .before .args .rate) _ (c .before .before .before .before .before .before .board-named .ensures) _ (c .before .before .before .before .named .given .1) (c .before .before .if1 .left) (c .before .if2 .taken)
+returns-3 c =
+    let at-if2 = c .before in
+    let at-if1 = at-if2 .before in
+    let at-named = at-if1 .before .before in
+    let at-board-named = at-named .before .before in
+    let args = at-board-named .before .args in
+    c .nothing3 .ensures
+    ∙ new-high (args .board) (args .nominal) (args .ppm) (args .frequency) (args .rate) _ (at-board-named .board-named .ensures) _ (at-named .named .given .1)
+    (at-if1 .if1 .left) (at-if2 .if2 .taken)
 
 cast-small : tie.Need-cast-small
 cast-small c = search needs
@@ -50,10 +71,33 @@ nothing-requires-4 : tie.Need-nothing-requires-4
 nothing-requires-4 c κs = search needs
 
 returns-4 : tie.Need-returns-4
-returns-4 c = c .nothing4 .ensures ∙ new-bad (c .before .before .before .before .before .before .before .before .before .args .board) (c .before .before .before .before .before .before .before .before .before .args .nominal) (c .before .before .before .before .before .before .before .before .before .args .ppm) (c .before .before .before .before .before .before .before .before .before .args .frequency) (c .before .before .before .before .before .before .before .before .before .args .rate) _ (c .before .before .before .before .before .before .before .before .board-named .ensures) _ (c .before .before .before .before .before .before .named .given .1) (c .before .before .before .before .if1 .left) (c .before .before .before .if2 .left) _ (c .before .before .xtal-by .ensures ∙ ap (xtalBy (c .before .before .before .before .before .before .before .before .before .args .nominal)) (toZ-ofZ (c .before .before .before .before .before .before .before .before .before .fits .ppm))) (c .before .if3 .taken)
+returns-4 c =
+    let at-if3 = c .before in
+    let at-xtal-by = at-if3 .before in
+    let at-if2 = at-xtal-by .before in
+    let at-if1 = at-if2 .before in
+    let at-named = at-if1 .before .before in
+    let at-board-named = at-named .before .before in
+    let start = at-board-named .before in
+    let args = start .args in
+    c .nothing4 .ensures
+    ∙ new-bad (args .board) (args .nominal) (args .ppm) (args .frequency) (args .rate) _ (at-board-named .board-named .ensures) _ (at-named .named .given .1)
+    (at-if1 .if1 .left) (at-if2 .if2 .left) _ (at-xtal-by .xtal-by .ensures ∙ ap (xtalBy (args .nominal)) (toZ-ofZ (start .fits .ppm))) (at-if3 .if3 .taken)
 
 returns-5 : tie.Need-returns-5
-returns-5 c = (λ i. made (Done 0) (driver (c .before .before .before .before .before .named .given .0 .0) (c .before .before .before .before .before .before .before .before .args .nominal) (toZ-ofZ (c .before .before .before .before .before .before .before .before .fits .ppm) i) (c .before .before .before .before .before .before .before .before .args .frequency) (c .before .before .before .before .before .before .before .before .args .rate) 0)) ∙ new-good (c .before .before .before .before .before .before .before .before .args .board) (c .before .before .before .before .before .before .before .before .args .nominal) (c .before .before .before .before .before .before .before .before .args .ppm) (c .before .before .before .before .before .before .before .before .args .frequency) (c .before .before .before .before .before .before .before .before .args .rate) _ (c .before .before .before .before .before .before .before .board-named .ensures) _ (c .before .before .before .before .before .named .given .1) (c .before .before .before .if1 .left) (c .before .before .if2 .left) _ (c .before .xtal-by .ensures ∙ ap (xtalBy (c .before .before .before .before .before .before .before .before .args .nominal)) (toZ-ofZ (c .before .before .before .before .before .before .before .before .fits .ppm))) (c .if3 .left)
+returns-5 c =
+    let at-xtal-by = c .before in
+    let at-if2 = at-xtal-by .before in
+    let at-if1 = at-if2 .before in
+    let at-named = at-if1 .before .before in
+    let named = at-named .named in
+    let at-board-named = at-named .before .before in
+    let start = at-board-named .before in
+    let args = start .args in
+    let fits = start .fits in
+    (λ i. made (Done 0) (driver (named .given .0 .0) (args .nominal) (toZ-ofZ (fits .ppm) i) (args .frequency) (args .rate) 0))
+    ∙ new-good (args .board) (args .nominal) (args .ppm) (args .frequency) (args .rate) _ (at-board-named .board-named .ensures) _ (named .given .1)
+    (at-if1 .if1 .left) (at-if2 .if2 .left) _ (at-xtal-by .xtal-by .ensures ∙ ap (xtalBy (args .nominal)) (toZ-ofZ (fits .ppm))) (c .if3 .left)
 
 pub new-spec : {M : Type 1} → statement M
 new-spec =

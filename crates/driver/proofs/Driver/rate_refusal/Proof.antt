@@ -22,11 +22,16 @@ rate-argument-requires c κs = search needs
 
 returns : tie.Need-returns
 returns c =
-    let a = c .before .before .before .before .args in
+    let at-rate-number = c .before in
+    let at-xtal-by = at-rate-number .before in
+    let at-struct-told = at-xtal-by .before in
+    let a = at-struct-told .before .args in
     c .rate-argument .ensures
     ∙ ap (λ (n : ℕ). cond (eqb (a .planned .refusal) 19) 19 n)
-    (c .before .rate-number .ensures
-    ∙ ap (rateNumber (a .rate)) (c .before .before .xtal-by .ensures ∙ ap (xtalBy (a .self .nominal)) (toZ-ofZ {w = w32} {z = a .self .ppm} (record { sfits = c .before .before .before .struct-told .given .1 .1 .0 .1 }))))
+    (at-rate-number .rate-number .ensures
+    ∙ ap (rateNumber (a .rate))
+    (at-xtal-by .xtal-by .ensures
+    ∙ ap (xtalBy (a .self .nominal)) (toZ-ofZ {w = w32} {z = a .self .ppm} (record { sfits = at-struct-told .struct-told .given .1 .1 .0 .1 }))))
 
 pub rate-refusal-spec : {M : Type 1} → statement M
 rate-refusal-spec = tie.close (tie.spec xtal-by-requires rate-number-requires rate-argument-requires returns)

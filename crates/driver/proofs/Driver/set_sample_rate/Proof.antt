@@ -21,7 +21,13 @@ same-length : tie.Need-same-length
 same-length c = search needs
 
 returns : tie.Need-returns
-returns c = c .before .before .rate-planned .ensures ∙ ap (λ (p : Planned). rateResult (c .before .before .before .before .before .before .before .before .args .rate) p (now (c .before .before .before .before .before .before .before .before .args .outcomes)) (c .before .before .before .before .before .before .before .before .args .tuner) (c .before .before .before .before .before .before .before .before .args .self) (now (c .before .before .before .before .before .before .before .before .args .room))) (c .before .before .before .before .plan-by-table .ensures)
+returns c =
+    let at-rate-planned = c .before .before in
+    let at-plan-by-table = at-rate-planned .before .before in
+    let args = at-plan-by-table .before .before .before .before .args in
+    at-rate-planned .rate-planned .ensures
+    ∙ ap (λ (p : Planned). rateResult (args .rate) p (now (args .outcomes)) (args .tuner) (args .self) (now (args .room)))
+    (at-plan-by-table .plan-by-table .ensures)
 
 pub set-sample-rate-spec : {M : Type 1} → statement M
 set-sample-rate-spec =

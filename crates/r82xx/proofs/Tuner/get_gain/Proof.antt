@@ -16,7 +16,10 @@ sound-answer-requires : tie.Need-sound-answer-requires
 sound-answer-requires c κs = search needs
 
 returns : tie.Need-returns
-returns c = c .sound-answer .ensures ∙ ap (soundAnswer (c .before .before .args .self .nominal) (c .before .before .args .self .corrected)) (c .before .bits-of .ensures) ∙ gain-told (c .before .before .args .self)
+returns c =
+    let at-bits-of = c .before in
+    let args = at-bits-of .before .args in
+    c .sound-answer .ensures ∙ ap (soundAnswer (args .self .nominal) (args .self .corrected)) (at-bits-of .bits-of .ensures) ∙ gain-told (args .self)
 
 pub get-gain-spec : {M : Type 1} → statement M
 get-gain-spec =

@@ -19,7 +19,11 @@ get-gain-table-requires : tie.Need-get-gain-table-requires
 get-gain-table-requires c κs = search needs
 
 returns-2 : tie.Need-returns-2
-returns-2 c = table-given _ _ _ (c .before .before .before .sound-answer .ensures) (c .get-gain-table .ensures) (sym (c .before .before .sound .ensures) ∙ not-false _ (c .before .if1 .left))
+returns-2 c =
+    let at-if1 = c .before in
+    let at-sound = at-if1 .before in
+    let at-sound-answer = at-sound .before in
+    table-given _ _ _ (at-sound-answer .sound-answer .ensures) (c .get-gain-table .ensures) (sym (at-sound .sound .ensures) ∙ not-false _ (at-if1 .if1 .left))
 
 pub get-gain-table-spec : {M : Type 1} → statement M
 get-gain-table-spec =

@@ -26,17 +26,42 @@ unfolding resultOf leftBy
 returns c = c .refused .ensures _ ∙ refuse-by _ _ _ _ _ _ _ _ _ (c .before .before .refusal .ensures) (c .before .if1 .taken)
 
 initialize-requires : tie.Need-initialize-requires
-initialize-requires c κs = let z = taken-by (sound (c .before .before .before .before .before .before .args .self)) 0 19 0 (length (now (c .before .before .before .before .before .before .args .room))) (length (now (c .before .before .before .before .before .before .args .outcomes))) 0 (sym (c .before .before .before .refusal .ensures) ∙ c .before .before .if1 .left) in let one = z .lent .rooms in let two = z .lent .outs in (omega arith, omega arith)
+initialize-requires c κs =
+    let at-if1 = c .before .before in
+    let at-refusal = at-if1 .before in
+    let args = at-refusal .before .before .before .args in
+    let z =
+    taken-by (sound (args .self)) 0 19 0 (length (now (args .room))) (length (now (args .outcomes))) 0
+    (sym (at-refusal .refusal .ensures) ∙ at-if1 .if1 .left) in
+    let one = z .lent .rooms in let two = z .lent .outs in (omega arith, omega arith)
 
 finish-requires : tie.Need-finish-requires
-finish-requires c κs = let z = taken-by (sound (c .before .before .before .before .before .before .before .before .before .before .args .self)) 0 19 0 (length (now (c .before .before .before .before .before .before .before .before .before .before .args .room))) (length (now (c .before .before .before .before .before .before .before .before .before .before .args .outcomes))) 0 (sym (c .before .before .before .before .before .before .before .refusal .ensures) ∙ c .before .before .before .before .before .before .if1 .left) in let one = z .lent .rooms in let two = z .lent .outs in (omega (arith, c .before .before .before .initialize .ensures .1), omega (arith, c .before .before .before .initialize .ensures .1, c .before .before .before .initialize .kept))
+finish-requires c κs =
+    let at-initialize = c .before .before .before in
+    let initialize = at-initialize .initialize in
+    let at-if1 = at-initialize .before .before .before in
+    let at-refusal = at-if1 .before in
+    let args = at-refusal .before .before .before .args in
+    let z =
+    taken-by (sound (args .self)) 0 19 0 (length (now (args .room))) (length (now (args .outcomes))) 0
+    (sym (at-refusal .refusal .ensures) ∙ at-if1 .if1 .left) in
+    let one = z .lent .rooms in let two = z .lent .outs in (omega (arith, initialize .ensures .1), omega (arith, initialize .ensures .1, initialize .kept))
 
 same-length : tie.Need-same-length
 same-length c = search needs
 
 returns-2 : tie.Need-returns-2
 unfolding resultOf leftBy
-returns-2 c = perform-by _ _ _ _ initSteps _ _ (λ (w : Line Logged). withChip (c .before .before .before .before .before .before .before .before .before .before .before .before .before .before .args .self) (w .chip)) _ _ _ (c .before .before .before .before .before .before .before .initialize .result) _ _ _ (c .before .before .before .before .before .before .before .before .before .before .before .refusal .ensures) (c .before .before .before .before .before .before .before .before .before .before .if1 .left) init-eight (c .before .before .before .before .before .before .before .initialize .ensures .0) (c .before .before .before .finish .ensures .1) (c .before .before .before .finish .ensures .0) refl refl
+returns-2 c =
+    let at-finish = c .before .before .before in
+    let finish = at-finish .finish in
+    let at-initialize = at-finish .before .before .before .before in
+    let initialize = at-initialize .initialize in
+    let at-if1 = at-initialize .before .before .before in
+    let at-refusal = at-if1 .before in
+    let start = at-refusal .before .before .before in
+    perform-by _ _ _ _ initSteps _ _ (λ (w : Line Logged). withChip (start .args .self) (w .chip)) _ _ _ (initialize .result) _ _ _
+    (at-refusal .refusal .ensures) (at-if1 .if1 .left) init-eight (initialize .ensures .0) (finish .ensures .1) (finish .ensures .0) refl refl
 
 pub initialize-spec : {M : Type 1} → statement M
 initialize-spec = tie.close (tie.spec refusal-requires refused-requires returns initialize-requires finish-requires same-length returns-2)

@@ -24,18 +24,32 @@ fresh-requires-2 c κs = search needs
 
 returns-3 : tie.Need-returns-3
 unfolding madeOf
-returns-3 c = simp (c .fresh2 .ensures, le-leb _ _ (c .before .before .before .if1 .left), le-leb _ _ (c .before .before .if2 .left), eq-eqb _ _ (c .before .if3 .taken))
+returns-3 c =
+    let at-if3 = c .before in
+    let at-if2 = at-if3 .before in
+    let at-if1 = at-if2 .before in
+    simp (c .fresh2 .ensures, le-leb _ _ (at-if1 .if1 .left), le-leb _ _ (at-if2 .if2 .left), eq-eqb _ _ (at-if3 .if3 .taken))
 
 fresh-requires-3 : tie.Need-fresh-requires-3
 fresh-requires-3 c κs = search needs
 
 returns-4 : tie.Need-returns-4
 unfolding madeOf
-returns-4 c = simp (c .fresh3 .ensures, le-leb _ _ (c .before .before .before .before .if1 .left), le-leb _ _ (c .before .before .before .if2 .left), ne-eqb _ _ (c .before .before .if3 .left), eq-eqb _ _ (c .before .if4 .taken))
+returns-4 c =
+    let at-if4 = c .before in
+    let at-if3 = at-if4 .before in
+    let at-if2 = at-if3 .before in
+    let at-if1 = at-if2 .before in
+    simp (c .fresh3 .ensures, le-leb _ _ (at-if1 .if1 .left), le-leb _ _ (at-if2 .if2 .left), ne-eqb _ _ (at-if3 .if3 .left), eq-eqb _ _ (at-if4 .if4 .taken))
 
 returns-5 : tie.Need-returns-5
 unfolding madeOf
-returns-5 c = simp (c .before .before .before .before .fresh .ensures, le-leb _ _ (c .before .before .before .if1 .left), le-leb _ _ (c .before .before .if2 .left), ne-eqb _ _ (c .before .if3 .left), ne-eqb _ _ (c .if4 .left))
+returns-5 c =
+    let at-if3 = c .before in
+    let at-if2 = at-if3 .before in
+    let at-if1 = at-if2 .before in
+    let at-fresh = at-if1 .before in
+    simp (at-fresh .fresh .ensures, le-leb _ _ (at-if1 .if1 .left), le-leb _ _ (at-if2 .if2 .left), ne-eqb _ _ (at-if3 .if3 .left), ne-eqb _ _ (c .if4 .left))
 
 pub new-spec : {M : Type 1} → statement M
 new-spec =

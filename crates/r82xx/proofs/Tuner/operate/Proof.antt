@@ -29,17 +29,49 @@ unfolding leftBy bracket
 returns c = c .refused .ensures _ ∙ refuse-by _ _ _ _ _ _ _ _ _ (c .before .before .refusal .ensures) (c .before .if1 .taken)
 
 with-repeater-requires : tie.Need-with-repeater-requires
-with-repeater-requires c κs = let z = taken-by (sound (c .before .before .before .before .before .before .before .args .self)) 0 (c .before .before .before .before .before .before .before .args .us .n + 2) 0 (length (now (c .before .before .before .before .before .before .before .args .room))) (length (now (c .before .before .before .before .before .before .before .args .outcomes))) 0 (sym (c .before .before .before .refusal .ensures) ∙ c .before .before .if1 .left) in let one = z .lent .rooms in let two = z .lent .outs in (omega (arith, c .before .before .before .before .before .before .before .pre .0), c .before .before .before .before .before .before .before .pre .1, omega arith, omega arith)
+with-repeater-requires c κs =
+    let at-if1 = c .before .before in
+    let at-refusal = at-if1 .before in
+    let start = at-refusal .before .before .before .before in
+    let args = start .args in
+    let pre = start .pre in
+    let z =
+    taken-by (sound (args .self)) 0 (args .us .n + 2) 0 (length (now (args .room))) (length (now (args .outcomes))) 0
+    (sym (at-refusal .refusal .ensures) ∙ at-if1 .if1 .left) in
+    let one = z .lent .rooms in let two = z .lent .outs in (omega (arith, pre .0), pre .1, omega arith, omega arith)
 
 finish-requires : tie.Need-finish-requires
-finish-requires c κs = let z = taken-by (sound (c .before .before .before .before .before .before .before .before .before .before .before .args .self)) 0 (c .before .before .before .before .before .before .before .before .before .before .before .args .us .n + 2) 0 (length (now (c .before .before .before .before .before .before .before .before .before .before .before .args .room))) (length (now (c .before .before .before .before .before .before .before .before .before .before .before .args .outcomes))) 0 (sym (c .before .before .before .before .before .before .before .refusal .ensures) ∙ c .before .before .before .before .before .before .if1 .left) in let one = z .lent .rooms in let two = z .lent .outs in (omega (arith, c .before .before .before .before .before .before .before .before .before .before .before .pre .0, c .before .before .before .with-repeater .ensures .1), omega (arith, c .before .before .before .with-repeater .ensures .1, c .before .before .before .with-repeater .kept))
+finish-requires c κs =
+    let at-with-repeater = c .before .before .before in
+    let with-repeater = at-with-repeater .with-repeater in
+    let at-if1 = at-with-repeater .before .before .before in
+    let at-refusal = at-if1 .before in
+    let start = at-refusal .before .before .before .before in
+    let args = start .args in
+    let z =
+    taken-by (sound (args .self)) 0 (args .us .n + 2) 0 (length (now (args .room))) (length (now (args .outcomes))) 0
+    (sym (at-refusal .refusal .ensures) ∙ at-if1 .if1 .left) in
+    let one = z .lent .rooms in
+    let two = z .lent .outs in (omega (arith, start .pre .0, with-repeater .ensures .1), omega (arith, with-repeater .ensures .1, with-repeater .kept))
 
 same-length : tie.Need-same-length
 same-length c = search needs
 
 returns-2 : tie.Need-returns-2
 unfolding leftBy bracket
-returns-2 c = let us = meantOf (c .before .before .before .before .before .before .before .before .before .before .before .before .before .before .before .args .us) in let next = c .before .before .before .before .before .before .before .before .before .before .before .before .before .before .before .args .next in perform-by _ _ _ _ (whileOpen (updates us)) _ _ (λ (w : Line Logged). endedBy next next (w .progress) (w .chip)) _ _ _ (c .before .before .before .before .before .before .before .with-repeater .result) _ _ _ (c .before .before .before .before .before .before .before .before .before .before .before .refusal .ensures) (c .before .before .before .before .before .before .before .before .before .before .if1 .left) (bracket-eight us) (c .before .before .before .before .before .before .before .with-repeater .ensures .0) (c .before .before .before .finish .ensures .1) (c .before .before .before .finish .ensures .0) (same-ended next (c .before .before .before .before .before .before .before .with-repeater .result .log .progress) (c .before .before .before .before .before .before .before .with-repeater .result .chip)) refl
+returns-2 c =
+    let at-finish = c .before .before .before in
+    let finish = at-finish .finish in
+    let at-with-repeater = at-finish .before .before .before .before in
+    let with-repeater = at-with-repeater .with-repeater in
+    let at-if1 = at-with-repeater .before .before .before in
+    let at-refusal = at-if1 .before in
+    let args = at-refusal .before .before .before .before .args in
+    let us = meantOf (args .us) in
+    let next = args .next in
+    perform-by _ _ _ _ (whileOpen (updates us)) _ _ (λ (w : Line Logged). endedBy next next (w .progress) (w .chip)) _ _ _ (with-repeater .result) _ _ _
+    (at-refusal .refusal .ensures) (at-if1 .if1 .left) (bracket-eight us) (with-repeater .ensures .0) (finish .ensures .1) (finish .ensures .0)
+    (same-ended next (with-repeater .result .log .progress) (with-repeater .result .chip)) refl
 
 pub operate-spec : {M : Type 1} → statement M
 operate-spec = tie.close (tie.spec add-refusal refusal-requires refused-requires returns with-repeater-requires finish-requires same-length returns-2)

@@ -16,7 +16,14 @@ bandwidth-updates-requires : tie.Need-bandwidth-updates-requires
 bandwidth-updates-requires c κs = search needs
 
 operate-requires : tie.Need-operate-requires
-operate-requires c κs = (omega (arith, meant-count (bandwidthUpdates (c .before .before .before .before .args .hz)) _ (c .before .bandwidth-updates .ensures)), meant-in (bandwidthUpdates (c .before .before .before .before .args .hz)) _ (c .before .bandwidth-updates .ensures) (bandwidth-in (c .before .before .before .before .args .hz)))
+operate-requires c κs =
+    let at-bandwidth-updates = c .before in
+    let bandwidth-updates = at-bandwidth-updates .bandwidth-updates in
+    let args = at-bandwidth-updates .before .before .before .args in
+    let the-bandwidth-updates = bandwidthUpdates (args .hz) in (
+      omega (arith, meant-count the-bandwidth-updates _ (bandwidth-updates .ensures)),
+      meant-in the-bandwidth-updates _ (bandwidth-updates .ensures) (bandwidth-in (args .hz)),
+    )
 
 same-length : tie.Need-same-length
 same-length c = search needs
@@ -24,8 +31,11 @@ same-length c = search needs
 returns : tie.Need-returns
 unfolding resultOf
 returns c =
-    let a = c .before .before .before .before .before .before .before .before .args in
-    bracket-by (a .self) (a .self) (Done 0) _ (bandwidthUpdates (a .hz)) 1 (now (a .outcomes)) (a .self) (now (a .room)) _ (c .before .before .before .before .before .bandwidth-updates .ensures) refl (c .before .before .before .operate .ensures)
+    let at-operate = c .before .before .before in
+    let at-bandwidth-updates = at-operate .before .before in
+    let a = at-bandwidth-updates .before .before .before .args in
+    bracket-by (a .self) (a .self) (Done 0) _ (bandwidthUpdates (a .hz)) 1 (now (a .outcomes)) (a .self) (now (a .room)) _
+    (at-bandwidth-updates .bandwidth-updates .ensures) refl (at-operate .operate .ensures)
 
 pub set-bandwidth-spec : {M : Type 1} → statement M
 set-bandwidth-spec = tie.close (tie.spec bandwidth-updates-requires operate-requires same-length returns)

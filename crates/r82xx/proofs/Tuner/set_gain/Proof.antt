@@ -19,8 +19,11 @@ same-length c = search needs
 returns : tie.Need-returns
 unfolding resultOf
 returns c =
-    let a = c .before .before .before .before .before .before .before .before .args in
-    at-step (now (a .outcomes)) _ (chosenOf (a .db)) (a .self) (now (a .room)) _ (chosen-step _ _ (c .before .before .before .before .before .choose .ensures)) (c .before .before .before .set-gain-by-index .ensures)
+    let at-set-gain-by-index = c .before .before .before in
+    let at-choose = at-set-gain-by-index .before .before in
+    let a = at-choose .before .before .before .args in
+    at-step (now (a .outcomes)) _ (chosenOf (a .db)) (a .self) (now (a .room)) _ (chosen-step _ _ (at-choose .choose .ensures))
+    (at-set-gain-by-index .set-gain-by-index .ensures)
 
 pub set-gain-spec : {M : Type 1} → statement M
 set-gain-spec = tie.close (tie.spec choose-requires set-gain-by-index-requires same-length returns)

@@ -36,13 +36,30 @@ bits-of-requires : tie.Need-bits-of-requires
 bits-of-requires c κs = search needs
 
 gain-steps-requires : tie.Need-gain-steps-requires
-gain-steps-requires c κs = let z = taken-by (sound (c .before .before .before .before .before .before .before .before .before .args .self)) 0 7 0 (length (now (c .before .before .before .before .before .before .before .before .before .args .room))) (length (now (c .before .before .before .before .before .before .before .before .before .args .outcomes))) 0 (sym (c .before .before .before .before .before .refusal .ensures) ∙ c .before .before .before .before .if1 .left) in let one = z .lent .rooms in let two = z .lent .outs in (omega (arith, c .before .before .before .before .before .before .choose-index .ensures), omega arith, omega arith)
+gain-steps-requires c κs =
+    let at-if1 = c .before .before .before .before in
+    let at-refusal = at-if1 .before in
+    let at-choose-index = at-refusal .before in
+    let args = at-choose-index .before .before .before .args in
+    let z =
+    taken-by (sound (args .self)) 0 7 0 (length (now (args .room))) (length (now (args .outcomes))) 0
+    (sym (at-refusal .refusal .ensures) ∙ at-if1 .if1 .left) in
+    let one = z .lent .rooms in let two = z .lent .outs in (omega (arith, at-choose-index .choose-index .ensures), omega arith, omega arith)
 
 cast-t24 : tie.Need-cast-t24
 cast-t24 c = search needs
 
 finish-requires : tie.Need-finish-requires
-finish-requires c κs = let z = taken-by (sound (c .before .before .before .before .before .before .before .before .before .before .before .before .before .args .self)) 0 7 0 (length (now (c .before .before .before .before .before .before .before .before .before .before .before .before .before .args .room))) (length (now (c .before .before .before .before .before .before .before .before .before .before .before .before .before .args .outcomes))) 0 (sym (c .before .before .before .before .before .before .before .before .before .refusal .ensures) ∙ c .before .before .before .before .before .before .before .before .if1 .left) in let one = z .lent .rooms in let two = z .lent .outs in (omega (arith, c .before .before .before .gain-steps .ensures .1), omega (arith, c .before .before .before .gain-steps .ensures .1, c .before .before .before .gain-steps .kept))
+finish-requires c κs =
+    let at-gain-steps = c .before .before .before in
+    let gain-steps = at-gain-steps .gain-steps in
+    let at-if1 = at-gain-steps .before .before .before .before .before in
+    let at-refusal = at-if1 .before in
+    let args = at-refusal .before .before .before .before .args in
+    let z =
+    taken-by (sound (args .self)) 0 7 0 (length (now (args .room))) (length (now (args .outcomes))) 0
+    (sym (at-refusal .refusal .ensures) ∙ at-if1 .if1 .left) in
+    let one = z .lent .rooms in let two = z .lent .outs in (omega (arith, gain-steps .ensures .1), omega (arith, gain-steps .ensures .1, gain-steps .kept))
 
 kept-gain-requires : tie.Need-kept-gain-requires
 kept-gain-requires c κs = search needs
@@ -52,7 +69,42 @@ same-length c = search needs
 
 returns-2 : tie.Need-returns-2
 unfolding resultOf leftBy bracket
-returns-2 c = let t = c .before .before .before .before .before .before .before .before .before .before .before .before .before .before .before .before .before .before .before .args .self in let k = c .before .before .before .before .before .before .before .before .before .before .before .before .before .before .before .before .choose-index .result in let actual = c .before .before .before .before .before .before .before .before .before .before .before .before .before .gain-at .result in at-step _ _ _ _ _ _ (c .before .before .before .before .before .before .before .before .before .before .before .before .before .before .before .before .choose-index .ensures) (step-by k _ _ (gainUpdates k) (now (c .before .before .before .before .before .before .before .before .before .before .before .before .before .before .before .before .before .before .before .args .outcomes)) t (now (c .before .before .before .before .before .before .before .before .before .before .before .before .before .before .before .before .before .before .before .args .room)) _ refl (c .before .before .before .before .before .before .before .before .before .before .before .before .before .gain-at .ensures) (c .before .before .before .before .before .before .before .before .before .before .before .before .bits-of .ensures) (perform-by _ _ _ _ (whileOpen (updates (gainUpdates k))) _ _ (λ (w : Line Logged). endedBy t (withGain t actual) (w .progress) (w .chip)) _ _ _ (c .before .before .before .before .before .before .before .before .before .gain-steps .result) _ _ _ (c .before .before .before .before .before .before .before .before .before .before .before .before .before .before .before .refusal .ensures) (c .before .before .before .before .before .before .before .before .before .before .before .before .before .before .if1 .left) (bracket-eight (gainUpdates k)) (c .before .before .before .before .before .before .before .before .before .gain-steps .ensures .0) (c .before .before .before .before .before .finish .ensures .1) (c .before .before .before .before .before .finish .ensures .0) (gain-kept t actual (c .kept-gain .result) (c .before .before .before .before .before .before .before .before .before .gain-steps .result .log .progress) (c .before .before .before .before .before .before .before .before .before .gain-steps .result .chip) (c .kept-gain .ensures)) refl))
+returns-2 c =
+    let at-finish = c .before .before .before .before .before in
+    let finish = at-finish .finish in
+    let at-gain-steps = at-finish .before .before .before .before in
+    let gain-steps = at-gain-steps .gain-steps in
+    let at-bits-of = at-gain-steps .before .before .before in
+    let at-gain-at = at-bits-of .before in
+    let gain-at = at-gain-at .gain-at in
+    let actual = gain-at .result in
+    let at-if1 = at-gain-at .before in
+    let at-refusal = at-if1 .before in
+    let at-choose-index = at-refusal .before in
+    let choose-index = at-choose-index .choose-index in
+    let k = choose-index .result in
+    let args = at-choose-index .before .before .before .args in
+    let t = args .self in
+    at-step _ _ _ _ _ _ (choose-index .ensures)
+    (step-by k _ _ (gainUpdates k) (now (args .outcomes)) t (now (args .room)) _ refl (gain-at .ensures) (at-bits-of .bits-of .ensures)
+    (perform-by _ _ _ _ (whileOpen (updates (gainUpdates k))) _ _ (λ (w : Line Logged). endedBy t (withGain t actual) (w .progress) (w .chip)) _ _ _
+    (gain-steps .result) _ _ _ (at-refusal .refusal .ensures) (at-if1 .if1 .left) (bracket-eight (gainUpdates k)) (gain-steps .ensures .0) (finish .ensures .1)
+    (finish .ensures .0) (gain-kept t actual (c .kept-gain .result) (gain-steps .result .log .progress) (gain-steps .result .chip) (c .kept-gain .ensures))
+    refl))
 
 pub set-gain-by-index-spec : {M : Type 1} → statement M
-set-gain-by-index-spec = tie.close (tie.spec choose-index-requires refusal-requires refused-requires returns gain-at-requires bits-of-requires gain-steps-requires cast-t24 finish-requires kept-gain-requires same-length returns-2)
+set-gain-by-index-spec =
+    tie.close
+    (tie.spec
+    choose-index-requires
+    refusal-requires
+    refused-requires
+    returns
+    gain-at-requires
+    bits-of-requires
+    gain-steps-requires
+    cast-t24
+    finish-requires
+    kept-gain-requires
+    same-length
+    returns-2)

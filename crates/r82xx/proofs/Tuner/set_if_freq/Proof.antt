@@ -17,7 +17,11 @@ if-updates-requires : tie.Need-if-updates-requires
 if-updates-requires c κs = search needs
 
 operate-requires : tie.Need-operate-requires
-operate-requires c κs = (omega (arith, meant-count (ifUpdates (c .before .before .before .before .args .hz)) _ (c .before .if-updates .ensures)), meant-in (ifUpdates (c .before .before .before .before .args .hz)) _ (c .before .if-updates .ensures) (if-in (c .before .before .before .before .args .hz)))
+operate-requires c κs =
+    let at-if-updates = c .before in
+    let if-updates = at-if-updates .if-updates in
+    let args = at-if-updates .before .before .before .args in
+    (omega (arith, meant-count (ifUpdates (args .hz)) _ (if-updates .ensures)), meant-in (ifUpdates (args .hz)) _ (if-updates .ensures) (if-in (args .hz)))
 
 same-length : tie.Need-same-length
 same-length c = search needs
@@ -25,8 +29,11 @@ same-length c = search needs
 returns : tie.Need-returns
 unfolding resultOf
 returns c =
-    let a = c .before .before .before .before .before .before .before .args in
-    bracket-by (withIf (a .self) (a .hz)) (withIf (a .self) (a .hz)) (Done 0) _ (ifUpdates (a .hz)) 2 (now (a .outcomes)) (a .self) (now (a .room)) _ (c .before .before .before .before .if-updates .ensures) refl (c .before .before .operate .ensures)
+    let at-operate = c .before .before in
+    let at-if-updates = at-operate .before .before in
+    let a = at-if-updates .before .before .before .args in
+    bracket-by (withIf (a .self) (a .hz)) (withIf (a .self) (a .hz)) (Done 0) _ (ifUpdates (a .hz)) 2 (now (a .outcomes)) (a .self) (now (a .room)) _
+    (at-if-updates .if-updates .ensures) refl (at-operate .operate .ensures)
 
 pub set-if-freq-spec : {M : Type 1} → statement M
 set-if-freq-spec = tie.close (tie.spec if-updates-requires operate-requires same-length returns)

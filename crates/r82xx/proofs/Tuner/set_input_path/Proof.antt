@@ -23,7 +23,10 @@ refused-requires c κs = search needs
 
 returns : tie.Need-returns
 unfolding resultOf
-returns c = c .refused .ensures _ ∙ path-none _ _ _ _ _ (sym (c .before .before .before .path-of .ensures) ∙ c .before .enum-told .given .1)
+returns c =
+    let at-enum-told = c .before in
+    let at-path-of = at-enum-told .before .before in
+    c .refused .ensures _ ∙ path-none _ _ _ _ _ (sym (at-path-of .path-of .ensures) ∙ at-enum-told .enum-told .given .1)
 
 enum-told-2 : tie.Need-enum-told-2
 enum-told-2 c = search needs
@@ -38,11 +41,19 @@ path-updates-requires : tie.Need-path-updates-requires
 path-updates-requires c κs = search needs
 
 operate-requires : tie.Need-operate-requires
-operate-requires c κs = (omega (arith, path-meant-two (c .before .before .before .before .before .by .given .0 .0) _ (c .before .path-updates .ensures)), path-meant-in (c .before .before .before .before .before .by .given .0 .0) _ (c .before .path-updates .ensures))
+operate-requires c κs =
+    let at-path-updates = c .before in
+    let path-updates = at-path-updates .path-updates in
+    let by = at-path-updates .before .before .before .before .by in
+    (omega (arith, path-meant-two (by .given .0 .0) _ (path-updates .ensures)), path-meant-in (by .given .0 .0) _ (path-updates .ensures))
 
 returns-2 : tie.Need-returns-2
 unfolding resultOf
-returns-2 c = path-still _ _ _ _ _ _ _ (sym (c .before .before .before .before .before .before .path-of .ensures) ∙ c .before .before .before .before .by .given .1) (c .before .enum-told2 .given .1) (c .sound-answer .ensures)
+returns-2 c =
+    let at-enum-told2 = c .before in
+    let at-by = at-enum-told2 .before .before .before in
+    let at-path-of = at-by .before .before in
+    path-still _ _ _ _ _ _ _ (sym (at-path-of .path-of .ensures) ∙ at-by .by .given .1) (at-enum-told2 .enum-told2 .given .1) (c .sound-answer .ensures)
 
 same-length : tie.Need-same-length
 same-length c = search needs
@@ -50,8 +61,29 @@ same-length c = search needs
 returns-3 : tie.Need-returns-3
 unfolding resultOf
 returns-3 c =
-    let a = c .before .before .before .before .before .before .before .before .before .before .before .before .before .before .args in
-    path-by _ _ _ _ (now (a .outcomes)) (a .self) (now (a .room)) _ (sym (c .before .before .before .before .before .before .before .before .before .before .before .path-of .ensures) ∙ c .before .before .before .before .before .before .before .before .before .by .given .1) (c .before .before .before .before .before .before .enum-told3 .given .1) (c .before .before .before .before .before .path-updates .ensures) (c .before .before .before .operate .ensures)
+    let at-operate = c .before .before .before in
+    let at-path-updates = at-operate .before .before in
+    let at-enum-told3 = at-path-updates .before in
+    let at-by = at-enum-told3 .before .before .before in
+    let at-path-of = at-by .before .before in
+    let a = at-path-of .before .before .before .args in
+    path-by _ _ _ _ (now (a .outcomes)) (a .self) (now (a .room)) _ (sym (at-path-of .path-of .ensures) ∙ at-by .by .given .1)
+    (at-enum-told3 .enum-told3 .given .1) (at-path-updates .path-updates .ensures) (at-operate .operate .ensures)
 
 pub set-input-path-spec : {M : Type 1} → statement M
-set-input-path-spec = tie.close (tie.spec path-of-requires enum-known-by enum-told refused-requires returns enum-told-2 sound-answer-requires enum-told-3 path-updates-requires operate-requires returns-2 same-length returns-3)
+set-input-path-spec =
+    tie.close
+    (tie.spec
+    path-of-requires
+    enum-known-by
+    enum-told
+    refused-requires
+    returns
+    enum-told-2
+    sound-answer-requires
+    enum-told-3
+    path-updates-requires
+    operate-requires
+    returns-2
+    same-length
+    returns-3)

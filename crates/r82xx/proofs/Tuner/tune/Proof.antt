@@ -23,9 +23,14 @@ same-length c = search needs
 
 returns : tie.Need-returns
 returns c =
-    let a = c .before .before .before .before .before .before .before .before .before .before .before .before .before .before .before .before .before .args in
-    let f = c .before .before .before .before .before .before .before .before .before .before .before .tune in
-    tune-by (now (a .outcomes)) (now (a .replies)) (now (a .room)) (a .hz) (a .self) (a .plan) (f .result) _ _ _ _ _ (f .ensures .0) (c .before .before .before .before .before .before .before .before .whole-answer .ensures) (c .before .before .before .before .before .before .finish .ensures .1) (c .before .before .before .before .before .before .finish .ensures .0) (c .lock-after .ensures) (omega (arith, f .ensures .1))
+    let at-finish = c .before .before .before .before .before .before in
+    let finish = at-finish .finish in
+    let at-whole-answer = at-finish .before .before in
+    let at-tune = at-whole-answer .before .before .before in
+    let f = at-tune .tune in
+    let a = at-tune .before .before .before .before .before .before .args in
+    tune-by (now (a .outcomes)) (now (a .replies)) (now (a .room)) (a .hz) (a .self) (a .plan) (f .result) _ _ _ _ _ (f .ensures .0)
+    (at-whole-answer .whole-answer .ensures) (finish .ensures .1) (finish .ensures .0) (c .lock-after .ensures) (omega (arith, f .ensures .1))
 
 pub tune-spec : {M : Type 1} → statement M
 tune-spec = tie.close (tie.spec tune-requires whole-answer-requires finish-requires lock-after-requires same-length returns)

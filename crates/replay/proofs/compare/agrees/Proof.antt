@@ -38,18 +38,29 @@ decided-requires : tie.Need-decided-requires
 decided-requires c κs = search needs
 
 returns : tie.Need-returns
-returns c = λ e.
-    let a = c .before .before .before .before .before .before .before .before .before .before .before .before .before .before .before .args in
+returns c =
+    let at-written4 = c .before in
+    let at-part4 = at-written4 .before in
+    let at-written3 = at-part4 .before in
+    let at-part3 = at-written3 .before in
+    let at-written2 = at-part3 .before in
+    let at-part2 = at-written2 .before in
+    let at-written = at-part2 .before in
+    let at-part = at-written .before in
+    let at-numbers = at-part .before in
+    let start = at-numbers .before .before .before .before .before .before in
+    λ e.
+    let a = start .args in
     let h4 = both _ _ (c .decided .ensures e) in
     let h3 = both _ _ (h4 .0) in
     let h2 = both _ _ (h3 .0) in
     let h1 = both _ _ (h2 .0) in
     record {
-      numbers-are = c .before .before .before .before .before .before .before .before .before .numbers .ensures (h1 .0);
-      room-is = subst (Written (now (a .room))) (c .before .before .before .before .before .before .before .before .part .ensures) (c .before .before .before .before .before .before .before .written .ensures (h1 .1));
-      tuner-is = subst (Written (now (a .tuner))) (c .before .before .before .before .before .before .part2 .ensures) (c .before .before .before .before .before .written2 .ensures (h2 .1));
-      driver-is = subst (Written (now (a .driver))) (c .before .before .before .before .part3 .ensures) (c .before .before .before .written3 .ensures (h3 .1));
-      answered-is = subst (Written (now (a .answered))) (c .before .before .part4 .ensures) (c .before .written4 .ensures (h4 .1));
+      numbers-are = at-numbers .numbers .ensures (h1 .0);
+      room-is = subst (Written (now (a .room))) (at-part .part .ensures) (at-written .written .ensures (h1 .1));
+      tuner-is = subst (Written (now (a .tuner))) (at-part2 .part2 .ensures) (at-written2 .written2 .ensures (h2 .1));
+      driver-is = subst (Written (now (a .driver))) (at-part3 .part3 .ensures) (at-written3 .written3 .ensures (h3 .1));
+      answered-is = subst (Written (now (a .answered))) (at-part4 .part4 .ensures) (at-written4 .written4 .ensures (h4 .1));
     }
 
 pub agrees-spec : {M : Type 1} → statement M

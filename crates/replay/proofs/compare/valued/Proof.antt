@@ -37,13 +37,20 @@ decided-requires : tie.Need-decided-requires
 decided-requires c κs = search needs
 
 returns-2 : tie.Need-returns-2
-returns-2 c = λ e.
+returns-2 c =
+    let at-same = c .before in
+    let at-unless-refused = at-same .before in
+    let at-numbers = at-unless-refused .before in
+    let at-start2 = at-numbers .before in
+    let at-start = at-start2 .before in
+    let at-part = at-start .before in
+    λ e.
     let h = both _ _ (c .decided .ensures e) in
     let g = both _ _ (h .0) in
     record {
-      told = c .before .before .before .numbers .ensures (g .0);
-      bytes-are = sym (c .before .before .before .before .before .before .part .ensures) ∙ c .before .same .ensures .0 (h .1) ∙ c .before .before .unless-refused .ensures;
-      nothing-else = sym (c .before .before .before .before .before .start .ensures) ∙ eqb-true _ _ (g .1) ∙ c .before .before .before .before .start2 .ensures;
+      told = at-numbers .numbers .ensures (g .0);
+      bytes-are = sym (at-part .part .ensures) ∙ at-same .same .ensures .0 (h .1) ∙ at-unless-refused .unless-refused .ensures;
+      nothing-else = sym (at-start .start .ensures) ∙ eqb-true _ _ (g .1) ∙ at-start2 .start2 .ensures;
     }
 
 pub valued-spec : {M : Type 1} → statement M

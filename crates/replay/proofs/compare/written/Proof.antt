@@ -38,10 +38,14 @@ untouched-requires : tie.Need-untouched-requires
 untouched-requires c κs = search needs
 
 returns-2 : tie.Need-returns-2
-returns-2 c = λ e.
-    let a = c .before .before .before .before .before .before .before .before .args in
+returns-2 c =
+    let at-if2 = c .before .before in
+    let at-same = at-if2 .before in
+    let start = at-same .before .before .before .before .before in
+    λ e.
+    let a = start .args in
     written-by (now (a .lent)) (now (a .bytes))
-    (c .before .before .before .same .ensures .0 (c .before .before .if2 .taken))
+    (at-same .same .ensures .0 (at-if2 .if2 .taken))
     (c .untouched .ensures e)
 
 returns-3 : tie.Need-returns-3

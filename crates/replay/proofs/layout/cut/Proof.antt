@@ -27,7 +27,11 @@ part-result-end-2 : tie.Need-part-result-end-2
 part-result-end-2 c = search needs
 
 returns-2 : tie.Need-returns-2
-returns-2 c = cut-past (now (c .before .before .before .args .c)) _ _ (c .before .before .if1 .left) (c .before .if2 .taken)
+returns-2 c =
+    let at-if2 = c .before in
+    let at-if1 = at-if2 .before in
+    let start = at-if1 .before in
+    cut-past (now (start .args .c)) _ _ (at-if1 .if1 .left) (at-if2 .if2 .taken)
 
 part-result-start-3 : tie.Need-part-result-start-3
 part-result-start-3 c = search needs
@@ -36,7 +40,11 @@ part-result-end-3 : tie.Need-part-result-end-3
 part-result-end-3 c = search needs
 
 returns-3 : tie.Need-returns-3
-returns-3 c = cut-in (now (c .before .before .before .args .c)) _ _ (c .before .before .if1 .left) (c .before .if2 .left)
+returns-3 c =
+    let at-if2 = c .before in
+    let at-if1 = at-if2 .before in
+    let start = at-if1 .before in
+    cut-in (now (start .args .c)) _ _ (at-if1 .if1 .left) (at-if2 .if2 .left)
 
 pub cut-spec : {M : Type 1} → statement M
 cut-spec =

@@ -12,10 +12,18 @@ div-if1 : tie.Need-div-if1
 div-if1 c = search needs
 
 returns : tie.Need-returns
-returns c = (flag-on (now (c .before .before .before .args .c)) (c .before .before .before .args .bit) (c .before .before .before .args .n) (c .before .one .result) (c .before .one .ensures .0) (c .if1 .taken), search needs)
+returns c =
+    let at-one = c .before in
+    let one = at-one .one in
+    let args = at-one .before .before .args in
+    (flag-on (now (args .c)) (args .bit) (args .n) (one .result) (one .ensures .0) (c .if1 .taken), search needs)
 
 returns-2 : tie.Need-returns-2
-returns-2 c = (flag-off (now (c .before .before .before .args .c)) (c .before .before .before .args .bit) (c .before .before .before .args .n) (c .before .one .result) (c .before .one .ensures .0) (c .if1 .left), search needs)
+returns-2 c =
+    let at-one = c .before in
+    let one = at-one .one in
+    let args = at-one .before .before .args in
+    (flag-off (now (args .c)) (args .bit) (args .n) (one .result) (one .ensures .0) (c .if1 .left), search needs)
 
 pub flag-spec : {M : Type 1} → statement M
 flag-spec = tie.close (tie.spec one-requires div-if1 returns returns-2)

@@ -19,7 +19,11 @@ cut-requires : tie.Need-cut-requires
 cut-requires c κs = search needs
 
 returns : tie.Need-returns
-returns c = c .cut .ensures ∙ ap₂ (cutOf (now (c .before .before .before .before .args .c))) (c .before .before .start .ensures) (c .before .start2 .ensures)
+returns c =
+    let at-start2 = c .before in
+    let at-start = at-start2 .before in
+    let start = at-start .before .before in
+    c .cut .ensures ∙ ap₂ (cutOf (now (start .args .c))) (at-start .start .ensures) (at-start2 .start2 .ensures)
 
 pub part-spec : {M : Type 1} → statement M
 part-spec = tie.close (tie.spec start-requires add-start start-requires-2 cut-requires returns)

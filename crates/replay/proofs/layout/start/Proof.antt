@@ -31,10 +31,17 @@ loop-less : tie.Need-loop-less Inv-loop μ-loop
 loop-less c = search needs
 
 loop-again : tie.Need-loop-again Inv-loop μ-loop
-loop-again c = (search needs, (start-more (now (c .before .before .before .before .args .c)) (c .before .before .loop .i) (c .before .before .loop .at) (c .size .result) (c .before .before .loop .inv .1 .0) (c .size .ensures .0), omega arith))
+loop-again c =
+    let at-loop = c .before .before in
+    let loop = at-loop .loop in
+    let start = at-loop .before .before in
+    (search needs, (start-more (now (start .args .c)) (loop .i) (loop .at) (c .size .result) (loop .inv .1 .0) (c .size .ensures .0), omega arith))
 
 returns : tie.Need-returns Inv-loop μ-loop
-returns c = c .before .loop .inv .1 .0 ∙ ap (startAt (now (c .before .before .before .args .c))) (omega arith)
+returns c =
+    let at-loop = c .before in
+    let start = at-loop .before .before in
+    at-loop .loop .inv .1 .0 ∙ ap (startAt (now (start .args .c))) (omega arith)
 
 pub start-spec : {M : Type 1} → statement M
 start-spec =

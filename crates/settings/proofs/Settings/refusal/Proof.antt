@@ -7,11 +7,13 @@ use Rattle.settings.proofs.Settings.refusal.Tie as tie
 
 returns : tie.Need-returns
 returns c =
-    fit (c .before .before .before .before .args .self) (c .if1 .taken)
+    let start = c .before .before .before .before in
+    fit (start .args .self) (c .if1 .taken)
 
 returns-2 : tie.Need-returns-2
 returns-2 c =
-    unfit (c .before .before .before .before .args .self) (c .if1 .left)
+    let start = c .before .before .before .before in
+    unfit (start .args .self) (c .if1 .left)
 
 pub refusal-spec : {M : Type 1} → statement M
 refusal-spec = tie.close (tie.spec returns returns-2)

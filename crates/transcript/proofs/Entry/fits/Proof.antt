@@ -11,7 +11,11 @@ wide-requires : tie.Need-wide-requires
 wide-requires c κs = search needs
 
 returns : tie.Need-returns
-returns c = no-kind (c .before .before .args .self) (c .before .wide .result) (c .before .wide .ensures .0) (c .if1 .taken)
+returns c =
+    let at-wide = c .before in
+    let wide = at-wide .wide in
+    let start = at-wide .before in
+    no-kind (start .args .self) (wide .result) (wide .ensures .0) (c .if1 .taken)
 
 array-read-row-fits : tie.Need-array-read-row-fits
 array-read-row-fits c = search needs
@@ -27,11 +31,14 @@ zeros-from-requires c κs = search needs
 
 returns-2 : tie.Need-returns-2
 returns-2 c =
-    let e = c .before .before .before .before .before .before .args .self in
+    let kept-by = c .before .kept-by in
+    let row-fits = c .before .before .row-fits in
     let w = c .before .before .before .before .before .wide in
+    let args = c .before .before .before .before .before .before .args in
+    let e = args .self in
     let eight : length (e .bytes) ≡ 8 = search needs in
-    tests-made e (w .result) (c .before .kept-by .result) (c .before .before .row-fits .result) (c .zeros-from .result)
-    eight (w .ensures .0) (c .before .before .row-fits .ensures) (c .before .kept-by .ensures) (c .zeros-from .ensures)
+    tests-made e (w .result) (kept-by .result) (row-fits .result) (c .zeros-from .result)
+    eight (w .ensures .0) (row-fits .ensures) (kept-by .ensures) (c .zeros-from .ensures)
 
 pub fits-spec : {M : Type 1} → statement M
 fits-spec =

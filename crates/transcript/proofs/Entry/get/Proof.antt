@@ -57,13 +57,15 @@ cast-t24 c = search needs
 
 returns : tie.Need-returns
 returns c =
-    let a = c .before .before .before .before .before .before .before .before .before .before .before .args in
+    let at-copy = c .before .before .before .before .before .before in
+    let copy = at-copy .copy in
+    let a = at-copy .before .before .before .before .before .args in
     let part = drop (a .at) (now (a .s)) in
     let wide : a .at + 16 - a .at ≡ 16 = omega arith in
     let room : length part ≡ length (now (a .s)) - a .at = length-drop (a .at) (now (a .s)) in
     let long : length (take 16 part) ≡ 16 = length-take 16 part ∙ omega arith in
-    entry-made (take (a .at + 16 - a .at) part) (take 16 part) (c .get .result) (c .before .before .before .before .before .before .copy .last .0)
-    (ap (λ k. take k part) wide) long (c .get .ensures .0) (c .before .before .before .before .before .before .copy .ensures)
+    entry-made (take (a .at + 16 - a .at) part) (take 16 part) (c .get .result) (copy .last .0)
+    (ap (λ k. take k part) wide) long (c .get .ensures .0) (copy .ensures)
 
 pub get-spec : {M : Type 1} → statement M
 get-spec =

@@ -50,10 +50,11 @@ same-length c = search needs
 
 returns : tie.Need-returns
 returns c =
+    let copy = c .before .before .before .before .before .before .before .before .before .copy in
     let a = c .before .before .before .before .before .before .before .before .before .before .before .before .before .args in
     let h : a .t1 .address < 65536 = search needs in
     c .before .before .copy2 .ensures
-    ∙ ap (λ l. sets l (a .at + 8) (a .t1 .bytes)) (c .before .before .before .before .before .before .before .before .before .copy .ensures)
+    ∙ ap (λ l. sets l (a .at + 8) (a .t1 .bytes)) (copy .ensures)
     ∙ entry-laid (now (a .s)) (a .at) (a .t1) h
 
 pub put-spec : {M : Type 1} → statement M
