@@ -436,7 +436,7 @@ pub fn write_list(
     l
 }
 
-// One update, and two, behind an open repeater: a straight line, so that the compiler puts their constants in place.
+// One update, and two, while the repeater is open: a straight line, so that the compiler puts their constants in place.
 pub fn write_one(
     l: Log,
     address: u8,

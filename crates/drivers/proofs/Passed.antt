@@ -2,10 +2,10 @@
 -- Assumes nothing.
 use Prim.Native.Nat.{ℕ, _<_, _≤_}
 use mathlib.Core.Path.{_≡_, refl, sym, ap, _∙_}
-use mathlib.Core.Bool.{Bool, true, false, _&&_, _||_, cond, false≢true}
+use mathlib.Core.Bool.{Bool, true, false, _&&_, _||_, false≢true}
 use mathlib.Core.List.{List, []}
 use native.Mathlib.Omega.{arith}
-use borrow.Author.Tests.{eq-eqb, eqb-false, eqb-true, ne-eqb, lt-ltb, le-ltb, ltb-false}
+use borrow.Author.Tests.{eqb-true, lt-ltb, le-ltb, ltb-false}
 use lib.Dec.{eqb, ltb}
 use lib.IntN.{ℤ}
 use lib.ListN.{length}
@@ -32,45 +32,30 @@ use Rattle.reply.specs.declared.Reply.{Reply}
 use Rattle.reply.specs.declared.TuneReply.{TuneReply}
 use Rattle.reply.specs.Replies.{replyOf, tunedOf}
 use Rattle.tuners.specs.Over.{nextOf}
-use Rattle.tuners.proofs.Passed.{not-refused, refused}
-use Rattle.drivers.specs.Drivers.{Hops, Rates, bothReady, correctOver, corrects, correctsMade, hops, hopsBy, overBoth, rates, ratesMade, ratesRefused, lockTriesBoth}
+use Rattle.tuners.proofs.Passed.{none-refused, not-refused, refused}
+use Rattle.drivers.specs.Drivers.{Rates, bothReady, correctOver, corrects, correctsMade, hops, hopsBy, overBoth, rates, ratesMade, ratesRefused, lockTriesBoth}
 
--- the five ways of `ready`
-module _ (ok : Bool) (argument driver tuner : ℕ) where
-  pub not-ok : ok ≡ false → 1 ≡ bothReady ok argument driver tuner
-  unfolding bothReady
-  not-ok o = rw o
+-- either slice too short, or neither
+module _ (driver tuner : ℕ) where
+  pub driver-short : driver < 29 → (ltb driver 29 || ltb tuner 78) ≡ true
+  driver-short h = rw (lt-ltb driver 29 h)
 
-  pub bad-argument : ok ≡ true → (argument ≡ 0 → ⊥) → argument ≡ bothReady ok argument driver tuner
-  unfolding bothReady
-  bad-argument o z = rw (o, ne-eqb argument 0 z)
+  pub tuner-short : 29 ≤ driver → tuner < 78 → (ltb driver 29 || ltb tuner 78) ≡ true
+  tuner-short h i = rw (le-ltb driver 29 h, lt-ltb tuner 78 i)
 
-  pub no-driver : ok ≡ true → argument ≡ 0 → driver < 29 → 8 ≡ bothReady ok argument driver tuner
-  unfolding bothReady
-  no-driver o z h = rw (o, eq-eqb argument 0 z, lt-ltb driver 29 h)
-
-  pub no-tuner : ok ≡ true → argument ≡ 0 → 29 ≤ driver → tuner < 78 → 8 ≡ bothReady ok argument driver tuner
-  unfolding bothReady
-  no-tuner o z h i = rw (o, eq-eqb argument 0 z, le-ltb driver 29 h, lt-ltb tuner 78 i)
-
-  pub all-there : ok ≡ true → argument ≡ 0 → 29 ≤ driver → 78 ≤ tuner → 0 ≡ bothReady ok argument driver tuner
-  unfolding bothReady
-  all-there o z h i = rw (o, eq-eqb argument 0 z, le-ltb driver 29 h, le-ltb tuner 78 i)
+  pub neither-short : 29 ≤ driver → 78 ≤ tuner → (ltb driver 29 || ltb tuner 78) ≡ false
+  neither-short h i = rw (le-ltb driver 29 h, le-ltb tuner 78 i)
 
 -- where nothing is refused, both slices have the bytes that are written
-rooms-fit : (x y : Bool) (driver tuner : ℕ) → ltb driver 29 ≡ x → ltb tuner 78 ≡ y → _≡_ {A = ℕ} (cond (x || y) 8 0) 0 → (29 ≤ driver) × (78 ≤ tuner)
-rooms-fit true y driver tuner d t e = absurd (omega (arith, e))
-rooms-fit false true driver tuner d t e = absurd (omega (arith, e))
-rooms-fit false false driver tuner d t e = (ltb-false driver 29 d, ltb-false tuner 78 t)
-
-argued-fits : (b : Bool) (argument driver tuner : ℕ) → eqb argument 0 ≡ b → cond b (cond (ltb driver 29 || ltb tuner 78) 8 0) argument ≡ 0 → (29 ≤ driver) × (78 ≤ tuner)
-argued-fits true argument driver tuner t e = rooms-fit (ltb driver 29) (ltb tuner 78) driver tuner refl refl e
-argued-fits false argument driver tuner t e = absurd (eqb-false argument 0 t e)
+both-fit : (x y : Bool) (driver tuner : ℕ) → ltb driver 29 ≡ x → ltb tuner 78 ≡ y → (x || y) ≡ false → (29 ≤ driver) × (78 ≤ tuner)
+both-fit true y driver tuner d t e = absurd (false≢true (sym e))
+both-fit false true driver tuner d t e = absurd (false≢true (sym e))
+both-fit false false driver tuner d t e = (ltb-false driver 29 d, ltb-false tuner 78 t)
 
 pub fits : (ok : Bool) (argument driver tuner : ℕ) → bothReady ok argument driver tuner ≡ 0 → (29 ≤ driver) × (78 ≤ tuner)
 unfolding bothReady
-fits false argument driver tuner e = absurd (omega (arith, e))
-fits true argument driver tuner e = argued-fits (eqb argument 0) argument driver tuner refl e
+fits ok argument driver tuner e =
+    both-fit (ltb driver 29) (ltb tuner 78) driver tuner refl refl (none-refused ok argument (ltb driver 29 || ltb tuner 78) e .0)
 
 -- a call over both records, by its argument's number and by what it leaves
 module _ (argument : Tuner → Driver → ℕ) (result : Tuner → Driver → Called Both) (d t room driver tuner : List ℕ) where

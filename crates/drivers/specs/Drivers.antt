@@ -24,7 +24,7 @@ use Rattle.records.specs.Drivers.{driverBytes, driverOf}
 use Rattle.records.specs.Tuners.{tunerBytes, tunerOf}
 use Rattle.reply.specs.declared.Reply.{Reply}
 use Rattle.reply.specs.Replies.{callReply, replyOf, tunedOf}
-use Rattle.tuners.specs.Over.{nextOf, unlessRefused}
+use Rattle.tuners.specs.Over.{nextOf, readyBy, unlessRefused}
 use Rattle.tuners.specs.Still.{ofRecord}
 
 -- a fresh one
@@ -45,9 +45,9 @@ pub record Rates : Type 0 where
 abbrev pub rates : Reply → List ℕ → List ℕ → List ℕ → Rates
 rates answer room driver tuner = record { answer = answer; room = room; driver = driver; tuner = tuner }
 
--- 1 for either record, then the argument's number, then 8 for either slice; 0 where none is given
+-- of both records: 1 for either, then the argument's number, then 8 for either slice
 unfoldable pub bothReady : Bool → ℕ → ℕ → ℕ → ℕ
-bothReady ok argument driver tuner = cond ok (cond (eqb argument 0) (cond (ltb driver 29 || ltb tuner 78) 8 0) argument) 1
+bothReady ok argument driver tuner = readyBy ok argument (ltb driver 29 || ltb tuner 78)
 
 abbrev pub ratesMade : Called Both → List ℕ → List ℕ → Rates
 ratesMade c driver tuner =

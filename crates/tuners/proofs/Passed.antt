@@ -5,7 +5,7 @@ use mathlib.Core.Path.{_≡_, refl, sym, ap, _∙_}
 use mathlib.Core.Bool.{Bool, true, false, cond}
 use mathlib.Core.List.{List}
 use native.Mathlib.Omega.{arith}
-use borrow.Author.Tests.{eq-eqb, eqb-true, ne-eqb, lt-ltb, le-ltb, ltb-false}
+use borrow.Author.Tests.{eq-eqb, eqb-false, eqb-true, ne-eqb, lt-ltb, ltb-false}
 use lib.Dec.{eqb, ltb}
 use lib.ListN.{length}
 use lib.Seq.{sets}
@@ -30,41 +30,45 @@ use Rattle.records.specs.Tuners.{tunerBytes, tunerOf}
 use Rattle.reply.specs.declared.Reply.{Reply}
 use Rattle.reply.specs.declared.TuneReply.{TuneReply}
 use Rattle.reply.specs.Replies.{replyOf, tunedOf}
-use Rattle.tuners.specs.Over.{After, after, handed, isWritten, nextOf, overTuner, overTuning, pathRefusal, readyOf, refusal, lockTriesOver, tunedBy, tunedTo, unlessRefused}
+use Rattle.tuners.specs.Over.{After, after, handed, isWritten, nextOf, overTuner, overTuning, pathRefusal, readyBy, readyOf, refusal, lockTriesOver, tunedBy, tunedTo, unlessRefused}
+
+-- the four ways of `ready`, for one slice or two; and what holds where it refuses nothing
+module _ (ok : Bool) (argument : ℕ) (short : Bool) where
+  pub not-ok : ok ≡ false → 1 ≡ readyBy ok argument short
+  not-ok o = rw o
+
+  pub bad-argument : ok ≡ true → (argument ≡ 0 → ⊥) → argument ≡ readyBy ok argument short
+  bad-argument o h = rw (o, ne-eqb argument 0 h)
+
+  pub too-short : ok ≡ true → argument ≡ 0 → short ≡ true → 8 ≡ readyBy ok argument short
+  too-short o z h = rw (o, eq-eqb argument 0 z, h)
+
+  pub all-there : ok ≡ true → argument ≡ 0 → short ≡ false → 0 ≡ readyBy ok argument short
+  all-there o z h = rw (o, eq-eqb argument 0 z, h)
+
+then-short : (b : Bool) (argument : ℕ) (short : Bool) → eqb argument 0 ≡ b → cond b (cond short 8 0) argument ≡ 0 → (short ≡ false) × (argument ≡ 0)
+then-short true argument true t e = absurd (omega (arith, e))
+then-short true argument false t e = (refl, eqb-true argument 0 t)
+then-short false argument short t e = absurd (eqb-false argument 0 t e)
+
+pub none-refused : (ok : Bool) (argument : ℕ) (short : Bool) → readyBy ok argument short ≡ 0 → (short ≡ false) × (argument ≡ 0)
+none-refused false argument short e = absurd (omega (arith, e))
+none-refused true argument short e = then-short (eqb argument 0) argument short refl e
 
 -- where nothing is refused, the slice has the bytes that are written
-room-fits : (b : Bool) (next need : ℕ) → ltb next need ≡ b → _≡_ {A = ℕ} (cond b 8 0) 0 → need ≤ next
-room-fits true next need t e = absurd (omega (arith, e))
-room-fits false next need t e = ltb-false next need t
-
-then-fits : (b : Bool) (argument next need : ℕ) → eqb argument 0 ≡ b → cond b (cond (ltb next need) 8 0) argument ≡ 0 → need ≤ next
-then-fits true argument next need t e = room-fits (ltb next need) next need refl e
-then-fits false argument next need t e =
-    let differ : _≡_ {A = Bool} true false = sym (eq-eqb argument 0 e) ∙ t in
-    let z : _≡_ {A = ℕ} 0 1 = cc in
-    absurd (omega (arith, z))
-
 pub fits : (ok : Bool) (argument next need : ℕ) → readyOf ok argument next need ≡ 0 → need ≤ next
 unfolding readyOf
-fits false argument next need e = absurd (omega (arith, e))
-fits true argument next need e = then-fits (eqb argument 0) argument next need refl e
+fits ok argument next need e = ltb-false next need (none-refused ok argument (ltb next need) e .0)
 
 -- where nothing is refused, a path's number is a byte
-then-none : (b : Bool) (argument next need : ℕ) → eqb argument 0 ≡ b → cond b (cond (ltb next need) 8 0) argument ≡ 0 → argument ≡ 0
-then-none true argument next need t e = eqb-true argument 0 t
-then-none false argument next need t e = e
-
 path-named : (b : Bool) (path : ℕ) → ltb 2 path ≡ b → _≡_ {A = ℕ} (cond b 1 0) 0 → path < 2 ^ 8
 path-named true path t e = absurd (omega (arith, e))
 path-named false path t e = omega (arith, ltb-false 2 path t)
 
-none-asked : (ok : Bool) (argument next need : ℕ) → readyOf ok argument next need ≡ 0 → argument ≡ 0
-unfolding readyOf
-none-asked false argument next need e = absurd (omega (arith, e))
-none-asked true argument next need e = then-none (eqb argument 0) argument next need refl e
-
 pub path-byte : (ok : Bool) (path k n next need : ℕ) → k ≡ pathRefusal path → n ≡ readyOf ok k next need → n ≡ 0 → path < 2 ^ 8
-path-byte ok path k n next need asked said z = path-named (ltb 2 path) path refl (sym asked ∙ none-asked ok k next need (sym said ∙ z))
+unfolding readyOf
+path-byte ok path k n next need asked said z =
+    path-named (ltb 2 path) path refl (sym asked ∙ none-refused ok k (ltb next need) (sym said ∙ z) .1)
 
 -- a row by a path's number: 1 where it names none, and no other refusal
 pub path-argued : (row : PathRead → Course Tuner) → argumentOf (row path-read.Refused) ≡ 1 → ((p : Path) → argumentOf (row (path-read.Is p)) ≡ 0)
@@ -79,24 +83,6 @@ pub tuner-path-argued : (kind : Kind) (t : Tuner) (path : ℕ) → pathRefusal p
 unfolding bracket
 tuner-path-argued R820T t path = path-argued (λ (p : PathRead). pathRow p R820T t) refl (λ p. refl) path
 tuner-path-argued R828D t path = path-argued (λ (p : PathRead). pathRow p R828D t) refl (λ p. refl) path
-
--- the four ways of `ready`
-module _ (ok : Bool) (argument next need : ℕ) where
-  pub not-ok : ok ≡ false → 1 ≡ readyOf ok argument next need
-  unfolding readyOf
-  not-ok o = rw o
-
-  pub bad-argument : ok ≡ true → (argument ≡ 0 → ⊥) → argument ≡ readyOf ok argument next need
-  unfolding readyOf
-  bad-argument o h = rw (o, ne-eqb argument 0 h)
-
-  pub no-slice : ok ≡ true → argument ≡ 0 → next < need → 8 ≡ readyOf ok argument next need
-  unfolding readyOf
-  no-slice o z h = rw (o, eq-eqb argument 0 z, lt-ltb next need h)
-
-  pub all-there : ok ≡ true → argument ≡ 0 → need ≤ next → 0 ≡ readyOf ok argument next need
-  unfolding readyOf
-  all-there o z h = rw (o, eq-eqb argument 0 z, le-ltb next need h)
 
 -- a call that was refused by a number, and one that was made
 module _ {A : Type 0} (number : ℕ) (refuse : ℕ → A) (made : A) where

@@ -29,9 +29,13 @@ pub record After : Type 0 where
 abbrev pub after : Reply → List ℕ → List ℕ → After
 after answer room next = record { answer = answer; room = room; next = next }
 
--- "Order: arguments (1 to 7, and 2 for hz), then 8": the record, the argument, then the slice for the next record, of which `need` bytes are written
+-- "Order: arguments (1 to 7, and 2 for hz), then 8": the records, the argument, then the slices for next records; 0 where nothing refuses
+abbrev pub readyBy : Bool → ℕ → Bool → ℕ
+readyBy ok argument short = cond ok (cond (eqb argument 0) (cond short 8 0) argument) 1
+
+-- of one record, of which `need` bytes are written
 unfoldable pub readyOf : Bool → ℕ → ℕ → ℕ → ℕ
-readyOf ok argument next need = cond ok (cond (eqb argument 0) (cond (ltb next need) 8 0) argument) 1
+readyOf ok argument next need = readyBy ok argument (ltb next need)
 
 -- the next record is written once steps were taken or the call is done
 abbrev pub isWritten : Answer → ℕ → Bool
