@@ -51,6 +51,26 @@
 #include <stddef.h>
 #include <stdint.h>
 
+/*
+ * The version of this header, as `pasetone_version` answers that of the archive: major * 65536 + minor * 256 + patch. CHANGELOG.md says what a host
+ * has to change from one to the next. Every other place of the tree that names the version is held to this line by docs/check-version.
+ */
+#define PASETONE_VERSION 0x060100 /* 6.1.0 */
+
+/*
+ * Stands at each slice that a call writes: none of its bytes may be another slice's of the same call. No call can look for itself, but compilers warn of some
+ * that are (gcc -Wall: one array as `tuner` and `next`).
+ */
+#if defined(__GNUC__) || defined(__clang__)
+#define PASETONE_RESTRICT __restrict__
+#elif defined(_MSC_VER)
+#define PASETONE_RESTRICT __restrict
+#elif !defined(__cplusplus) && defined(__STDC_VERSION__) && __STDC_VERSION__ >= 199901L
+#define PASETONE_RESTRICT restrict
+#else
+#define PASETONE_RESTRICT
+#endif
+
 #ifdef __cplusplus
 extern "C" {
 #endif
@@ -77,6 +97,16 @@ extern "C" {
 #define PASETONE_SETTINGS 17    /* bytes that do not end in settings of that edition, or a kind, board or gain index that settings do not have */
 #define PASETONE_NOT_EXPRESSIBLE 18 /* settings of edition 2 whose IF edition 1 cannot say */
 #define PASETONE_TABLE 19       /* bytes that are no well-formed table of bands */
+
+/* A refusal's word; "unknown" above 19. 5 has the word of the call that is gone, for a host that still meets an older archive. */
+static inline const char *pasetone_refusal_word(uint32_t refusal)
+{
+    static const char *const words[] = {
+        "done",    "setup",   "frequency", "rate",    "correction", "register",  "pin",     "coefficient", "room",            "outcomes",
+        "replies", "step",    "section",   "ratio",   "command",    "expansion", "edition", "settings",    "not expressible", "table",
+    };
+    return refusal < sizeof words / sizeof words[0] ? words[refusal] : "unknown";
+}
 
 /* Cases as numbers. */
 #define PASETONE_R820T 0
@@ -291,14 +321,14 @@ uint32_t pasetone_version(void);
  * 0.0, IF 2,300,000, no notch, corrected reference = nominal. `address` is the chip's on I2C, any byte (an R820T has 0x34, an R828D 0x74: eight
  * bits, the lowest 0). `next`: 78 bytes. Value 0. Refuses 1 (kind, nominal), 8.
  */
-pasetone_reply pasetone_tuner_new(uint64_t kind, uint8_t address, uint64_t nominal, uint8_t *next, size_t next_len);
+pasetone_reply pasetone_tuner_new(uint64_t kind, uint8_t address, uint64_t nominal, uint8_t *PASETONE_RESTRICT next, size_t next_len);
 
 /*
  * A driver: its board, reference, correction in parts per million, and the frequency and rate to start from (0 is taken); its true rate is 0.
  * `next`: 29 bytes. Value 0. Refuses 1 (board, nominal), 4, 8.
  */
-pasetone_reply pasetone_driver_new(uint64_t board, uint64_t nominal, int32_t ppm, uint64_t frequency, uint32_t rate, uint8_t *next,
-                                   size_t next_len);
+pasetone_reply pasetone_driver_new(uint64_t board, uint64_t nominal, int32_t ppm, uint64_t frequency, uint32_t rate,
+                                   uint8_t *PASETONE_RESTRICT next, size_t next_len);
 
 /*
  * ---- The tuner's calls with steps ----
@@ -311,8 +341,8 @@ pasetone_reply pasetone_driver_new(uint64_t board, uint64_t nominal, int32_t ppm
  * Sends the chip's initial bytes, each chunk's into the shadow as it is tried, then sets it up by way of that shadow; what the shadow had before plays no
  * part. IF, gain, lock and notch stay. Outcomes 19, room 312. Value 0. Refuses 1, 8, 9, 11.
  */
-pasetone_reply pasetone_initialize(const uint8_t *tuner, size_t tuner_len, const uint8_t *outcomes, size_t outcomes_len, uint8_t *room,
-                                   size_t room_len, uint8_t *next, size_t next_len);
+pasetone_reply pasetone_initialize(const uint8_t *tuner, size_t tuner_len, const uint8_t *outcomes, size_t outcomes_len,
+                                   uint8_t *PASETONE_RESTRICT room, size_t room_len, uint8_t *PASETONE_RESTRICT next, size_t next_len);
 
 /*
  * Tunes to `hz`: the mux, then the PLL at hz + IF. That the PLL did not lock is no refusal: the reply's `locked` and `tries` tell it. The record's
@@ -320,8 +350,8 @@ pasetone_reply pasetone_initialize(const uint8_t *tuner, size_t tuner_len, const
  * the PLL, when the mux's steps are taken and stand (13 entries).
  */
 pasetone_tune_reply pasetone_set_frequency(const uint8_t *tuner, size_t tuner_len, uint64_t hz, const uint8_t *outcomes,
-                                           size_t outcomes_len, const uint8_t *replies, size_t replies_len, uint8_t *room,
-                                           size_t room_len, uint8_t *next, size_t next_len);
+                                           size_t outcomes_len, const uint8_t *replies, size_t replies_len, uint8_t *PASETONE_RESTRICT room,
+                                           size_t room_len, uint8_t *PASETONE_RESTRICT next, size_t next_len);
 
 /*
  * The gain step for `db`. First db * 10 (one binary32 product; a NaN is 0) is cut toward zero to whole tenths of a dB, then the step nearest to
@@ -330,33 +360,34 @@ pasetone_tune_reply pasetone_set_frequency(const uint8_t *tuner, size_t tuner_le
  * bits of a binary32. Refuses 1, 8, 9, 11.
  */
 pasetone_reply pasetone_set_gain(const uint8_t *tuner, size_t tuner_len, float db, const uint8_t *outcomes, size_t outcomes_len,
-                                 uint8_t *room, size_t room_len, uint8_t *next, size_t next_len);
+                                 uint8_t *PASETONE_RESTRICT room, size_t room_len, uint8_t *PASETONE_RESTRICT next, size_t next_len);
 
 /* As `set_gain`, by the step's index; above 28 it is 28. Outcomes 7, room 120. Value: the gain set, as 32 bits. Refuses 1, 8, 9, 11. */
 pasetone_reply pasetone_set_gain_by_index(const uint8_t *tuner, size_t tuner_len, uint64_t index, const uint8_t *outcomes,
-                                          size_t outcomes_len, uint8_t *room, size_t room_len, uint8_t *next, size_t next_len);
+                                          size_t outcomes_len, uint8_t *PASETONE_RESTRICT room, size_t room_len,
+                                          uint8_t *PASETONE_RESTRICT next, size_t next_len);
 
 /* The IF filter: to 6 MHz, to 7 MHz, above; the record keeps no bandwidth. Outcomes 3, room 56. Value 0. Refuses 1, 8, 9, 11. */
 pasetone_reply pasetone_set_bandwidth(const uint8_t *tuner, size_t tuner_len, uint32_t hz, const uint8_t *outcomes, size_t outcomes_len,
-                                      uint8_t *room, size_t room_len, uint8_t *next, size_t next_len);
+                                      uint8_t *PASETONE_RESTRICT room, size_t room_len, uint8_t *PASETONE_RESTRICT next, size_t next_len);
 
 /* The IF that tunings go by. The record's IF changes before the steps, so also with 11. Outcomes 4, room 72. Value 0. Refuses 1, 8, 9, 11. */
 pasetone_reply pasetone_set_if_freq(const uint8_t *tuner, size_t tuner_len, uint64_t hz, const uint8_t *outcomes, size_t outcomes_len,
-                                    uint8_t *room, size_t room_len, uint8_t *next, size_t next_len);
+                                    uint8_t *PASETONE_RESTRICT room, size_t room_len, uint8_t *PASETONE_RESTRICT next, size_t next_len);
 
 /*
  * The chip's input: path 0 HF, 1 VHF, 2 UHF. Outcomes 4, room 72. Value 0. Refuses 1 (also a path above 2), 8, 9, 11. An R820T has one input:
  * done with no entry and no section, outcomes and room are not looked at and may be empty, and `next` is the given record.
  */
 pasetone_reply pasetone_set_input_path(const uint8_t *tuner, size_t tuner_len, uint64_t path, const uint8_t *outcomes, size_t outcomes_len,
-                                       uint8_t *room, size_t room_len, uint8_t *next, size_t next_len);
+                                       uint8_t *PASETONE_RESTRICT room, size_t room_len, uint8_t *PASETONE_RESTRICT next, size_t next_len);
 
 /*
  * Sends the shadow again, every register of it. All done, no register is doubtful and the chip holds the shadow: the way back after refusal 11. The
  * shadow stays, also with 11. Outcomes 9, room 152. Value 0. Refuses 1, 8, 9, 11.
  */
-pasetone_reply pasetone_reload(const uint8_t *tuner, size_t tuner_len, const uint8_t *outcomes, size_t outcomes_len, uint8_t *room,
-                               size_t room_len, uint8_t *next, size_t next_len);
+pasetone_reply pasetone_reload(const uint8_t *tuner, size_t tuner_len, const uint8_t *outcomes, size_t outcomes_len,
+                               uint8_t *PASETONE_RESTRICT room, size_t room_len, uint8_t *PASETONE_RESTRICT next, size_t next_len);
 
 /* ---- The tuner's calls without steps ---- */
 
@@ -367,10 +398,10 @@ pasetone_reply pasetone_get_gain(const uint8_t *tuner, size_t tuner_len);
 pasetone_reply pasetone_get_if_freq(const uint8_t *tuner, size_t tuner_len);
 
 /* The 29 gain steps in tenths of a dB, i32 each, into `out` (116 bytes). Value 0. Refuses 1, 8. */
-pasetone_reply pasetone_get_gain_table(const uint8_t *tuner, size_t tuner_len, uint8_t *out, size_t out_len);
+pasetone_reply pasetone_get_gain_table(const uint8_t *tuner, size_t tuner_len, uint8_t *PASETONE_RESTRICT out, size_t out_len);
 
 /* The notch, for the next tuning: 0 off, else on. CHANGES the given record where it lies, in its byte at 50. Value 0. Refuses 1. */
-pasetone_reply pasetone_apply_notch(uint8_t *tuner, size_t tuner_len, uint8_t on);
+pasetone_reply pasetone_apply_notch(uint8_t *PASETONE_RESTRICT tuner, size_t tuner_len, uint8_t on);
 
 /* ---- The driver's calls. `driver` is a record of 29 bytes and stays as it is, but in `set_ppm`. ---- */
 
@@ -384,7 +415,8 @@ pasetone_reply pasetone_corrected_xtal_hz(const uint8_t *driver, size_t driver_l
  * the old correction until a rate is set again. Before 5.0.0 there were two calls, and a host that made only one of them had two references. Value 0.
  * Refuses 1 (either record), 4 (either reference).
  */
-pasetone_reply pasetone_set_ppm(uint8_t *tuner, size_t tuner_len, uint8_t *driver, size_t driver_len, int32_t ppm);
+pasetone_reply pasetone_set_ppm(uint8_t *PASETONE_RESTRICT tuner, size_t tuner_len, uint8_t *PASETONE_RESTRICT driver, size_t driver_len,
+                                int32_t ppm);
 
 /*
  * The sample rate: IF and filter of the tuner, reset, rate and IF of the demodulator, spectrum by the table's plan for the driver's frequency: inverted
@@ -395,9 +427,9 @@ pasetone_reply pasetone_set_ppm(uint8_t *tuner, size_t tuner_len, uint8_t *drive
  * 28,800,000 Hz the rates from 225,001 to 300,000 and from 900,001 up are taken), 8, 9, 11.
  */
 pasetone_reply pasetone_set_sample_rate(const uint8_t *driver, size_t driver_len, const uint8_t *tuner, size_t tuner_len,
-                                        const uint8_t *table, size_t table_len, uint32_t rate, const uint8_t *outcomes,
-                                        size_t outcomes_len, uint8_t *room, size_t room_len, uint8_t *next_driver,
-                                        size_t next_driver_len, uint8_t *next_tuner, size_t next_tuner_len);
+                                        const uint8_t *table, size_t table_len, uint32_t rate, const uint8_t *outcomes, size_t outcomes_len,
+                                        uint8_t *PASETONE_RESTRICT room, size_t room_len, uint8_t *PASETONE_RESTRICT next_driver,
+                                        size_t next_driver_len, uint8_t *PASETONE_RESTRICT next_tuner, size_t next_tuner_len);
 
 /*
  * Tunes a board to `hz` by the table's plan: the notch, the board's input (as `apply_input_path`; only on an R828D, and only where the band has a path), the
@@ -409,60 +441,61 @@ pasetone_reply pasetone_set_sample_rate(const uint8_t *driver, size_t driver_len
  * also in the PLL, when the steps before it are taken and stand and the demodulator's byte is not sent (13 entries, or 23).
  */
 pasetone_tune_reply pasetone_tune_board(const uint8_t *driver, size_t driver_len, const uint8_t *tuner, size_t tuner_len,
-                                        const uint8_t *table, size_t table_len, uint64_t hz, const uint8_t *outcomes,
-                                        size_t outcomes_len, const uint8_t *replies, size_t replies_len, uint8_t *room, size_t room_len,
-                                        uint8_t *next_driver, size_t next_driver_len, uint8_t *next_tuner, size_t next_tuner_len);
+                                        const uint8_t *table, size_t table_len, uint64_t hz, const uint8_t *outcomes, size_t outcomes_len,
+                                        const uint8_t *replies, size_t replies_len, uint8_t *PASETONE_RESTRICT room, size_t room_len,
+                                        uint8_t *PASETONE_RESTRICT next_driver, size_t next_driver_len,
+                                        uint8_t *PASETONE_RESTRICT next_tuner, size_t next_tuner_len);
 
 /*
  * The board's input: GPIO 5, then the tuner's own path. Outcomes 10, replies 3, room 168, on an R820T too, which makes six entries.
  * `next`: 78 bytes. Value 0. Refuses 1 (also a path above 2), 8, 9, 10, 11.
  */
 pasetone_reply pasetone_apply_input_path(const uint8_t *tuner, size_t tuner_len, uint64_t path, const uint8_t *outcomes,
-                                         size_t outcomes_len, const uint8_t *replies, size_t replies_len, uint8_t *room, size_t room_len,
-                                         uint8_t *next, size_t next_len);
+                                         size_t outcomes_len, const uint8_t *replies, size_t replies_len, uint8_t *PASETONE_RESTRICT room,
+                                         size_t room_len, uint8_t *PASETONE_RESTRICT next, size_t next_len);
 
 /* ---- Demodulator and GPIO: no record; the room alone is written. Value 0. ---- */
 
 /* Powers the demodulator and sets it up. Outcomes 45, room 728. Refuses 8, 9, 11. */
-pasetone_reply pasetone_init_baseband(const uint8_t *outcomes, size_t outcomes_len, uint8_t *room, size_t room_len);
+pasetone_reply pasetone_init_baseband(const uint8_t *outcomes, size_t outcomes_len, uint8_t *PASETONE_RESTRICT room, size_t room_len);
 
 /* The same as `init_baseband`. Outcomes 45, room 728. Refuses 8, 9, 11. */
-pasetone_reply pasetone_power_on(const uint8_t *outcomes, size_t outcomes_len, uint8_t *room, size_t room_len);
+pasetone_reply pasetone_power_on(const uint8_t *outcomes, size_t outcomes_len, uint8_t *PASETONE_RESTRICT room, size_t room_len);
 
 /* Soft reset, on and off. Outcomes 2, room 40. Refuses 8, 9, 11. */
-pasetone_reply pasetone_reset_demod(const uint8_t *outcomes, size_t outcomes_len, uint8_t *room, size_t room_len);
+pasetone_reply pasetone_reset_demod(const uint8_t *outcomes, size_t outcomes_len, uint8_t *PASETONE_RESTRICT room, size_t room_len);
 
 /* For a tuner with an IF. Outcomes 2, room 40. Refuses 8, 9, 11. */
-pasetone_reply pasetone_set_tuner_low_if(const uint8_t *outcomes, size_t outcomes_len, uint8_t *room, size_t room_len);
+pasetone_reply pasetone_set_tuner_low_if(const uint8_t *outcomes, size_t outcomes_len, uint8_t *PASETONE_RESTRICT room, size_t room_len);
 
 /* For a tuner without one. Outcomes 2, room 40. Refuses 8, 9, 11. */
-pasetone_reply pasetone_set_tuner_zero_if(const uint8_t *outcomes, size_t outcomes_len, uint8_t *room, size_t room_len);
+pasetone_reply pasetone_set_tuner_zero_if(const uint8_t *outcomes, size_t outcomes_len, uint8_t *PASETONE_RESTRICT room, size_t room_len);
 
 /* The endpoint: stalled and cleared, so that samples come. Outcomes 2, room 40. Refuses 8, 9, 11. */
-pasetone_reply pasetone_start_streaming(const uint8_t *outcomes, size_t outcomes_len, uint8_t *room, size_t room_len);
+pasetone_reply pasetone_start_streaming(const uint8_t *outcomes, size_t outcomes_len, uint8_t *PASETONE_RESTRICT room, size_t room_len);
 
 /* The endpoint stalled, the demodulator's power off. Outcomes 2, room 40. Refuses 8, 9, 11. */
-pasetone_reply pasetone_stop_streaming(const uint8_t *outcomes, size_t outcomes_len, uint8_t *room, size_t room_len);
+pasetone_reply pasetone_stop_streaming(const uint8_t *outcomes, size_t outcomes_len, uint8_t *PASETONE_RESTRICT room, size_t room_len);
 
 /* One byte into a register of the demodulator, any page and address. Outcomes 1, room 24. Refuses 8, 9, 11. */
 pasetone_reply pasetone_write_reg_direct(uint8_t page, uint16_t address, uint8_t value, const uint8_t *outcomes, size_t outcomes_len,
-                                         uint8_t *room, size_t room_len);
+                                         uint8_t *PASETONE_RESTRICT room, size_t room_len);
 
 /* The demodulator's IF at a reference of `xtal` Hz. Outcomes 3, room 56. Refuses 4 (xtal 0), 8, 9, 11. */
-pasetone_reply pasetone_set_if_freq_xtal(uint32_t hz, uint32_t xtal, const uint8_t *outcomes, size_t outcomes_len, uint8_t *room,
-                                         size_t room_len);
+pasetone_reply pasetone_set_if_freq_xtal(uint32_t hz, uint32_t xtal, const uint8_t *outcomes, size_t outcomes_len,
+                                         uint8_t *PASETONE_RESTRICT room, size_t room_len);
 
 /* The resampler's rate at a reference of `xtal` Hz. Outcomes 4, room 72. Refuses 3, 4 (xtal 0), 13, 8, 9, 11. */
-pasetone_reply pasetone_set_sample_rate_xtal(uint32_t rate, uint32_t xtal, const uint8_t *outcomes, size_t outcomes_len, uint8_t *room,
-                                             size_t room_len);
+pasetone_reply pasetone_set_sample_rate_xtal(uint32_t rate, uint32_t xtal, const uint8_t *outcomes, size_t outcomes_len,
+                                             uint8_t *PASETONE_RESTRICT room, size_t room_len);
 
 /* Makes a GPIO (0..7) an output. Outcomes 4, replies 2, room 72. Refuses 6, 8, 9, 10, 11. */
 pasetone_reply pasetone_set_gpio_output(uint8_t gpio, const uint8_t *outcomes, size_t outcomes_len, const uint8_t *replies,
-                                        size_t replies_len, uint8_t *room, size_t room_len);
+                                        size_t replies_len, uint8_t *PASETONE_RESTRICT room, size_t room_len);
 
 /* Sets a GPIO's level: 0 low, else high. Outcomes 2, replies 1, room 40. Refuses 6, 8, 9, 10, 11. */
 pasetone_reply pasetone_set_gpio_bit(uint8_t gpio, uint8_t value, const uint8_t *outcomes, size_t outcomes_len, const uint8_t *replies,
-                                     size_t replies_len, uint8_t *room, size_t room_len);
+                                     size_t replies_len, uint8_t *PASETONE_RESTRICT room, size_t room_len);
 
 /* ---- Numbers and bytes: no record and no steps ---- */
 
@@ -470,7 +503,7 @@ pasetone_reply pasetone_set_gpio_bit(uint8_t gpio, uint8_t value, const uint8_t 
  * How a board (0 generic, 1 V4) is to be tuned to `hz`. `out`, 3 bytes: 1 if the spectrum is inverted; the path, or 3 for none; 1 if hz lies in
  * a notch. Value: the Hz for the tuner. Refuses 1, 8.
  */
-pasetone_reply pasetone_plan_tuning(uint64_t board, uint64_t hz, uint8_t *out, size_t out_len);
+pasetone_reply pasetone_plan_tuning(uint64_t board, uint64_t hz, uint8_t *PASETONE_RESTRICT out, size_t out_len);
 
 /*
  * A board from a table: up to 16 bands, end to end in 27 bytes each. Numbers stand low byte first. A table is well formed if its length is a multiple of 27 up
@@ -490,13 +523,13 @@ pasetone_reply pasetone_plan_tuning(uint64_t board, uint64_t hz, uint8_t *out, s
  * The table of a built-in board (0 generic, 1 V4), at the start of `out` (27 or 216 bytes); bytes past it stay. By it the plan is that of `plan_tuning` at
  * every hz. Value: how many bytes were written. Refuses 1, 8.
  */
-pasetone_reply pasetone_board_table(uint64_t board, uint8_t *out, size_t out_len);
+pasetone_reply pasetone_board_table(uint64_t board, uint8_t *PASETONE_RESTRICT out, size_t out_len);
 
 /*
  * How the board of a table is to be tuned to `hz`: by the one band that holds it. `out`, 3 bytes, and value as in `plan_tuning`; the value may be 0.
  * Refuses 19 (not well formed), 2 (in no band, or shifted below 0 or past 64 bits), 8.
  */
-pasetone_reply pasetone_plan_by_table(const uint8_t *table, size_t table_len, uint64_t hz, uint8_t *out, size_t out_len);
+pasetone_reply pasetone_plan_by_table(const uint8_t *table, size_t table_len, uint64_t hz, uint8_t *PASETONE_RESTRICT out, size_t out_len);
 
 /*
  * The PLL's numbers for an oscillator at `lo` Hz (hz + IF of a tuning) and a reference in Hz, as a tuning of that kind sends them. `out`, 5 bytes:
@@ -504,31 +537,31 @@ pasetone_reply pasetone_plan_by_table(const uint8_t *table, size_t table_len, ui
  * Value: the rest, what the sum leaves of the fraction, in thousands of Hz. Refuses 1 (kind), 4 (reference 0), 2 (no divider, N below 13, N above 63
  * on an R820T or above 127 on an R828D), 8.
  */
-pasetone_reply pasetone_plan_pll(uint64_t kind, uint64_t lo, uint32_t reference, uint8_t *out, size_t out_len);
+pasetone_reply pasetone_plan_pll(uint64_t kind, uint64_t lo, uint32_t reference, uint8_t *PASETONE_RESTRICT out, size_t out_len);
 
 /*
  * The same answer for every input, worked out by the technicians' worksheet: a table of six ranges of lo and one of the sixteen steps of the sum. For
  * checks by hand; tunings go by `plan_pll`. `out`: 5 bytes. Refuses 1, 4, 2, 8.
  */
-pasetone_reply pasetone_plan_pll_by_worksheet(uint64_t kind, uint64_t lo, uint32_t reference, uint8_t *out, size_t out_len);
+pasetone_reply pasetone_plan_pll_by_worksheet(uint64_t kind, uint64_t lo, uint32_t reference, uint8_t *PASETONE_RESTRICT out, size_t out_len);
 
 /* hz * 2^22 / xtal, kept to 22 bits, high byte first (`set_if_freq_xtal` sends it negated). `out`: 3 bytes. Value 0. Refuses 4 (xtal 0), 8. */
-pasetone_reply pasetone_if_freq_regs(uint32_t hz, uint32_t xtal, uint8_t *out, size_t out_len);
+pasetone_reply pasetone_if_freq_regs(uint32_t hz, uint32_t xtal, uint8_t *PASETONE_RESTRICT out, size_t out_len);
 
 /*
  * xtal * 2^22 / rate, kept to 30 bits, high byte first (`set_sample_rate_xtal` sends fewer), also where that call refuses 13. `out`: 4 bytes. Value 0.
  * Refuses 3, 4, 8.
  */
-pasetone_reply pasetone_resample_regs(uint32_t rate, uint32_t xtal, uint8_t *out, size_t out_len);
+pasetone_reply pasetone_resample_regs(uint32_t rate, uint32_t xtal, uint8_t *PASETONE_RESTRICT out, size_t out_len);
 
 /*
  * FIR coefficients. `values`: sixteen i32 (64 bytes), the first eight of 8 bits (-128..127), the others of 12 (-2048..2047). `out`: 20 bytes.
  * Value 0. Refuses 7 (a value, or not 64 bytes), 8.
  */
-pasetone_reply pasetone_pack_fir(const uint8_t *values, size_t values_len, uint8_t *out, size_t out_len);
+pasetone_reply pasetone_pack_fir(const uint8_t *values, size_t values_len, uint8_t *PASETONE_RESTRICT out, size_t out_len);
 
 /* The inverse: 20 bytes into sixteen i32 (64 bytes). Value 0. Refuses 7 (not 20 bytes), 8. */
-pasetone_reply pasetone_unpack_fir(const uint8_t *bytes, size_t bytes_len, uint8_t *out, size_t out_len);
+pasetone_reply pasetone_unpack_fir(const uint8_t *bytes, size_t bytes_len, uint8_t *PASETONE_RESTRICT out, size_t out_len);
 
 /*
  * The section in which `bytes` end; what stands before it is not looked at. Accepts exactly what the tables above allow, up to 4,096 entries
@@ -557,7 +590,7 @@ pasetone_settings_1 pasetone_read_settings_1(const uint8_t *bytes, size_t bytes_
  * that is read is the one that its record is written to. Value: how many bytes were written, 23. Refuses 17 (kind, board, gain index), 8.
  */
 pasetone_reply pasetone_write_settings_1(uint64_t kind, uint64_t board, int32_t correction, uint32_t rate, uint64_t frequency, uint64_t gain,
-                                         uint8_t *out, size_t out_len);
+                                         uint8_t *PASETONE_RESTRICT out, size_t out_len);
 
 /*
  * The settings of edition 2 in which `bytes` end, or those of edition 1, with the IF that edition 1 stands for, 2,300,000. Else as
@@ -567,19 +600,19 @@ pasetone_settings_2 pasetone_read_settings_2(const uint8_t *bytes, size_t bytes_
 
 /* The image of edition 2, at the start of `out` (27 bytes); bytes past it stay. Value: how many bytes were written, 27. Refuses 17, 8. */
 pasetone_reply pasetone_write_settings_2(uint64_t kind, uint64_t board, int32_t correction, uint32_t rate, uint64_t frequency, uint64_t gain,
-                                         uint32_t intermediate, uint8_t *out, size_t out_len);
+                                         uint32_t intermediate, uint8_t *PASETONE_RESTRICT out, size_t out_len);
 
 /*
  * The settings of edition 1 in which `bytes` end as an image of edition 2 with the IF 2,300,000: the image alone, at the start of `out` (27 bytes).
  * Value: 27. Refuses 16 (also edition 2), 17, 8; then `out` is as it was.
  */
-pasetone_reply pasetone_move_settings_1_to_2(const uint8_t *bytes, size_t bytes_len, uint8_t *out, size_t out_len);
+pasetone_reply pasetone_move_settings_1_to_2(const uint8_t *bytes, size_t bytes_len, uint8_t *PASETONE_RESTRICT out, size_t out_len);
 
 /*
  * The settings of edition 2 in which `bytes` end as an image of edition 1 (23 bytes), if their IF is 2,300,000. There and back gives the same bytes. Value:
  * 23. Refuses 16 (also edition 1), 17, 18 (another IF), 8; then `out` is as it was.
  */
-pasetone_reply pasetone_move_settings_2_to_1(const uint8_t *bytes, size_t bytes_len, uint8_t *out, size_t out_len);
+pasetone_reply pasetone_move_settings_2_to_1(const uint8_t *bytes, size_t bytes_len, uint8_t *PASETONE_RESTRICT out, size_t out_len);
 
 /* ---- Setup packets of USB 2.0 ---- */
 
@@ -596,7 +629,7 @@ pasetone_reply pasetone_move_settings_2_to_1(const uint8_t *bytes, size_t bytes_
  * at the start of `out`, which are asked for exactly; the others stay. Refuses 12, 15 (a demod register above 0xff, a page above 15, block 0 or 6, whatever the
  * outcome), 8.
  */
-pasetone_reply pasetone_expand(const uint8_t *section, size_t section_len, uint8_t *out, size_t out_len);
+pasetone_reply pasetone_expand(const uint8_t *section, size_t section_len, uint8_t *PASETONE_RESTRICT out, size_t out_len);
 
 /*
  * The other way: the section of the entries whose packets these are, all of them. It has no waits, outcomes and read data, and a repeater entry is the demod
@@ -604,7 +637,7 @@ pasetone_reply pasetone_expand(const uint8_t *section, size_t section_len, uint8
  * written at the start of `out`, 16 for each entry and 8. Refuses 15 (bytes that no section expands to: a stray read of page 0x0a, a cut packet, more than
  * 4,096 entries), 8.
  */
-pasetone_reply pasetone_read_packets(const uint8_t *packets, size_t packets_len, uint8_t *out, size_t out_len);
+pasetone_reply pasetone_read_packets(const uint8_t *packets, size_t packets_len, uint8_t *PASETONE_RESTRICT out, size_t out_len);
 
 /* ---- Restore lists ---- */
 
@@ -620,7 +653,7 @@ pasetone_reply pasetone_read_packets(const uint8_t *packets, size_t packets_len,
  * section of no entries. Value: how many bytes were written at the start of `out`, 16 for each write and 8, which are asked for exactly; the others stay.
  * Refuses 12 (any section, or bytes before them that are none), 8.
  */
-pasetone_reply pasetone_restore(const uint8_t *sections, size_t sections_len, uint8_t address, uint8_t *out, size_t out_len);
+pasetone_reply pasetone_restore(const uint8_t *sections, size_t sections_len, uint8_t address, uint8_t *PASETONE_RESTRICT out, size_t out_len);
 
 /*
  * ---- Commands fed as they arrive ----
@@ -669,9 +702,10 @@ pasetone_reply pasetone_restore(const uint8_t *sections, size_t sections_len, ui
  * command is answered and gone, with its nine bytes. The table is looked at by operation 2 alone. Refuses 1 (stream bytes that are none: then nothing is used
  * and nothing changes; behind 14, either record, for every operation), 14, 19 (operation 2), 2, 3, 4, 13, 8, 9, 10, 11 (each as the call does).
  */
-pasetone_feed_reply pasetone_feed(uint8_t *stream, size_t stream_len, uint8_t *driver, size_t driver_len, uint8_t *tuner, size_t tuner_len,
-                                  const uint8_t *table, size_t table_len, const uint8_t *chunk, size_t chunk_len, const uint8_t *outcomes,
-                                  size_t outcomes_len, const uint8_t *replies, size_t replies_len, uint8_t *room, size_t room_len);
+pasetone_feed_reply pasetone_feed(uint8_t *PASETONE_RESTRICT stream, size_t stream_len, uint8_t *PASETONE_RESTRICT driver,
+                                  size_t driver_len, uint8_t *PASETONE_RESTRICT tuner, size_t tuner_len, const uint8_t *table,
+                                  size_t table_len, const uint8_t *chunk, size_t chunk_len, const uint8_t *outcomes, size_t outcomes_len,
+                                  const uint8_t *replies, size_t replies_len, uint8_t *PASETONE_RESTRICT room, size_t room_len);
 
 /* Value: how many bytes of a command are pending, 0 to 8; at the end of a stream, the length of the one that is not whole. Refuses 1 (bytes that are none). */
 pasetone_reply pasetone_stream_pending(const uint8_t *stream, size_t stream_len);

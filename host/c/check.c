@@ -88,7 +88,7 @@ static void looked(const char *what, pasetone_tune_reply reply, uint32_t tries, 
 static void check_making(void)
 {
     uint8_t old[105] = {0};
-    same("version", pasetone_version(), 0x00060100);
+    same("version", pasetone_version(), PASETONE_VERSION);
     done("fresh tuner", pasetone_tuner_new(PASETONE_R828D, 0x74, 28800000, TUNER), 0, 0);
     same("fresh kind", tuner[PASETONE_TUNER_KIND], PASETONE_R828D);
     same("fresh address", tuner[PASETONE_TUNER_ADDRESS], 0x74);
@@ -562,6 +562,7 @@ static void check_settings_1(void)
 static void check_settings_2(void)
 {
     static const uint8_t last[] = {0x60, 0x18, 0x23, 0, 2, 0, 23, 0};
+    static const uint8_t other[] = {0x90, 0xbb, 0x45, 0, 2, 0, 23, 0};
     uint8_t one[PASETONE_SETTINGS_1_SIZE], two[PASETONE_SETTINGS_2_SIZE], back[PASETONE_SETTINGS_1_SIZE];
     pasetone_settings_2 read;
     done("edition 1", pasetone_write_settings_1(PASETONE_R820T, PASETONE_V4, -3, 2048000, 100000000, 28, one, sizeof one), 23, 0);
@@ -575,9 +576,11 @@ static void check_settings_2(void)
     same("the new reader and edition 1", read.refusal, 0);
     same("its IF", read.intermediate, 2300000);
     done("another IF", pasetone_write_settings_2(PASETONE_R820T, PASETONE_V4, -3, 2048000, 100000000, 28, 4570000, two, sizeof two), 27, 0);
+    same_bytes("its fields", two, one, 19);
+    same_bytes("IF 4,570,000 and the trailer", two + 19, other, sizeof other);
     same("read", pasetone_read_settings_2(two, sizeof two).intermediate, 4570000);
     refused("it", pasetone_move_settings_2_to_1(two, sizeof two, back, 0), PASETONE_NOT_EXPRESSIBLE);
-    refused("edition 2", pasetone_move_settings_1_to_2(two, sizeof two, two, 0), PASETONE_EDITION);
+    refused("edition 2", pasetone_move_settings_1_to_2(two, sizeof two, back, 0), PASETONE_EDITION);
     refused("edition 1", pasetone_move_settings_2_to_1(one, sizeof one, back, 0), PASETONE_EDITION);
     refused("26 bytes", pasetone_move_settings_1_to_2(one, sizeof one, two, 26), PASETONE_ROOM);
     same_bytes("as it was", back, one, sizeof one);

@@ -8,11 +8,6 @@
 
 #include "pasetone.h"
 
-static const char *const words[] = {
-    "done", "setup", "frequency", "rate", "correction", "register", "pin", "coefficient", "room", "outcomes", "replies",
-    "step", "section", "ratio", "command", "expansion", "edition", "settings", "not expressible", "table",
-};
-
 /* All that a receiver is on the host's side: two records, and the table of its board, which they do not name. */
 struct receiver {
     uint8_t tuner[PASETONE_TUNER_SIZE];
@@ -45,9 +40,9 @@ static void print_refusal(uint32_t refusal, uint64_t index)
     if (refusal == PASETONE_DONE) {
         printf("done");
     } else if (refusal == PASETONE_STEP) {
-        printf("refusal %u (%s) at entry %llu", (unsigned)refusal, words[refusal], (unsigned long long)index);
+        printf("refusal %u (%s) at entry %llu", (unsigned)refusal, pasetone_refusal_word(refusal), (unsigned long long)index);
     } else {
-        printf("refusal %u (%s)", (unsigned)refusal, words[refusal]);
+        printf("refusal %u (%s)", (unsigned)refusal, pasetone_refusal_word(refusal));
     }
 }
 

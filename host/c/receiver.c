@@ -8,10 +8,6 @@
 
 #include "pasetone.h"
 
-static const char *const refusal_words[] = {
-    "done", "setup", "frequency", "rate", "correction", "register", "pin", "coefficient", "room", "outcomes", "replies", "step", "section",
-};
-
 /* All that a receiver is on the host's side. A call reads the record and writes the next one: never into the same bytes. */
 struct receiver {
     uint8_t tuner[PASETONE_TUNER_SIZE];
@@ -27,9 +23,9 @@ static void print_answer(const char *what, uint32_t refusal, uint64_t index, uin
 {
     printf("%s: ", what);
     if (refusal == PASETONE_STEP) {
-        printf("refusal %u (%s) at entry %llu", (unsigned)refusal, refusal_words[refusal], (unsigned long long)index);
+        printf("refusal %u (%s) at entry %llu", (unsigned)refusal, pasetone_refusal_word(refusal), (unsigned long long)index);
     } else if (refusal != PASETONE_DONE) {
-        printf("refusal %u (%s)", (unsigned)refusal, refusal_words[refusal]);
+        printf("refusal %u (%s)", (unsigned)refusal, pasetone_refusal_word(refusal));
     } else {
         printf("done");
     }

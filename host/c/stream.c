@@ -28,12 +28,11 @@ static unsigned number;
 
 static void print_answer(uint8_t operation, pasetone_feed_reply reply)
 {
-    static const char *const words[] = {"", "setup", "frequency", "rate", "correction", "", "", "", "room", "outcomes", "replies", "step", "", "ratio", "command"};
     printf("command %u, operation %u: ", number, (unsigned)operation);
     if (reply.refusal == PASETONE_DONE) {
         printf("done");
     } else {
-        printf("refusal %u (%s)", (unsigned)reply.refusal, words[reply.refusal]);
+        printf("refusal %u (%s)", (unsigned)reply.refusal, pasetone_refusal_word(reply.refusal));
     }
     if (reply.refusal == PASETONE_STEP) {
         printf(" at entry %llu", (unsigned long long)reply.index);
