@@ -16,8 +16,12 @@ use live::sabotage::{SPOILS, spoiled};
 use live::{document, ffi, numbers, port, raw, rules};
 use std::collections::BTreeMap;
 
-/// The version that the boundary is written against: 6.1.0.
-const VERSION: u32 = 0x0006_0100;
+/// The version of the boundary: `PASETONE_VERSION` of the header.
+fn version_of_header() -> Option<u32> {
+    let header = include_str!("../../../../include/pasetone.h");
+    let line = header.lines().find_map(|line| line.strip_prefix("#define PASETONE_VERSION 0x"))?;
+    u32::from_str_radix(line.split(' ').next()?, 16).ok()
+}
 
 fn class(given: &Given, wanted: &Answer, tally: &mut Tally) -> Class {
     // The original has no board tune of this order: its parts answered (hops.rs), and the rest is document 02's alone.
@@ -73,7 +77,7 @@ fn run(cases: u64, seed: u64) -> ! {
     let (mut tally, mut cover) = (Tally::default(), Cover::default());
     println!("differential: {cases} cases, seed {seed}, overflow {}", if rules::PANICS { "panics" } else { "wraps" });
     let version = unsafe { ffi::pasetone_version() };
-    tally.that(version == VERSION, || format!("version {version:#x}, must be {VERSION:#x}"));
+    tally.that(Some(version) == version_of_header(), || format!("version {version:#x}, the header has {:#x?}", version_of_header()));
     let (mut left, mut sessions) = (cases, 0);
     while left > 0 {
         left -= session(sessions, seed, left, &mut tally, &mut cover);
