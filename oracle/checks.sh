@@ -29,6 +29,21 @@ passed() {
 build() {
     cargo build --offline --locked --quiet --target-dir target "$@" || fail "cargo build $*"
 }
+# tidy PACKAGE: its layout and lints, where cargo has them. The stand-ins and the original's text are not asked: they are as they were published, or no more than that needs.
+tidy() {
+    if cargo fmt --version > /dev/null 2>&1; then
+        cargo fmt --check --package "$1" || fail "cargo fmt --check, $1"
+        echo "PASS $1-fmt"
+    else
+        echo "not compared: rustfmt is not here"
+    fi
+    if cargo clippy --version > /dev/null 2>&1; then
+        cargo clippy --offline --locked --quiet --target-dir target --all-targets --no-deps --package "$1" -- -D warnings || fail "cargo clippy, $1"
+        echo "PASS $1-clippy"
+    else
+        echo "not compared: clippy is not here"
+    fi
+}
 # checked NAME PROGRAM ARGUMENTS: a program that counts its checks and exits 1 on a fault.
 checked() {
     local name=$1

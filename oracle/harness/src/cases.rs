@@ -1,8 +1,8 @@
 //! The cases of the stored list: boundaries (each threshold of the Rust at t-1, t, t+1), a failure at every step,
 //! refusals in their order, damaged records, and random ones. Inputs only; answer.rs answers them.
 
-mod correction;
 pub mod boards;
+mod correction;
 mod lists;
 mod refused;
 mod rest;
@@ -122,7 +122,7 @@ pub fn random_driver(dice: &mut Dice) -> Driver {
     let nominal = if dice.yes() { 28_800_000 } else { dice.within(1, u32::MAX as u64) as u32 };
     let ppm = dice.below(2001) as i32 - 1000;
     let ppm = if page::corrected(nominal, ppm).is_some() { ppm } else { 0 };
-    let (board, frequency, rate) = (dice.below(2) as u8, dice.below(60 * MHZ), dice.next() as u32);
+    let (board, frequency, rate) = (dice.below(2) as u8, dice.below(60 * MHZ), dice.throw() as u32);
     // Any true rate, without another throw of the dice, so that later cases stay what they are.
     let actual = (rate as u64 ^ frequency << 32).wrapping_mul(0x9e37_79b9_7f4a_7c15);
     Driver { board, nominal, ppm, frequency, rate, actual }
@@ -153,23 +153,25 @@ pub fn random(call: u8, dice: &mut Dice) -> Case {
             let lock = if dice.below(10) == 0 { None } else { Some(dice.below(10).min(dice.below(10)) as usize) };
             case.replies = replies_for(dice.below(4) as u8, lock, dice.byte());
         }
-        4 => case.a = if dice.below(4) == 0 { dice.next() as u32 as u64 } else { (dice.below(6000) as f32 / 100.0 - 5.0).to_bits() as u64 },
+        4 => {
+            case.a = if dice.below(4) == 0 { dice.throw() as u32 as u64 } else { (dice.below(6000) as f32 / 100.0 - 5.0).to_bits() as u64 }
+        }
         5 => case.a = if dice.below(8) == 0 { dice.spread() } else { dice.below(29) },
         6 => case.a = dice.below(9 * MHZ),
         7 => case.a = if dice.yes() { dice.below(7 * MHZ) } else { dice.spread() },
         8 | 20 => case.a = dice.below(3),
-        10 | 41 => case.d = if dice.below(4) == 0 { dice.next() as u32 } else { (dice.below(2001) as i32 - 1000) as u32 },
+        10 | 41 => case.d = if dice.below(4) == 0 { dice.throw() as u32 } else { (dice.below(2001) as i32 - 1000) as u32 },
         11 => case.a = dice.byte() as u64,
         16 => {
             let made = random_driver(dice);
             (case.a, case.b, case.c, case.d, case.e) = (made.nominal as u64, dice.spread(), made.board as u64, made.ppm as u32, made.rate);
         }
         19 => {
-            case.a = if dice.below(4) == 0 { dice.next() as u32 as u64 } else { dice.within(1, 8 * MHZ) };
+            case.a = if dice.below(4) == 0 { dice.throw() as u32 as u64 } else { dice.within(1, 8 * MHZ) };
             // The table of the record's own board, without another throw of the dice.
             case.input = built_in(case.driver[0] as u64);
         }
-        26 => (case.a, case.b, case.c) = (dice.byte() as u64, dice.next() as u16 as u64, dice.byte() as u64),
+        26 => (case.a, case.b, case.c) = (dice.byte() as u64, dice.throw() as u16 as u64, dice.byte() as u64),
         27 | 34 => (case.a, case.b) = (dice.spread() as u32 as u64, (dice.spread() as u32).max(1) as u64),
         28 | 35 => (case.a, case.b) = ((dice.spread() as u32).max(1) as u64, (dice.spread() as u32).max(1) as u64),
         31 | 32 => (case.a, case.b) = (dice.below(8), dice.below(3)),

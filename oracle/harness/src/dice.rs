@@ -3,7 +3,7 @@
 pub struct Dice(pub u64);
 
 impl Dice {
-    pub fn next(&mut self) -> u64 {
+    pub fn throw(&mut self) -> u64 {
         self.0 = self.0.wrapping_add(0x9e37_79b9_7f4a_7c15);
         let mut z = self.0;
         z = (z ^ (z >> 30)).wrapping_mul(0xbf58_476d_1ce4_e5b9);
@@ -12,17 +12,17 @@ impl Dice {
     }
     /// From 0 to `n` - 1; the small bias does not matter here.
     pub fn below(&mut self, n: u64) -> u64 {
-        self.next() % n
+        self.throw() % n
     }
     /// From `low` to `high`, both included.
     pub fn within(&mut self, low: u64, high: u64) -> u64 {
         low + self.below(high - low + 1)
     }
     pub fn byte(&mut self) -> u8 {
-        self.next() as u8
+        self.throw() as u8
     }
     pub fn yes(&mut self) -> bool {
-        self.next() & 1 == 1
+        self.throw() & 1 == 1
     }
     pub fn pick<T: Copy>(&mut self, from: &[T]) -> T {
         from[self.below(from.len() as u64) as usize]
@@ -33,6 +33,6 @@ impl Dice {
     /// A number of any size: its count of bits is drawn first.
     pub fn spread(&mut self) -> u64 {
         let bits = self.below(65);
-        if bits == 0 { 0 } else { self.next() >> (64 - bits) }
+        if bits == 0 { 0 } else { self.throw() >> (64 - bits) }
     }
 }

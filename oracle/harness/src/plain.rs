@@ -19,8 +19,11 @@ pub fn section(count: usize) -> Vec<u8> {
     page::section(&(0..count).map(|at| kinds[at % 9]).collect::<Vec<_>>())
 }
 
-/// An entry's setup packet, its data, and whether the read of page 0x0a follows. None for a wait; refused where packets would look alike.
-fn transfer(entry: &[u8; 16]) -> Result<Option<([u8; 8], [u8; 8], usize, bool)>, ()> {
+/// An entry's setup packet, its data and how many of them are sent, and whether the read of page 0x0a follows.
+type Transfer = ([u8; 8], [u8; 8], usize, bool);
+
+/// None for a wait; refused where packets would look alike.
+fn transfer(entry: &[u8; 16]) -> Result<Option<Transfer>, ()> {
     let [kind, outcome, target, n, low, high, ..] = *entry;
     let mut data: [u8; 8] = entry[8..].try_into().unwrap();
     let (kind, value, index) = match kind {

@@ -119,7 +119,7 @@ fn as_above_the_band(case: &Case) -> Answer {
 pub fn holds(rate: u32, xtal: u32) -> bool {
     let r = ((xtal as u64) << 22) / rate as u64;
     let bit = |n: u32| r >> n & 1 == 1;
-    r >= 4 && r < 1 << 29 && bit(27) == bit(28)
+    (4..1 << 29).contains(&r) && bit(27) == bit(28)
 }
 
 /// A rate that the resampler does not hold, in a call that gets as far as its ratio: "after 3 and after 4 for a zero reference, before 8", and after 1

@@ -60,7 +60,7 @@ const ROWS: [(u64, u8, u8, u8); 21] = [
 ];
 
 fn mux(line: &mut Line, hz: u64) {
-    let (_, open, rf, filter) = ROWS.into_iter().filter(|row| hz >= row.0 * 1_000_000).next_back().unwrap();
+    let (_, open, rf, filter) = ROWS.into_iter().rfind(|row| hz >= row.0 * 1_000_000).unwrap();
     let open = if line.tuner.notch { 0 } else { open };
     #[rustfmt::skip]
     let writes = [

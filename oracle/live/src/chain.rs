@@ -68,11 +68,11 @@ impl Host {
         // Both records were made on one nominal, and one call corrects both (#109): they never part.
         let reference = Driver::read(&self.receiver.driver).and_then(|driver| page::corrected(driver.nominal, driver.ppm));
         tally.that(reference == Some(record.corrected), || format!("the two references after {}", what()));
-        for place in 0..27 {
+        for (place, &initial) in SEEN_INIT.iter().enumerate() {
             let last = self.chip.last[place];
             let (mark, byte) = (record.doubtful[place], record.shadow[place]);
             tally.that(mark != last.is_some_and(|(_, done)| done), || format!("mark {place} after {}", what()));
-            let sent = last.map_or(SEEN_INIT[place], |(sent, _)| sent);
+            let sent = last.map_or(initial, |(sent, _)| sent);
             tally.that(byte == sent, || format!("shadow byte {place} is {byte:#x}, sent {sent:#x}, after {}", what()));
             tally.that(mark || byte == self.chip.bytes[place], || format!("chip's byte {place} after {}", what()));
         }

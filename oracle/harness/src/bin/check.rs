@@ -389,7 +389,7 @@ fn listed(tally: &mut Tally) {
 }
 
 fn main() {
-    let (mut tally, mut dice) = (Tally::default(), Dice(0x6368_6563_6b));
+    let (mut tally, mut dice) = (Tally::default(), Dice(0x63_6865_636b));
     let given = Driver { board: 1, nominal: 28_800_000, ppm: -3, frequency: 7, rate: 9, actual: 11 };
     tally.same(Driver::read(&given.bytes()), Some(given), || "a driver record reads back".into());
     for _ in 0..1000 {

@@ -43,7 +43,7 @@ fn gains(n: u64, dice: &mut Dice, tally: &mut Tally) -> u64 {
     for _ in 0..n {
         let tuner = cases::random_tuner(dice);
         let bits = match dice.below(4) {
-            0 => dice.next() as u32,
+            0 => dice.throw() as u32,
             1 => 0xcd4c_cccc_u32.wrapping_add(dice.below(64) as u32).wrapping_sub(32), // about the end of i32
             _ => (dice.within(0, 1200) as f32 / 20.0 - 5.0).to_bits().wrapping_add(dice.below(3) as u32),
         };
@@ -74,7 +74,7 @@ fn references(n: u64, dice: &mut Dice, tally: &mut Tally) -> u64 {
     let mut refused = 0;
     for _ in 0..n {
         let nominal = (dice.spread() as u32).max(1);
-        let ppm = if dice.yes() { dice.next() as i32 } else { dice.spread() as u32 as i32 >> dice.below(20) };
+        let ppm = if dice.yes() { dice.throw() as i32 } else { dice.spread() as u32 as i32 >> dice.below(20) };
         let tuner = Tuner::fresh(1, nominal, 0x74);
         let found = answer(&Case { d: ppm as u32, tuner: tuner.bytes(), ..plain(10) });
         let wanted = page::corrected(nominal, ppm);
@@ -126,7 +126,7 @@ fn intermediates(n: u64, dice: &mut Dice, tally: &mut Tally) {
 fn rates(n: u64, dice: &mut Dice, tally: &mut Tally) {
     for _ in 0..n {
         let (tuner, driver) = (cases::random_tuner(dice), cases::random_driver(dice));
-        let rate = if dice.below(8) == 0 { (dice.next() as u32).max(1) } else { dice.within(1, 8_000_000) as u32 };
+        let rate = if dice.below(8) == 0 { (dice.throw() as u32).max(1) } else { dice.within(1, 8_000_000) as u32 };
         let line = steps::sample_rate(&tuner, &driver, rate);
         let found = answer(&Case { a: rate as u64, tuner: tuner.bytes(), driver: driver.bytes(), ..plain(19) });
         let expected = (0, Some(page::section(&line.entries)), Some(line.tuner.bytes()), Some(Driver { rate, ..driver }.bytes()));

@@ -56,7 +56,7 @@ pub fn random_table(dice: &mut Dice) -> Vec<u8> {
     for _ in 0..count {
         let last = first + dice.below(250 * MHZ);
         let shift = match dice.below(6) {
-            0 => dice.next() as i64,
+            0 => dice.throw() as i64,
             1 => -(dice.below(first.max(1)) as i64),
             2 | 3 => 0,
             _ => dice.below(200 * MHZ) as i64,

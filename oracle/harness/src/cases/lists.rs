@@ -6,7 +6,7 @@ use crate::page;
 
 /// List 2: FIR, packed and unpacked.
 pub fn fir() -> Vec<Case> {
-    let mut dice = Dice(0x4649_52);
+    let mut dice = Dice(0x46_4952);
     let pack = |values: [i32; 16], room: usize| Case { input: values.iter().flat_map(|v| v.to_le_bytes()).collect(), room, ..plain(36) };
     let unpack = |bytes: Vec<u8>, room: usize| Case { input: bytes, room, ..plain(37) };
     let inside = |dice: &mut Dice| -> [i32; 16] {

@@ -96,7 +96,7 @@ fn measured(threads: usize, make: fn() -> Work) -> (f64, f64) {
 /// Two threads over two receivers against one, the best of several turns of each; the control beside it.
 fn threads() {
     let tune = || rows::rows().swap_remove(0).2;
-    let works: [(&str, fn() -> Work); 2] = [("tune without lock", tune), ("control, a loop of arithmetic", control)];
+    let works = [("tune without lock", tune as fn() -> Work), ("control, a loop of arithmetic", control)];
     println!("| work | per second, 1 thread | 2 threads | times | processor ns per call, 1 thread | 2 threads |");
     println!("|---|---|---|---|---|---|");
     for (name, make) in works {

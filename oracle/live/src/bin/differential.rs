@@ -92,7 +92,7 @@ fn run(cases: u64, seed: u64) -> ! {
 /// Every way of spoiling an answer, on many answers of all calls: found each time.
 fn self_test() -> ! {
     let (mut tally, mut found_by) = (Tally::default(), BTreeMap::new());
-    let mut dice = Dice(0x7370_6f69_6c);
+    let mut dice = Dice(0x73_706f_696c);
     let mut receiver = Receiver::fresh(&mut dice);
     for call in (0..40).flat_map(|_| draw::calls()) {
         let given = draw::draw(call, &receiver, &mut dice);
