@@ -31,7 +31,9 @@
  * the demodulator that is done (kinds 1, 4, 5) rtlsdr-next reads page 0x0a, register 0x01, and looks neither at the byte nor at a failure; that
  * read has no entry. host/README.md has the USB transfer of each kind.
  *
- * When a step fails the rest of the call is not taken, but an open repeater is closed. A closing that fails is recorded and else ignored.
+ * When a step fails the rest of the call is not taken, but an open repeater is closed. A closing that fails is recorded and else ignored. After it: `reload`,
+ * then the same call again until it is done. The records tell which bytes the tuner holds; that a call was cut, and what the demodulator holds, the host
+ * keeps in mind until then.
  *
  * Slices. A slice is two arguments: a pointer that is not null and a length; an empty slice is any such pointer and 0. Numbers in bytes stand
  * low byte first, but for the data of a transfer. The slices of one call must be disjoint: nothing checks that. Slices by `const` pointer are
@@ -346,7 +348,10 @@ pasetone_reply pasetone_initialize(const uint8_t *tuner, size_t tuner_len, const
 
 /*
  * Tunes to `hz`: the mux, then the PLL at hz + IF. That the PLL did not lock is no refusal: the reply's `locked` and `tries` tell it. The record's
- * lock changes only when the tries for a lock have ended. Outcomes 53, replies 35, room 856. Value: the hz asked. Refuses 1, 2, 8, 9, 10, 11; 2 also in
+ * lock changes only when the tries for a lock have ended. A repair of the divider: where the fine tune in the fifth status byte (bits 5 and 4, reversed) is
+ * above 1 (R820T: 2), or below it, 0x10 is written once more with the next lower or higher power, as the Rust does it, and N and the sum stay: by its
+ * registers the oscillator is then at twice, or half, what was asked, and the answer is done all the same. A host sees it in the entries, as a write of
+ * 0x10 after the read of five bytes whose three high bits are others (not at the lowest divider, which stays), and does not file that recording. Outcomes 53, replies 35, room 856. Value: the hz asked. Refuses 1, 2, 8, 9, 10, 11; 2 also in
  * the PLL, when the mux's steps are taken and stand (13 entries).
  */
 pasetone_tune_reply pasetone_set_frequency(const uint8_t *tuner, size_t tuner_len, uint64_t hz, const uint8_t *outcomes,
@@ -371,7 +376,10 @@ pasetone_reply pasetone_set_gain_by_index(const uint8_t *tuner, size_t tuner_len
 pasetone_reply pasetone_set_bandwidth(const uint8_t *tuner, size_t tuner_len, uint32_t hz, const uint8_t *outcomes, size_t outcomes_len,
                                       uint8_t *PASETONE_RESTRICT room, size_t room_len, uint8_t *PASETONE_RESTRICT next, size_t next_len);
 
-/* The IF that tunings go by. The record's IF changes before the steps, so also with 11. Outcomes 4, room 72. Value 0. Refuses 1, 8, 9, 11. */
+/*
+ * The IF that tunings go by: tune after it, and set the demodulator's too (`set_if_freq_xtal`). The record's IF changes before the steps, so also with
+ * 11. Outcomes 4, room 72. Value 0. Refuses 1, 8, 9, 11.
+ */
 pasetone_reply pasetone_set_if_freq(const uint8_t *tuner, size_t tuner_len, uint64_t hz, const uint8_t *outcomes, size_t outcomes_len,
                                     uint8_t *PASETONE_RESTRICT room, size_t room_len, uint8_t *PASETONE_RESTRICT next, size_t next_len);
 
@@ -383,8 +391,10 @@ pasetone_reply pasetone_set_input_path(const uint8_t *tuner, size_t tuner_len, u
                                        uint8_t *PASETONE_RESTRICT room, size_t room_len, uint8_t *PASETONE_RESTRICT next, size_t next_len);
 
 /*
- * Sends the shadow again, every register of it. All done, no register is doubtful and the chip holds the shadow: the way back after refusal 11. The
- * shadow stays, also with 11. Outcomes 9, room 152. Value 0. Refuses 1, 8, 9, 11.
+ * Sends the shadow again, every register of it. All done, no register is doubtful and the chip holds the shadow. It is half of the way back after
+ * refusal 11: the shadow has the bytes that the cut call came to, so that a tuning which was cut and only reloaded may stand beside its station with no
+ * register doubtful, and of the demodulator, the GPIO and the board's input nothing is sent. The way back: reload, then the same call again until it
+ * is done; after a sample rate or an IF also the tuning. The shadow stays, also with 11. Outcomes 9, room 152. Value 0. Refuses 1, 8, 9, 11.
  */
 pasetone_reply pasetone_reload(const uint8_t *tuner, size_t tuner_len, const uint8_t *outcomes, size_t outcomes_len,
                                uint8_t *PASETONE_RESTRICT room, size_t room_len, uint8_t *PASETONE_RESTRICT next, size_t next_len);
@@ -423,8 +433,9 @@ pasetone_reply pasetone_set_ppm(uint8_t *PASETONE_RESTRICT tuner, size_t tuner_l
  * if that plan is, and not where the table has none. `table` is a table of bands (below); the driver's board plans nothing here, `board_table` has its
  * table. An IF of 0 stays 0. Outcomes 17, room 280; `next_driver` 29 bytes, `next_tuner` 78. Both are written once steps were taken; the driver's
  * rate and true rate change only when all are done, the tuner's IF before them. The true rate is the corrected reference times 2^22 divided by the
- * ratio as it was sent, cut to a whole number, and at least the rate asked. Value 0. Refuses 1 (either record), 19, 3, 13 (by the corrected reference: at
- * 28,800,000 Hz the rates from 225,001 to 300,000 and from 900,001 up are taken), 8, 9, 11.
+ * ratio as it was sent, cut to a whole number, and at least the rate asked. A rate moves the IF and tunes nothing: TUNE AFTER IT, or the recording is
+ * beside its station by the difference of the two IFs. Value 0. Refuses 1 (either record), 19, 3, 13 (by the corrected reference: at 28,800,000 Hz the
+ * rates from 225,001 to 300,000 and from 900,001 up are taken), 8, 9, 11; after 11 the demodulator's rate and IF are not known until a rate is done.
  */
 pasetone_reply pasetone_set_sample_rate(const uint8_t *driver, size_t driver_len, const uint8_t *tuner, size_t tuner_len,
                                         const uint8_t *table, size_t table_len, uint32_t rate, const uint8_t *outcomes, size_t outcomes_len,

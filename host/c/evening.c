@@ -224,7 +224,9 @@ int main(void)
     print_doubtful(&r);
     compare(&last_night, &tonight);
     restore(&first, &tonight);
-    reload(&r);
+    reload(&r); /* half of the way back: N is the new station's, the sum the old one's */
     print_doubtful(&r);
+    tune(&r, "the same tune again", site.frequency);
+    printf("frequency: %llu Hz\n", (unsigned long long)number(r.driver + PASETONE_DRIVER_FREQUENCY, 8));
     return EXIT_SUCCESS;
 }

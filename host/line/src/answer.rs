@@ -3,6 +3,7 @@ use crate::command::{Given, Key};
 use crate::json;
 use crate::out::{End, Out};
 use crate::reach;
+use crate::record::Records;
 use crate::run::{Call, Made, Run};
 use pasetone::{Driver, Error, Lock, Table, Tuner};
 use std::ops::RangeInclusive;
@@ -18,6 +19,8 @@ pub struct Told {
     pub text: String,
     /// Of a tuning that a step stopped: how its waiting for a lock went. A done one has it in its text.
     pub lock: Option<String>,
+    /// Of a call that was done: what is owed all the same.
+    pub doubt: Option<String>,
     pub to_do: Option<String>,
     /// The failing step in the run, and in its call.
     pub step: Option<(usize, usize)>,
@@ -52,8 +55,8 @@ pub struct Wish<'a> {
     pub hz: u64,
     pub rate: u32,
     pub table: &'a Table,
-    /// The file of --keep.
-    pub keep: Option<String>,
+    /// What is to be made again where a step failed: one line for a shell.
+    pub again: String,
 }
 
 /// The answer of the run's last call.
@@ -64,21 +67,43 @@ pub fn of(run: &Run, wish: &Wish) -> Told {
             Err(error) => stopped(run, made, error, wish),
         },
         // A run makes one call at least.
-        None => simply(String::from("done")),
+        None => simply(String::from("done"), None),
     }
 }
 
-pub fn simply(text: String) -> Told {
-    Told { number: 0, word: "done", text, lock: None, to_do: None, step: None }
+/// Done, and why the station is not known where it is not.
+pub fn simply(text: String, records: Option<&Records>) -> Told {
+    let doubt = records.and_then(|records| records.owed.words());
+    Told { number: 0, word: "done", text, lock: None, doubt, to_do: None, step: None }
 }
 
 fn done(run: &Run, made: &Made, wish: &Wish) -> Told {
-    let lock = run.lock().map_or_else(String::new, |lock| format!(", {}", lock_words(lock)));
+    let records = run.records.as_ref();
     let what = match (made.call, wish.table.plan_tuning(wish.hz)) {
-        (Call::Reload, _) | (_, Err(_)) => String::from("every register sent again"),
-        (_, Ok(plan)) => format!("tuner at {} Hz", plan.hz),
+        (Call::Reload, _) | (_, Err(_)) => reloaded(records),
+        (_, Ok(plan)) => station(records, plan.hz),
     };
-    simply(format!("done: {} steps, {what}{lock}", run.steps))
+    simply(
+        format!("done: {} steps, {what}{}", run.steps, run.lock().map_or_else(String::new, |lock| format!(", {}", lock_words(lock)))),
+        records,
+    )
+}
+
+/// Where a tuning that was done has left the tuner, as far as it is known: a log is read by its answers.
+pub fn station(records: Option<&Records>, hz: u64) -> String {
+    if is_unknown(records) { String::from(UNKNOWN) } else { format!("tuner at {hz} Hz") }
+}
+
+/// A reload is done whatever is owed: it says so in the same line.
+pub fn reloaded(records: Option<&Records>) -> String {
+    let unknown = if is_unknown(records) { format!(", {UNKNOWN}") } else { String::new() };
+    format!("every register sent again{unknown}")
+}
+
+const UNKNOWN: &str = "station UNKNOWN";
+
+fn is_unknown(records: Option<&Records>) -> bool {
+    records.is_some_and(|records| !records.owed.is_station_known())
 }
 
 /// How a tuning's waiting for a lock went: a log is looked through for the word in capitals.
@@ -89,7 +114,8 @@ pub fn lock_words(lock: Lock) -> String {
 
 fn stopped(run: &Run, made: &Made, error: Error, wish: &Wish) -> Told {
     let to_do = Some(to_do(run, made, error, wish));
-    Told { to_do, ..refusal(made, error, words(error, frequency_words(wish.table, wish.hz))) }
+    let why = run.records.as_ref().map_or("frequency", |records| frequency_words(&records.tuner, wish.table, wish.hz));
+    Told { to_do, ..refusal(made, error, words(error, why)) }
 }
 
 /// The refusal of a call, for what `words` say; what to do is not in it.
@@ -103,7 +129,7 @@ pub fn refusal(made: &Made, error: Error, words: &str) -> Told {
         }
         _ => (format!("{words}; refused by {call}"), None, None),
     };
-    Told { number: error.number(), word: error.word(), text, lock, to_do: None, step }
+    Told { number: error.number(), word: error.word(), text, lock, doubt: None, to_do: None, step }
 }
 
 /// A refusal in words; those for a frequency are the caller's.
@@ -125,15 +151,12 @@ pub fn words(error: Error, frequency: &'static str) -> &'static str {
 fn to_do(run: &Run, made: &Made, error: Error, wish: &Wish) -> String {
     match error {
         Error::Setup => String::from(GIVE_REFERENCE),
-        Error::Frequency => run.records.as_ref().map_or_else(String::new, |(tuner, _)| reachable(tuner, wish.table, wish.hz)),
+        Error::Frequency => run.records.as_ref().map_or_else(String::new, |records| reachable(&records.tuner, wish.table, wish.hz)),
         Error::Rate => String::from("give --rate from 1 to 4294967295"),
-        Error::Correction => corrections(run.records.as_ref()),
+        Error::Correction => corrections(run.records.as_ref().map(|records| (&records.tuner, &records.driver))),
         Error::Ratio => rates(run, wish.rate),
         Error::Outcomes | Error::Replies => longer(made, error),
-        Error::Step { .. } => match &wish.keep {
-            Some(file) => format!("`./pasetone reload {file} --keep {file}` sends every register again"),
-            None => String::from("keep the record (--keep FILE); then `./pasetone reload FILE` sends every register again"),
-        },
+        Error::Step { .. } => wish.again.clone(),
         other => other.to_string(),
     }
 }
@@ -162,16 +185,25 @@ pub fn reachable(tuner: &Tuner, table: &Table, hz: u64) -> String {
     format!("ask for {next} Hz")
 }
 
-/// Why a frequency is refused: by the table, or by the PLL.
-pub fn frequency_words(table: &Table, hz: u64) -> &'static str {
+/// Why a board refuses a frequency: by its table, or by its tuner.
+pub fn frequency_words(tuner: &Tuner, table: &Table, hz: u64) -> &'static str {
     match table.plan_tuning(hz) {
+        Err(_) if table.bands().any(|band| (band.first..=band.last).contains(&hz)) => "frequency: its band's shift takes it out of 64 bits",
         Err(_) => "frequency: no band of the table has it",
-        Ok(_) => NOT_REACHED,
+        Ok(plan) => tuner_words(tuner, plan.hz),
     }
 }
 
-/// Why a tuner refuses a frequency.
-pub const NOT_REACHED: &str = "frequency: 0, or one that the PLL does not reach";
+/// Why a tuner refuses a frequency: the one reason that holds.
+pub fn tuner_words(tuner: &Tuner, hz: u64) -> &'static str {
+    if hz == 0 {
+        "frequency: the tuner would go to 0 Hz"
+    } else if hz.checked_add(tuner.if_freq()).is_none() {
+        "frequency: its sum with the IF is over 64 bits"
+    } else {
+        "frequency: the PLL does not reach it"
+    }
+}
 
 /// The stretches next to a number, below and above it.
 fn beside(all: &[RangeInclusive<u64>], number: u64) -> String {
@@ -183,7 +215,7 @@ fn beside(all: &[RangeInclusive<u64>], number: u64) -> String {
 
 /// The rates next to the one asked for, below and above it, that are taken.
 fn rates(run: &Run, rate: u32) -> String {
-    let Some((tuner, driver)) = &run.records else { return String::new() };
+    let Some(Records { tuner, driver, .. }) = &run.records else { return String::new() };
     let next = beside(&reach::rates(tuner, driver), u64::from(rate));
     if next.is_empty() {
         return format!("no rate is taken with a reference of {} Hz: give another by --reference", driver.corrected_xtal_hz());
@@ -191,14 +223,14 @@ fn rates(run: &Run, rate: u32) -> String {
     format!("give --rate from {next}")
 }
 
-fn corrections(records: Option<&(Tuner, Driver)>) -> String {
+fn corrections(records: Option<(&Tuner, &Driver)>) -> String {
     let Some((tuner, driver)) = records else { return String::new() };
     let (low, high) = reach::corrections(tuner, driver);
     format!("give --ppm from {low} to {high}")
 }
 
 /// A reference that is none, or a correction that takes it out of its range, for a command that makes no run.
-pub fn reference_line(error: Error, records: Option<&(Tuner, Driver)>) -> String {
+pub fn reference_line(error: Error, records: Option<(&Tuner, &Driver)>) -> String {
     let (words, to_do) = match error {
         Error::Setup => (SETUP, String::from(GIVE_REFERENCE)),
         Error::Correction => (CORRECTION, corrections(records)),
@@ -208,6 +240,15 @@ pub fn reference_line(error: Error, records: Option<&(Tuner, Driver)>) -> String
 }
 
 impl Told {
+    /// How a run with this answer ends.
+    pub fn end(&self) -> End {
+        match self.number {
+            0 => End::Done,
+            11 => End::Stopped,
+            _ => End::Refused,
+        }
+    }
+
     /// The refusal for somebody who asked for nothing else.
     pub fn in_one_line(&self) -> String {
         let more = |name: &str, text: &Option<String>| text.as_ref().map_or_else(String::new, |text| format!("; {name}: {text}"));
@@ -223,6 +264,9 @@ impl Told {
         if let Some(lock) = &self.lock {
             out.line(&format!("lock: {lock}"));
         }
+        if let Some(doubt) = &self.doubt {
+            out.line(&format!("{} {doubt}", out.loud("DOUBTFUL:")));
+        }
         if let Some(to_do) = &self.to_do {
             out.line(&format!("to do: {to_do}"));
         }
@@ -233,6 +277,7 @@ impl Told {
             ("number", self.number.to_string()),
             ("word", json::string(self.word)),
             ("text", json::string(&self.text)),
+            ("doubt", json::maybe(self.doubt.as_deref().map(json::string))),
             ("to_do", json::maybe(self.to_do.as_deref().map(json::string))),
             ("call", json::maybe(call.map(|call| json::string(call.name())))),
             ("step", json::maybe(self.step.map(|(whole, _)| whole))),

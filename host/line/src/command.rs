@@ -3,8 +3,8 @@
 //! A new command is a file with its `run`, a row in `COMMANDS`, and a row in `OPTIONS` for an option that none has yet.
 use crate::files::{self, Sink, Source, is_standard, shown};
 use crate::out::{End, Out};
-use crate::{entries, feed, held, help, hop, packets, parting, plan, record, reload, restore, settings, show, table, worksheet};
-use pasetone::{Driver, Tuner};
+use crate::record::{self, Records};
+use crate::{entries, feed, held, help, hop, packets, parting, plan, reload, restore, settings, show, table, worksheet};
 use std::ffi::{OsStr, OsString};
 use std::os::unix::ffi::OsStrExt;
 
@@ -264,6 +264,11 @@ impl Given {
         self.options.iter().rev().find(|(given, _)| *given == key).map(|(_, value)| value.as_os_str())
     }
 
+    /// Every option that counts, with its value, in the order of the command's page.
+    pub fn options(&self) -> impl Iterator<Item = (Key, &OsStr)> {
+        OPTIONS.iter().filter_map(|row| self.word(row.key).map(|value| (row.key, value)))
+    }
+
     /// An option's value as `read` takes it; told as a mistake where it does not.
     pub fn value<T>(&self, key: Key, out: &mut Out, read: impl Fn(&str) -> Option<T>) -> Option<T> {
         let word = self.word(key)?;
@@ -374,14 +379,14 @@ impl Kept {
     }
 
     /// The last sections and the records, also of a run that stopped.
-    pub fn end(self, sections: &[u8], records: Option<&(Tuner, Driver)>, out: &mut Out) {
+    pub fn end(self, sections: &[u8], records: Option<&Records>, out: &mut Out) {
         for (sink, option) in [(self.section, "--section"), (self.append, "--append")] {
             if let Some(sink) = sink {
                 sink.keep_or_tell(sections, option, out);
             }
         }
         match (self.record, records) {
-            (Some(sink), Some((tuner, driver))) => sink.keep_or_tell(&record::write(tuner, driver), "--keep", out),
+            (Some(sink), Some(records)) => sink.keep_or_tell(&record::write(records), "--keep", out),
             (Some(_), None) => out.tell(End::Refused, "--keep: no record was made, so none is written: see the answer"),
             (None, _) => {}
         }

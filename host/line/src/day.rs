@@ -6,7 +6,8 @@ use crate::filed::File;
 use crate::json;
 use crate::names::counted;
 use crate::numbers;
-use crate::out::Out;
+use crate::out::{End, Out};
+use crate::registers::runs;
 use crate::sections::{ENTRY, Part, TRAILER, Walk};
 use pasetone::{Entry, EntryKind, Error, Transcript, Tuner};
 use std::collections::{BTreeMap, BTreeSet};
@@ -149,6 +150,19 @@ impl Chip {
 
     pub fn those(&self, is: impl Fn(&Held) -> bool) -> Vec<u8> {
         self.registers.iter().filter(|(_, held)| is(held)).map(|(register, _)| *register).collect()
+    }
+
+    /// The exit status where a register is doubtful; a line too where nothing is printed.
+    pub fn tell_doubt(&self, given: &Given, out: &mut Out) {
+        let doubtful = self.those(|held| !matches!(held, Held::Sure(..)));
+        if doubtful.is_empty() {
+            return;
+        }
+        out.ends(End::Doubtful);
+        if given.has(Key::Quiet) {
+            let count = doubtful.len();
+            out.tell(End::Doubtful, &format!("DOUBTFUL: {count} of {} registers: {}", self.registers.len(), runs(&doubtful)));
+        }
     }
 
     /// What to do where nothing was written to this chip, and something to others.

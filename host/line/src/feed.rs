@@ -4,27 +4,32 @@ use crate::answer::{self, Told};
 use crate::boards::Place;
 use crate::command::{Given, Kept, Key};
 use crate::files::{Source, is_standard};
-use crate::names::counted;
+use crate::names::{Gain, counted};
 use crate::out::{End, Out};
+use crate::owed::{Job, Owed};
 use crate::receiver::Receiver;
+use crate::record::Records;
 use crate::report::{self, Head};
 use crate::rows::{self, hex};
 use crate::run::{Call, Made, Start};
 use crate::script::{self, Endless};
-use crate::{hop, json, numbers};
-use pasetone::{Command, Driver, EntryKind, Error, Fed, Stream, Tuner};
+use crate::standing::Standing;
+use crate::{advice, hop, json, numbers};
+use pasetone::{Board, Command, Driver, EntryKind, Error, Fed, Stream, Tuner};
 
 pub const MORE: &[&str] = &[
     "FILE is what a serial line has brought: commands of nine bytes, an operation and its argument, low",
     "byte first, zeros above it: 1 frequency (Hz, u64), 2 rate (u32), 3 gain (dB, binary32), 4 gain",
     "index (u8), 5 bandwidth (Hz, u32), 6 correction (ppm, i32), 7 reload (0). Other bytes are refused",
     "by 14. A refused or stopped command is answered, and the next one runs; bytes at the end that are",
-    "no whole command do nothing. The exit status is 0 where all were done and no byte is left.",
+    "no whole command do nothing. After a stopped command send reload, then that command again; a rate",
+    "or a correction moves the station, so send the frequency again after it. The exit status is 0",
+    "where all were done and locked, no byte is left, nothing is doubtful, and the station is known.",
     "FILE has any size; - is standard input, fed as it comes. It ends where the line ends, or where",
     "nobody reads what is printed; --keep, --section and --append have the commands made till then.",
     "It talks to no receiver: outcomes and replies stand in for one, and each command goes on in them",
     "where the ones before have ended. A fresh record is not initialised, so that registers which no",
-    "command writes are doubtful: --keep of hop makes one that is.",
+    "command writes are doubtful and the station is not known: --keep of hop makes one that is.",
 ];
 
 pub const OPTIONS: &[Key] = &[
@@ -109,12 +114,11 @@ fn request(given: &Given, out: &mut Out) -> Option<Request> {
 }
 
 /// The records that a line begins with; a refusal is told.
-fn begun(start: Start, given: &Given, out: &mut Out) -> Option<(Tuner, Driver)> {
+fn begun(start: Start, given: &Given, out: &mut Out) -> Option<Records> {
     let fresh = match start {
-        Start::Kept { tuner, driver } => return Some((tuner, driver)),
-        Start::Fresh { kind, address, board, reference } => {
-            Tuner::new(kind, address, reference).and_then(|tuner| Ok((tuner, Driver::new(board, reference, 0, 0, 0)?)))
-        }
+        Start::Kept(records) => return Some(*records),
+        Start::Fresh { kind, address, board, reference } => Tuner::new(kind, address, reference)
+            .and_then(|tuner| Ok(Records { tuner, driver: Driver::new(board, reference, 0, 0, 0)?, owed: Owed::fresh() })),
     };
     fresh.map_err(|error| answer::refused(given, error, &error.to_string(), out)).ok()
 }
@@ -136,7 +140,7 @@ impl Count {
 struct Line<'a> {
     given: &'a Given,
     place: Place,
-    records: (Tuner, Driver),
+    records: Records,
     script: Endless,
     files: Kept,
     stream: Stream,
@@ -151,8 +155,8 @@ impl Line<'_> {
         while !chunk.is_empty() {
             let (piece, rest) = chunk.split_at(chunk.len().min(Command::SIZE - self.stream.pending()));
             chunk = rest;
-            let Line { place, records: (tuner, driver), script, stream, .. } = self;
-            for fed in stream.feed(driver, tuner, &place.table, piece, |_| script.script()) {
+            let Line { place, records, script, stream, .. } = self;
+            for fed in stream.feed(&mut records.driver, &mut records.tuner, &place.table, piece, |_| script.script()) {
                 self.answered(fed, out);
             }
         }
@@ -166,9 +170,13 @@ impl Line<'_> {
         let made = Made { call, first, transcript: fed.transcript, result: fed.result.map(drop), lock, left };
         let read = made.transcript.iter().filter(|entry| matches!(entry.kind, EntryKind::I2cRead | EntryKind::BlockRead) && !entry.failed);
         self.script.pass(made.transcript.len(), read.map(|entry| entry.bytes.len()).sum());
+        if let Some(command) = sent {
+            let Records { tuner, driver, owed } = &mut self.records;
+            owed.made(job(command), made.result, &made.transcript, tuner, driver);
+        }
         let told = match made.result {
             Ok(()) => self.done(&made, value),
-            Err(error) => refused(&made, error, &fed.command),
+            Err(error) => self.refused(&made, error, &fed.command),
         };
         match made.result {
             Ok(()) => self.count.done += 1,
@@ -180,16 +188,45 @@ impl Line<'_> {
     }
 
     fn done(&self, made: &Made, value: u64) -> Told {
+        let Records { driver, owed, .. } = &self.records;
         let what = match made.call {
-            Call::TunerTune => format!(", tuner at {value} Hz"),
-            Call::SampleRate => format!(", true rate {}", self.records.1.true_rate()),
+            Call::TunerTune => format!(", {}", answer::station(Some(&self.records), value)),
+            Call::SampleRate => format!(", true rate {}", driver.true_rate()),
             Call::Gain => format!(", step {:.1} dB", f32::from_bits(value as u32)),
             Call::Correction => String::from(", both references corrected"),
-            Call::Reload => String::from(", every register sent again"),
+            Call::Reload => format!(", {}", answer::reloaded(Some(&self.records))),
             _ => String::new(),
         };
         let lock = made.lock.map_or_else(String::new, |lock| format!(", {}", answer::lock_words(lock)));
-        answer::simply(format!("done: {}{what}{lock}", counted(made.transcript.len(), "step")))
+        let to_do = match made.call {
+            Call::SampleRate => Some("send the frequency (operation 1): the rate has moved the IF"),
+            Call::Correction => Some("send the frequency (operation 1): the next tuning goes by the correction"),
+            Call::Reload if owed.words().is_some() => Some("send the command that was cut again"),
+            Call::TunerTune if made.lock.is_some_and(|lock| !lock.locked) => Some("send the frequency (operation 1) again"),
+            _ => None,
+        };
+        // What is owed is told where a line would be read as all is well; at the end it is told in any case.
+        let records = Some(&self.records).filter(|_| matches!(made.call, Call::TunerTune | Call::Reload));
+        let steps = counted(made.transcript.len(), "step");
+        Told { to_do: to_do.map(String::from), ..answer::simply(format!("done: {steps}{what}{lock}"), records) }
+    }
+
+    fn refused(&self, made: &Made, error: Error, bytes: &[u8; Command::SIZE]) -> Told {
+        if error == Error::Command {
+            let to_do = Some(String::from("send an operation from 1 to 7, and zeros above its argument"));
+            return Told { text: format!("command: {}", fault(bytes)), to_do, ..answer::refusal(made, error, "") };
+        }
+        let tuner = &self.records.tuner;
+        let hz = sent(bytes).and_then(|command| if let Command::Frequency(hz) = command { Some(hz) } else { None });
+        let why = hz.map_or("frequency", |hz| answer::tuner_words(tuner, hz));
+        let to_do = match error {
+            Error::Outcomes | Error::Replies => Some(answer::longer(made, error)),
+            Error::Step { .. } => Some(String::from(cut(made.call))),
+            // The tuner's own tune has no board: it goes where it is sent.
+            Error::Frequency => hz.map(|hz| answer::reachable(tuner, &Board::Generic.table(), hz)),
+            _ => None,
+        };
+        Told { to_do, ..answer::refusal(made, error, answer::words(error, why)) }
     }
 
     fn keep(&mut self, section: &[u8], out: &mut Out) {
@@ -203,7 +240,7 @@ impl Line<'_> {
     }
 
     fn head(&self, head: &Head, out: &mut Out) {
-        let tuner = &self.records.0;
+        let tuner = &self.records.tuner;
         let corrected = Some(tuner.corrected()).filter(|hz| *hz != tuner.nominal());
         if self.given.has(Key::Json) {
             out.text(&format!("{{\n\"receiver\": {},\n\"commands\": [", head.json(&self.place, corrected)));
@@ -226,10 +263,11 @@ impl Line<'_> {
             told.lines(out);
             out.line("");
         } else if told.number > 0 {
-            out.tell(End::Refused, &format!("command {number}: {}", told.in_one_line()));
+            out.tell(told.end(), &format!("command {number}: {}", told.in_one_line()));
         }
-        if told.number > 0 {
-            out.ends(End::Refused);
+        out.ends(told.end());
+        if let Some(lock) = made.lock.filter(|lock| told.number == 0 && !lock.locked) {
+            out.tell(End::NotLocked, &format!("command {number}: {}", answer::lock_words(lock)));
         }
     }
 
@@ -249,11 +287,24 @@ impl Line<'_> {
         if incomplete.is_some() {
             out.ends(End::Refused);
         }
+        // Of a line that brought nothing there is nothing to say.
+        if self.count.all() > 0 {
+            Standing::of(&self.records).tell(&self.way_back(), out);
+        }
         self.files.end(&self.sections, Some(&self.records), out);
     }
 
+    /// What leads to a known station: over the record that is kept, or from a fresh one.
+    fn way_back(&self) -> String {
+        let hz = advice::hertz(&self.records.owed);
+        match self.given.word(Key::Keep) {
+            Some(keep) => advice::over(keep, &hz, &self.records, self.given, false),
+            None => format!("begin with a record: {} hop {hz} --keep FILE, then feed with --record FILE", advice::program()),
+        }
+    }
+
     fn table(&self, incomplete: Option<&str>, out: &mut Out) {
-        let (Count { done, refused, stopped }, (tuner, driver)) = (&self.count, &self.records);
+        let (Count { done, refused, stopped }, Records { tuner, driver, .. }) = (&self.count, &self.records);
         let (commands, steps) = (counted(self.count.all(), "command"), counted(self.script.steps, "step"));
         out.line(&format!("{commands}: {done} done, {refused} refused, {stopped} stopped; {steps}"));
         if let Some(text) = incomplete {
@@ -267,7 +318,7 @@ impl Line<'_> {
     }
 
     fn json(&self, pending: usize, out: &mut Out) {
-        let (tuner, driver) = &self.records;
+        let Records { tuner, driver, owed } = &self.records;
         out.line(if self.count.all() == 0 { "]," } else { "\n]," });
         out.line(&json::members(&[
             ("done", self.count.done.to_string()),
@@ -280,23 +331,21 @@ impl Line<'_> {
             ("true_rate", driver.true_rate().to_string()),
             ("gain", format!("{:.1}", tuner.gain())),
             ("correction", driver.ppm().to_string()),
+            ("owed", json::array(owed.calls().iter().map(|call| json::string(call)))),
+            ("station_known", owed.is_station_known().to_string()),
             ("registers", report::registers_json(tuner)),
         ]));
         out.line("}");
     }
 }
 
-fn refused(made: &Made, error: Error, bytes: &[u8; Command::SIZE]) -> Told {
-    if error == Error::Command {
-        let to_do = Some(String::from("send an operation from 1 to 7, and zeros above its argument"));
-        return Told { text: format!("command: {}", fault(bytes)), to_do, ..answer::refusal(made, error, "") };
+/// What to send after a command that a step stopped: the reload sends the tuner's registers alone, the demodulator's are the command's own.
+fn cut(call: Call) -> &'static str {
+    match call {
+        Call::SampleRate => "send reload (operation 7), this command again, then the frequency (operation 1)",
+        Call::Reload => "send reload (operation 7) again, then the command that was cut before it",
+        _ => "send reload (operation 7), then this command again",
     }
-    let to_do = match error {
-        Error::Outcomes | Error::Replies => Some(answer::longer(made, error)),
-        Error::Step { .. } => Some(String::from("send reload (operation 7), which sends every register again")),
-        _ => None,
-    };
-    Told { to_do, ..answer::refusal(made, error, answer::words(error, answer::NOT_REACHED)) }
 }
 
 fn command_json(number: usize, bytes: &[u8; Command::SIZE], made: &Made, told: &Told) -> String {
@@ -351,6 +400,19 @@ fn call(command: Command) -> Call {
     }
 }
 
+/// The same with its argument.
+fn job(command: Command) -> Job {
+    match command {
+        Command::Frequency(hz) => Job::TunerTune(hz),
+        Command::Rate(rate) => Job::Rate(rate),
+        Command::Gain(db) => Job::Gain(Gain::Tenths((db * 10.0) as i32)),
+        Command::GainIndex(index) => Job::Gain(Gain::Index(index)),
+        Command::Bandwidth(hz) => Job::Bandwidth(hz),
+        Command::Correction(_) => Job::Correction,
+        Command::Reload => Job::Reload,
+    }
+}
+
 /// What an operation is called.
 fn name(command: Command) -> &'static str {
     match command {
@@ -382,7 +444,7 @@ fn words(bytes: &[u8; Command::SIZE]) -> String {
 #[cfg(test)]
 mod tests {
     use super::*;
-    use pasetone::{Board, Script, TunerKind};
+    use pasetone::{Script, TunerKind};
 
     /// Every operation with every value of every byte of its argument: what is told as no command is what the library refuses by 14, and nothing else.
     #[test]

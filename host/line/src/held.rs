@@ -9,15 +9,17 @@ pub const MORE: &[&str] = &[
     "The files hold sections end to end, as --section of hop writes them, the oldest first; - is",
     "standard input. A register is sure if its last write was done: the chip holds that byte. It is",
     "DOUBTFUL if its last write failed, or if none of the sections writes it. Steps are counted from 0",
-    "over all files. Where a section is damaged nothing is said, and the exit status is 1.",
+    "over all files. Where a section is damaged nothing is said, and the exit status is 1; where a",
+    "register is doubtful it is 5.",
 ];
 
 pub fn run(given: &Given, out: &mut Out) {
     let Some((day, chip)) = day::of("held", given, out) else { return };
+    let doubtful = chip.registers.len() - chip.sure().len();
+    chip.tell_doubt(given, out);
     if given.has(Key::Quiet) {
         return;
     }
-    let doubtful = chip.registers.len() - chip.sure().len();
     if given.has(Key::Json) {
         let mut fields = Vec::from(day.json(&chip));
         fields.extend([("doubtful", doubtful.to_string()), ("registers", chip.registers_json())]);

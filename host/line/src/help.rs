@@ -64,5 +64,7 @@ fn of_command(command: &Command, out: &mut Out) {
 
 fn ends(out: &mut Out) {
     out.line("");
-    out.line("exit status: 0 done; 1 refused, stopped or damaged; 2 bad words or files");
+    out.line("exit status: 0 done, and locked where it tunes; 1 refused, damaged, or two nights part; 2 bad");
+    out.line("words or files; 3 a step failed: reload, then the same call again; 4 not locked; 5 doubtful: a");
+    out.line("register, or the station. Where several hold, the first of 2, 3, 1, 5, 4.");
 }

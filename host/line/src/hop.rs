@@ -2,13 +2,13 @@
 use crate::answer::{self, Wish};
 use crate::boards::Place;
 use crate::command::{Given, Kept, Key, option};
-use crate::files::{called, shown};
-use crate::names::Gain;
-use crate::out::{End, Out};
+use crate::files::called;
+use crate::out::Out;
+use crate::owed::{GAIN, RATE};
 use crate::receiver::{self, Receiver};
-use crate::report::{Head, Report};
+use crate::report::{self, Head, Report};
 use crate::run::{Asked, Run, Start};
-use crate::{numbers, record, script};
+use crate::{advice, numbers, record, script};
 
 pub const MORE: &[&str] = &[
     "It makes a fresh record and calls set_ppm (where --ppm is given), initialise, sample rate, gain,",
@@ -16,8 +16,10 @@ pub const MORE: &[&str] = &[
     "tuner and spectrum by the plan of its table. It talks to no receiver: outcomes and replies stand",
     "in for one. It prints each step, the answer and the registers.",
     "With --record it starts from a kept record in place of a fresh one, and calls initialise, sample",
-    "rate, gain and IF only where --initialise, --rate, --gain and --if are given. A table is not in",
-    "the record: give --table again. With --settings HZ may be left out; a word that is given wins.",
+    "rate, gain and IF only where --initialise, --rate, --gain and --if are given. A call that was cut",
+    "and is not made again, or never made, is owed: the record keeps that, and while one is owed the",
+    "station is told as UNKNOWN, with the line that mends it. A table is not in the record: give --table",
+    "again. With --settings HZ may be left out; a word that is given wins.",
     "HZ, --reference, --rate and --if are written as 102300000, 102300k or 102.3M; other numbers are",
     "decimal, or hexadecimal behind 0x. A lock at the first try is 0x0a in every reply (r820t: 0x06).",
 ];
@@ -62,8 +64,12 @@ pub fn run(given: &Given, out: &mut Out) {
     let Some(request) = request(given, out).filter(|_| !out.is_mistaken()) else { return };
     let Request { asked, start, place, settings, outcomes, replies, fail, files } = request;
     let head = Head::of(&start, &place, settings);
-    let run = Run::hop(start, &asked, &place.table, outcomes, replies);
-    let wish = Wish { hz: asked.hz, rate: asked.rate.unwrap_or(0), table: &place.table, keep: given.word(Key::Keep).map(shown) };
+    let mut run = Run::hop(start, &asked, &place.table, outcomes, replies);
+    if let Some(records) = run.records.as_mut() {
+        records.owed.table = place.file.is_some();
+    }
+    let again = advice::hop_again(given, asked.hz, &run);
+    let wish = Wish { hz: asked.hz, rate: asked.rate.unwrap_or(0), table: &place.table, again: again.clone() };
     let told = answer::of(&run, &wish);
     let unreached = fail.filter(|step| run.steps <= *step);
     let plan = place.table.plan_tuning(asked.hz).ok();
@@ -72,12 +78,8 @@ pub fn run(given: &Given, out: &mut Out) {
         report.json(out);
     } else if !given.has(Key::Quiet) {
         report.table(out);
-    } else if report.told.number > 0 {
-        out.tell(End::Refused, &report.told.in_one_line());
     }
-    if report.told.number > 0 {
-        out.ends(End::Refused);
-    }
+    report::ended(&report.run, &report.told, &again, given.has(Key::Quiet), out);
     report.run.keep(files, out);
 }
 
@@ -98,7 +100,7 @@ fn request(given: &Given, out: &mut Out) -> Option<Request> {
     let asked = if given.has(Key::Record) {
         Asked { hz: frequency?, ppm, initialise: given.has(Key::Initialise), rate, gain, if_hz }
     } else {
-        Asked { hz: frequency?, ppm, initialise: true, rate: rate.or(Some(2_048_000)), gain: gain.or(Some(Gain::Tenths(297))), if_hz }
+        Asked { hz: frequency?, ppm, initialise: true, rate: rate.or(Some(RATE)), gain: gain.or(Some(GAIN)), if_hz }
     };
     if out.is_mistaken() {
         return None;
@@ -120,7 +122,7 @@ fn frequency(given: &Given, out: &mut Out) -> Option<u64> {
 pub fn begins(given: &Given, receiver: &Receiver, out: &mut Out) -> (Option<Start>, Place) {
     let start = if given.has(Key::Record) { kept(given, out) } else { Some(fresh(receiver)) };
     let board = match &start {
-        Some(Start::Kept { driver, .. }) => driver.board(),
+        Some(Start::Kept(records)) => records.driver.board(),
         _ => receiver.board(),
     };
     (start, Place::given(given, board, out))
@@ -154,5 +156,5 @@ pub fn together(given: &Given, out: &mut Out) {
 fn kept(given: &Given, out: &mut Out) -> Option<Start> {
     let bytes = given.start(Key::Record, record::LOOKED_AT, out)?;
     record::judged(&bytes, &format!("--record {}", given.word(Key::Record).map(called).unwrap_or_default()), out)
-        .map(|(tuner, driver)| Start::Kept { tuner, driver })
+        .map(|records| Start::Kept(Box::new(records)))
 }

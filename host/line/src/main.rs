@@ -1,7 +1,8 @@
-//! The command line of Pasetone, over the Rust host. `../../pasetone` builds and runs it. Exit status: 0 done; 1 refused, stopped or damaged; 2 bad words
-//! or files. A new command is one file here and one row in command.rs.
+//! The command line of Pasetone, over the Rust host. `../../pasetone` builds and runs it. The exit status is out.rs's `End`.
+//! A new command is one file here and one row in command.rs.
 #![forbid(unsafe_code)]
 
+mod advice;
 mod answer;
 mod boards;
 mod command;
@@ -17,6 +18,7 @@ mod json;
 mod names;
 mod numbers;
 mod out;
+mod owed;
 mod packets;
 mod parting;
 mod plan;
@@ -33,6 +35,7 @@ mod script;
 mod sections;
 mod settings;
 mod show;
+mod standing;
 mod table;
 mod worksheet;
 

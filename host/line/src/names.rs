@@ -1,4 +1,5 @@
 //! Kinds, boards, paths, gains and counts: as they are printed, and as a word on the command line names them.
+use crate::json;
 use pasetone::{Board, InputPath, Script, Tuner, TunerKind};
 
 pub fn kind(kind: TunerKind) -> &'static str {
@@ -50,7 +51,7 @@ pub fn counted(count: usize, what: &str) -> String {
 }
 
 /// A gain as it is asked for: in tenths of a dB, or by the index of its step, as settings have it.
-#[derive(Clone, Copy)]
+#[derive(Clone, Copy, PartialEq, Eq, Debug)]
 pub enum Gain {
     Tenths(i32),
     Index(u8),
@@ -59,6 +60,14 @@ pub enum Gain {
 /// A gain in tenths of a dB: the one division is by binary32's own rule.
 pub fn decibels(tenths: i32) -> f32 {
     tenths as f32 / 10.0
+}
+
+/// A gain as a word of --gain: the step's own dB where it is an index.
+pub fn tenths_of(gain: Gain) -> String {
+    match gain {
+        Gain::Tenths(tenths) => json::tenths(tenths),
+        Gain::Index(_) => json::tenths(gain_step(gain).1),
+    }
 }
 
 /// The index of a gain's step, and its tenths of a dB, by the library: tried on a record that nothing else is done with. Both kinds have one table of steps.

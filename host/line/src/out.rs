@@ -3,14 +3,35 @@ use std::env;
 use std::io::{self, BufWriter, ErrorKind, IsTerminal, Stdout, Write};
 use std::process::ExitCode;
 
-/// How the program ends, the worst last.
+/// How the program ends. Where several hold the last of them here is the exit status: what has to be mended first.
 #[derive(Clone, Copy, PartialEq, Eq, PartialOrd, Ord)]
 pub enum End {
-    Done = 0,
-    /// A call was refused or stopped, or a section is damaged.
-    Refused = 1,
+    /// Done, and locked where there was a tuning.
+    Done,
+    /// A tuning was done, and its PLL did not lock.
+    NotLocked,
+    /// A register is doubtful, or a call that the station hangs on is not done.
+    Doubtful,
+    /// A call was refused, a section is damaged, or two nights part.
+    Refused,
+    /// A step failed, and the call stopped there.
+    Stopped,
     /// Words or files are at fault.
-    Mistaken = 2,
+    Mistaken,
+}
+
+impl End {
+    /// The exit status. 0 to 2 are those of earlier versions.
+    pub fn status(self) -> u8 {
+        match self {
+            End::Done => 0,
+            End::Refused => 1,
+            End::Mistaken => 2,
+            End::Stopped => 3,
+            End::NotLocked => 4,
+            End::Doubtful => 5,
+        }
+    }
 }
 
 pub struct Out {
@@ -62,8 +83,8 @@ impl Out {
     pub fn tell(&mut self, end: End, text: &str) {
         self.flush();
         self.end = self.end.max(end);
-        // Where standard error cannot be written either, the exit status is all that is left to tell it.
-        let _ = writeln!(io::stderr(), "pasetone: {text}");
+        // In one write, so that no other program's line falls into it. Where standard error cannot be written either, the exit status is all that is left.
+        let _ = io::stderr().write_all(format!("pasetone: {text}\n").as_bytes());
     }
 
     pub fn mistake(&mut self, text: &str) {
@@ -95,6 +116,6 @@ impl Out {
         let end = self.end;
         // What is left in the buffer cannot be written: dropped with the buffer it would be tried again.
         let _ = self.to.into_parts();
-        ExitCode::from(end as u8)
+        ExitCode::from(end.status())
     }
 }

@@ -52,8 +52,8 @@ pub fn run(given: &Given, out: &mut Out) {
         planned.table(out);
     }
     if let Err(error) = planned.pll {
-        let words = answer::frequency_words(&planned.place.table, planned.hz);
-        answer::last_lines(given, &format!("{} {words}", error.number()), &planned.to_do(), out);
+        let (why, to_do) = planned.refused();
+        answer::last_lines(given, &format!("{} {why}", error.number()), &to_do, out);
     }
 }
 
@@ -65,7 +65,8 @@ pub fn corrected(given: &Given, receiver: &Receiver, out: &mut Out) -> Option<u3
         Err(error) => {
             let records =
                 Tuner::new(receiver.kind(), receiver.address(), receiver.reference()).and_then(|tuner| Ok((tuner, driver(0)?))).ok();
-            answer::refused(given, error, &answer::reference_line(error, records.as_ref()), out);
+            let records = records.as_ref().map(|(tuner, driver)| (tuner, driver));
+            answer::refused(given, error, &answer::reference_line(error, records), out);
             None
         }
     }
@@ -99,14 +100,15 @@ impl Planned {
         }
     }
 
-    /// What would be right.
-    fn to_do(&self) -> String {
-        let tuner = Tuner::new(self.kind, names::own_address(self.kind), self.reference).map(|mut tuner| {
-            // The IF is the record's, and stands before the first step.
-            let _ = tuner.set_if_freq(self.if_hz.into(), &Script::all_done());
-            tuner
-        });
-        tuner.map_or_else(|error| error.to_string(), |tuner| answer::reachable(&tuner, &self.place.table, self.hz))
+    /// Why it is refused, and what would be right.
+    fn refused(&self) -> (&'static str, String) {
+        let Ok(mut tuner) = Tuner::new(self.kind, names::own_address(self.kind), self.reference) else {
+            return ("frequency", String::new());
+        };
+        // The IF is the record's, and stands before the first step.
+        let _ = tuner.set_if_freq(self.if_hz.into(), &Script::all_done());
+        let table = &self.place.table;
+        (answer::frequency_words(&tuner, table, self.hz), answer::reachable(&tuner, table, self.hz))
     }
 
     fn json(&self, out: &mut Out) {

@@ -1,38 +1,57 @@
-//! A kept record: the bytes of the tuner's record, then those of the driver's, and nothing else. Both sizes are the library's.
+//! A kept record: the bytes of the tuner's record, those of the driver's, then what is owed (owed.rs), and nothing else. The first two sizes are the library's.
 use crate::out::Out;
+use crate::owed::Owed;
 use pasetone::{Driver, Tuner};
 
-pub const SIZE: usize = Tuner::SIZE + Driver::SIZE;
+/// What is known of a receiver, and what it still needs.
+#[derive(Clone, PartialEq, Debug)]
+pub struct Records {
+    pub tuner: Tuner,
+    pub driver: Driver,
+    pub owed: Owed,
+}
 
-/// What was kept before 4.0.0, and before 3.0.0: the tuner's record had 105 bytes, the driver's 29, then 21.
-const OLD: [usize; 2] = [134, 126];
+pub const SIZE: usize = Tuner::SIZE + Driver::SIZE + Owed::SIZE;
+
+/// What was kept before 6.2.0, which says nothing of calls that were cut; before 4.0.0; and before 3.0.0.
+const OLD: [usize; 3] = [107, 134, 126];
 
 /// How much of a file tells whether it is a kept record.
-pub const LOOKED_AT: usize = OLD[0] + 1;
+pub const LOOKED_AT: usize = SIZE + 1;
 
 /// Reads a kept record, of whose file [`LOOKED_AT`] bytes were read at most; what is wrong with the bytes comes back in words.
-pub fn read(bytes: &[u8]) -> Result<(Tuner, Driver), String> {
-    if bytes.len() != SIZE {
-        let (tuner, driver, length) = (Tuner::SIZE, Driver::SIZE, bytes.len());
-        let has = format!("a record has {SIZE} bytes ({tuner} of the tuner, then {driver} of the driver), and here are");
+pub fn read(bytes: &[u8]) -> Result<Records, String> {
+    let length = bytes.len();
+    let Ok(bytes) = <&[u8; SIZE]>::try_from(bytes) else {
+        let has = format!(
+            "a record has {SIZE} bytes ({} of the tuner, {} of the driver, {} of what is owed), and here are",
+            Tuner::SIZE,
+            Driver::SIZE,
+            Owed::SIZE
+        );
         if OLD.contains(&length) {
             return Err(format!("{has} {length}, as an older version kept: run once without --record, and give what --keep then writes"));
         }
         let here = if length == LOOKED_AT { String::from("more") } else { length.to_string() };
         return Err(format!("{has} {here}: give a file that --keep has written"));
-    }
-    let (tuner, driver) = bytes.split_at(Tuner::SIZE);
-    let none = |whose: &str| format!("its bytes for the {whose} are no record (refusal 1): give a file that --keep has written");
-    Ok((Tuner::from_bytes(tuner).map_err(|_| none("tuner"))?, Driver::from_bytes(driver).map_err(|_| none("driver"))?))
+    };
+    let (tuner, rest) = bytes.split_at(Tuner::SIZE);
+    let (driver, owed) = rest.split_at(Driver::SIZE);
+    let none = |whose: &str| format!("its bytes for {whose} are no record (refusal 1): give a file that --keep has written");
+    Ok(Records {
+        tuner: Tuner::from_bytes(tuner).map_err(|_| none("the tuner"))?,
+        driver: Driver::from_bytes(driver).map_err(|_| none("the driver"))?,
+        owed: owed.first_chunk().and_then(Owed::read).ok_or_else(|| none("what is owed"))?,
+    })
 }
 
 /// The same, told as a mistake of what `named` the file.
-pub fn judged(bytes: &[u8], named: &str, out: &mut Out) -> Option<(Tuner, Driver)> {
+pub fn judged(bytes: &[u8], named: &str, out: &mut Out) -> Option<Records> {
     read(bytes).map_err(|why| out.mistake(&format!("{named}: {why}"))).ok()
 }
 
-pub fn write(tuner: &Tuner, driver: &Driver) -> Vec<u8> {
-    [&tuner.as_bytes()[..], &driver.as_bytes()[..]].concat()
+pub fn write(records: &Records) -> Vec<u8> {
+    [&records.tuner.as_bytes()[..], &records.driver.as_bytes()[..], &records.owed.bytes()].concat()
 }
 
 #[cfg(test)]
@@ -44,11 +63,12 @@ mod tests {
     fn there_and_back() {
         let tuner = Tuner::new(TunerKind::R820t, 0x34, 28_800_000).unwrap();
         let driver = Driver::new(Board::Generic, 28_800_000, -5, 7, 9).unwrap();
-        let bytes = write(&tuner, &driver);
+        let records = Records { tuner, driver, owed: Owed::fresh() };
+        let bytes = write(&records);
         assert_eq!(bytes.len(), SIZE);
-        assert_eq!(read(&bytes), Ok((tuner, driver)));
+        assert_eq!(read(&bytes), Ok(records));
         for length in [0, 1, Tuner::SIZE, SIZE - 1] {
-            assert!(read(&bytes[..length]).unwrap_err().ends_with(&format!("here are {length}: give a file that --keep has written")));
+            assert!(read(&bytes[..length]).unwrap_err().contains(&format!("here are {length}")));
         }
         for length in OLD {
             assert!(read(&vec![0; length]).unwrap_err().contains(&format!("here are {length}, as an older version kept")));
@@ -61,5 +81,6 @@ mod tests {
         };
         assert!(spoiled(0).starts_with("its bytes for the tuner"));
         assert!(spoiled(Tuner::SIZE).starts_with("its bytes for the driver"));
+        assert!(spoiled(SIZE - Owed::SIZE + 1).starts_with("its bytes for what is owed"));
     }
 }

@@ -1,17 +1,22 @@
-//! `reload`: the way back after a step that failed. It sends a kept record's shadow again, every register of it.
+//! `reload`: the first half of the way back after a step that failed. It sends a kept record's shadow again, every register of it; the call that was cut is
+//! then made again.
 use crate::answer::{self, Wish};
 use crate::command::{Given, Key};
-use crate::files::{self, called, is_standard, shown};
-use crate::out::{End, Out};
+use crate::files::{self, called, is_standard};
+use crate::out::Out;
+use crate::record::Records;
 use crate::run::Run;
-use crate::{json, names, record, report, script};
-use pasetone::{Driver, Tuner};
+use crate::{advice, json, names, record, report, script};
+use pasetone::Tuner;
 
 pub const MORE: &[&str] = &[
     "RECORD is a file that --keep has written. The call sends the bytes of the record's shadow to the",
-    "registers 0x05 to 0x1f. Where every step is done, none is doubtful any more: it is the way back",
-    "after a step that failed. It talks to no receiver: outcomes stand in for one. The record's file",
-    "stays as it is; --keep writes the next record, and may name the same file.",
+    "registers 0x05 to 0x1f. Where every step is done, none is doubtful any more. It is half of the way",
+    "back after a step that failed: the shadow has the bytes that the cut call came to, so the receiver",
+    "may stand beside its station, and of demodulator and board's input nothing is sent at all. Make the",
+    "call that was cut again, until it is done; the line that reload ends with has it. It talks to no",
+    "receiver: outcomes stand in for one. The record's file stays as it is; --keep writes the next",
+    "record, and may name the same file.",
 ];
 
 pub const OPTIONS: &[Key] = &[Key::Fail, Key::Outcomes, Key::Keep, Key::Section, Key::Append, Key::Json, Key::Quiet];
@@ -24,35 +29,34 @@ pub fn run(given: &Given, out: &mut Out) {
     }
     let records = kept(given, out);
     let outcomes = script::outcomes(given, fail, out);
-    let Some((tuner, driver)) = records.filter(|_| !out.is_mistaken()) else { return };
+    let Some(records) = records.filter(|_| !out.is_mistaken()) else { return };
     let files = given.kept_files(out);
-    if out.is_mistaken() {
-        return;
-    }
-    let (before, table) = (tuner.clone(), driver.board().table());
-    let run = Run::reload(tuner, driver, outcomes);
-    let wish = Wish { hz: 0, rate: 0, table: &table, keep: given.word(Key::Keep).map(shown) };
+    let (false, [name]) = (out.is_mistaken(), given.operands.as_slice()) else { return };
+    let (before, table) = (records.tuner.clone(), records.driver.board().table());
+    let run = Run::reload(records, outcomes);
+    let kept = given.word(Key::Keep).unwrap_or(name);
+    let again = run.records.as_ref().map_or_else(String::new, |records| advice::reload_again(kept, given, records));
+    let wish = Wish { hz: 0, rate: 0, table: &table, again: again.clone() };
     let told = answer::of(&run, &wish);
     let unreached = fail.filter(|step| run.steps <= *step);
     if given.has(Key::Json) {
         let mut fields = vec![("receiver", receiver_json(&before))];
         fields.extend(report::run_json(&run, &told, unreached));
-        fields.extend([("registers", run.records.as_ref().map_or_else(|| String::from("[]"), |(tuner, _)| report::registers_json(tuner)))]);
+        fields.extend([(
+            "registers",
+            run.records.as_ref().map_or_else(|| String::from("[]"), |records| report::registers_json(&records.tuner)),
+        )]);
         out.line(&json::document(&fields));
     } else if !given.has(Key::Quiet) {
         out.line(&head(&before));
         report::table(&run, &told, unreached, out);
-    } else if told.number > 0 {
-        out.tell(End::Refused, &told.in_one_line());
     }
-    if told.number > 0 {
-        out.ends(End::Refused);
-    }
+    report::ended(&run, &told, &again, given.has(Key::Quiet), out);
     run.keep(files, out);
 }
 
 /// The record that the one operand names.
-fn kept(given: &Given, out: &mut Out) -> Option<(Tuner, Driver)> {
+fn kept(given: &Given, out: &mut Out) -> Option<Records> {
     let [name] = given.operands.as_slice() else {
         out.mistake("reload wants one file that --keep has written, or - for standard input");
         return None;

@@ -2,8 +2,9 @@
 use crate::answer::Told;
 use crate::boards::Place;
 use crate::names::{self, Gain, gain_step};
-use crate::out::Out;
+use crate::out::{End, Out};
 use crate::run::{Asked, Call, Made, Run, Start};
+use crate::standing::Standing;
 use crate::{json, rows};
 use pasetone::{Plan, Tuner, TunerKind};
 
@@ -26,13 +27,13 @@ impl Head {
             Start::Fresh { kind, address, reference, .. } => {
                 Head { kind: *kind, address: *address, place, reference: *reference, settings, kept: None }
             }
-            Start::Kept { tuner, driver } => Head {
-                kind: tuner.kind(),
-                address: tuner.address(),
+            Start::Kept(records) => Head {
+                kind: records.tuner.kind(),
+                address: records.tuner.address(),
                 place,
-                reference: tuner.nominal(),
+                reference: records.tuner.nominal(),
                 settings,
-                kept: Some((driver.rate(), tuner.gain())),
+                kept: Some((records.driver.rate(), records.tuner.gain())),
             },
         }
     }
@@ -97,7 +98,7 @@ impl Report {
 
     /// The true rate beside a rate, where the record has it.
     fn true_rate(&self, rate: u32) -> String {
-        let driver = self.run.records.as_ref().map(|(_, driver)| driver);
+        let driver = self.run.records.as_ref().map(|records| &records.driver);
         let set = driver.filter(|driver| driver.rate() == rate && driver.true_rate() != 0);
         set.map_or_else(String::new, |driver| format!(" (true rate {})", driver.true_rate()))
     }
@@ -105,7 +106,7 @@ impl Report {
     /// The tuner's corrected reference, where a correction was taken now or before.
     fn corrected(&self) -> Option<u32> {
         let taken = self.run.made.iter().any(|made| made.call == Call::Correction && made.result.is_ok());
-        let (tuner, _) = self.run.records.as_ref()?;
+        let tuner = &self.run.records.as_ref()?.tuner;
         (taken || tuner.corrected() != tuner.nominal()).then(|| tuner.corrected())
     }
 
@@ -118,11 +119,11 @@ impl Report {
         ];
         fields.extend(run_json(&self.run, &self.told, self.unreached));
         fields.extend([
-            ("rate", json::maybe(records.map(|(_, driver)| driver.rate()))),
-            ("true_rate", json::maybe(records.map(|(_, driver)| driver.true_rate()))),
+            ("rate", json::maybe(records.map(|records| records.driver.rate()))),
+            ("true_rate", json::maybe(records.map(|records| records.driver.true_rate()))),
             ("tries", json::maybe(self.run.lock().map(|lock| lock.tries))),
             ("locked", json::maybe(self.run.lock().map(|lock| lock.locked))),
-            ("registers", records.map_or_else(|| String::from("[]"), |(tuner, _)| registers_json(tuner))),
+            ("registers", records.map_or_else(|| String::from("[]"), |records| registers_json(&records.tuner))),
         ]);
         out.line(&json::document(&fields));
     }
@@ -153,9 +154,9 @@ pub fn table(run: &Run, told: &Told, unreached: Option<usize>, out: &mut Out) {
     out.line("");
     told.lines(out);
     note(unreached, out);
-    if let Some((tuner, _)) = &run.records {
+    if let Some(records) = &run.records {
         out.line("");
-        rows::registers(tuner, out);
+        rows::registers(&records.tuner, out);
     }
 }
 
@@ -167,13 +168,36 @@ pub fn note(unreached: Option<usize>, out: &mut Out) {
 }
 
 /// What runs tell alike.
-pub fn run_json(run: &Run, told: &Told, unreached: Option<usize>) -> [(&'static str, String); 4] {
+pub fn run_json(run: &Run, told: &Told, unreached: Option<usize>) -> [(&'static str, String); 7] {
+    let records = run.records.as_ref();
     [
         ("calls", json::lines(run.made.iter().map(made_json))),
         ("answer", told.json(run.made.last().map(|made| made.call))),
         ("steps", run.steps.to_string()),
         ("unreached", json::maybe(unreached)),
+        (
+            "owed",
+            records.map_or_else(|| String::from("[]"), |records| json::array(records.owed.calls().iter().map(|call| json::string(call)))),
+        ),
+        ("station_known", records.is_some_and(|records| records.owed.is_station_known()).to_string()),
+        ("status", how(run, told).status().to_string()),
     ]
+}
+
+/// How a run ends: by its answer, and where that is done by how it leaves the receiver.
+fn how(run: &Run, told: &Told) -> End {
+    told.end().max(run.records.as_ref().filter(|_| told.number == 0).map_or(End::Done, |records| Standing::of(records).end()))
+}
+
+/// The end of every run: the answer in one line where nothing else was printed, and how the receiver stands where it was done.
+pub fn ended(run: &Run, told: &Told, again: &str, quiet: bool, out: &mut Out) {
+    if told.number > 0 && quiet {
+        out.tell(told.end(), &told.in_one_line());
+    }
+    out.ends(told.end());
+    if let Some(records) = run.records.as_ref().filter(|_| told.number == 0) {
+        Standing::of(records).tell(again, out);
+    }
 }
 
 pub fn registers_json(tuner: &Tuner) -> String {

@@ -12,7 +12,8 @@ pub const MORE: &[&str] = &[
     "standard input. The list names each register of the chip whose last write was done, once, with",
     "its byte, in runs of at most seven: no list has fewer writes. It leaves those whose last write",
     "failed or that none writes, which `held` tells. Sent behind an open repeater it brings any chip",
-    "there. --out writes it as a section. Where a section is damaged no list is made.",
+    "there, but for what it leaves: then the exit status is 5. --out writes it as a section. Where a",
+    "section is damaged no list is made.",
 ];
 
 pub const OPTIONS: &[Key] = &[Key::Chip, Key::Out, Key::Json, Key::Quiet];
@@ -28,6 +29,7 @@ pub fn run(given: &Given, out: &mut Out) {
     } else if !given.has(Key::Quiet) {
         table(&day, &chip, out);
     }
+    chip.tell_doubt(given, out);
     if let Some(sink) = sink {
         sink.keep_or_tell(chip.list.bytes(), "--out", out);
     }

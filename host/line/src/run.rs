@@ -2,6 +2,8 @@
 use crate::command::Kept;
 use crate::names::{Gain, decibels};
 use crate::out::Out;
+use crate::owed::{Job, Owed, RATE};
+use crate::record::Records;
 use pasetone::{Answer, Board, Driver, Error, Lock, Need, Script, Table, Transcript, Tuner, TunerKind, demod};
 
 /// The calls by the names that are printed.
@@ -62,14 +64,14 @@ impl Call {
 /// What a run begins with.
 pub enum Start {
     Fresh { kind: TunerKind, address: u8, board: Board, reference: u32 },
-    Kept { tuner: Tuner, driver: Driver },
+    Kept(Box<Records>),
 }
 
 impl Start {
     pub fn kind(&self) -> TunerKind {
         match self {
             Start::Fresh { kind, .. } => *kind,
-            Start::Kept { tuner, .. } => tuner.kind(),
+            Start::Kept(records) => records.tuner.kind(),
         }
     }
 }
@@ -98,8 +100,8 @@ pub struct Made {
 }
 
 pub struct Run {
-    /// Both, or none where one could not be made.
-    pub records: Option<(Tuner, Driver)>,
+    /// All, or none where one could not be made.
+    pub records: Option<Records>,
     pub made: Vec<Made>,
     pub steps: usize,
     outcomes: Vec<u8>,
@@ -111,31 +113,44 @@ impl Run {
     /// Makes all calls that lead to a frequency, over what a run begins with.
     pub fn hop(start: Start, asked: &Asked, table: &Table, outcomes: Vec<u8>, replies: Vec<u8>) -> Run {
         let mut run = Run { records: None, made: Vec::new(), steps: 0, outcomes, replies };
-        if let Some((mut tuner, mut driver)) = run.begin(start, asked.hz) {
-            run.sequence(&mut tuner, &mut driver, asked, table);
-            run.records = Some((tuner, driver));
+        if let Some(mut records) = run.begin(start, asked) {
+            run.sequence(&mut records, asked, table);
+            // A run that was cut before its tuning was on its way there.
+            if run.was_cut() {
+                records.owed.hz = asked.hz;
+            }
+            run.records = Some(records);
         }
         run
     }
 
     /// Sends a kept record's shadow again.
-    pub fn reload(mut tuner: Tuner, driver: Driver, outcomes: Vec<u8>) -> Run {
+    pub fn reload(mut records: Records, outcomes: Vec<u8>) -> Run {
         let mut run = Run { records: None, made: Vec::new(), steps: 0, outcomes, replies: Vec::new() };
-        let answer = tuner.reload(&run.script());
-        run.stepped(Call::Reload, answer);
-        run.records = Some((tuner, driver));
+        let answer = records.tuner.reload(&run.script());
+        run.stepped(Call::Reload, Job::Reload, answer, &mut records);
+        run.records = Some(records);
         run
     }
 
     /// The records. A fresh driver is made for the frequency that is asked for, which says how the sample rate turns the spectrum; a kept one is where its last
-    /// tuning went, and the tuning to come turns the spectrum by itself.
-    fn begin(&mut self, start: Start, hz: u64) -> Option<(Tuner, Driver)> {
+    /// tuning went, and the tuning to come turns the spectrum by itself. A fresh receiver owes every call that is asked for, so that a run which stops
+    /// before one of them leaves that in the record.
+    fn begin(&mut self, start: Start, asked: &Asked) -> Option<Records> {
         match start {
             Start::Fresh { kind, address, board, reference } => {
                 let tuner = self.fresh(Call::FreshTuner, Tuner::new(kind, address, reference))?;
-                Some((tuner, self.fresh(Call::FreshDriver, Driver::new(board, reference, 0, hz, 0))?))
+                let driver = self.fresh(Call::FreshDriver, Driver::new(board, reference, 0, asked.hz, 0))?;
+                let owed = Owed {
+                    rate: asked.rate.filter(|rate| *rate > 0).or(Some(RATE)),
+                    gain: asked.gain,
+                    if_hz: asked.if_hz,
+                    hz: asked.hz,
+                    ..Owed::fresh()
+                };
+                Some(Records { tuner, driver, owed })
             }
-            Start::Kept { tuner, driver } => Some((tuner, driver)),
+            Start::Kept(records) => Some(*records),
         }
     }
 
@@ -144,39 +159,45 @@ impl Run {
         made.map_err(|error| self.after(call, Err(error), Transcript::default())).ok()
     }
 
-    fn sequence(&mut self, tuner: &mut Tuner, driver: &mut Driver, asked: &Asked, table: &Table) -> Option<()> {
+    fn sequence(&mut self, records: &mut Records, asked: &Asked, table: &Table) -> Option<()> {
         if let Some(ppm) = asked.ppm {
-            let corrected = driver.set_ppm(tuner, ppm);
-            self.after(Call::Correction, corrected, Transcript::default())?;
+            let corrected = records.driver.set_ppm(&mut records.tuner, ppm);
+            self.stepped(Call::Correction, Job::Correction, Answer { result: corrected, transcript: Transcript::default() }, records)?;
         }
         if asked.initialise {
-            let answer = tuner.initialize(&self.script());
-            self.stepped(Call::Initialise, answer)?;
+            let answer = records.tuner.initialize(&self.script());
+            self.stepped(Call::Initialise, Job::Initialise, answer, records)?;
         }
         if let Some(rate) = asked.rate {
-            let answer = driver.set_sample_rate(tuner, table, rate, &self.script());
-            self.stepped(Call::SampleRate, answer)?;
+            let answer = records.driver.set_sample_rate(&mut records.tuner, table, rate, &self.script());
+            self.stepped(Call::SampleRate, Job::Rate(rate), answer, records)?;
         }
         if let Some(gain) = asked.gain {
             let answer = match gain {
-                Gain::Tenths(tenths) => tuner.set_gain(decibels(tenths), &self.script()),
-                Gain::Index(index) => tuner.set_gain_by_index(usize::from(index), &self.script()),
+                Gain::Tenths(tenths) => records.tuner.set_gain(decibels(tenths), &self.script()),
+                Gain::Index(index) => records.tuner.set_gain_by_index(usize::from(index), &self.script()),
             };
-            self.stepped(Call::Gain, answer)?;
+            self.stepped(Call::Gain, Job::Gain(gain), answer, records)?;
         }
-        if let Some(hz) = asked.if_hz.filter(|hz| u64::from(*hz) != tuner.if_freq()) {
-            let answer = tuner.set_if_freq(hz.into(), &self.script());
-            self.stepped(Call::If, answer)?;
-            let answer = demod::set_if_freq_xtal(hz, driver.corrected_xtal_hz(), &self.script());
-            self.stepped(Call::DemodIf, answer)?;
-        }
-        let answer = driver.tune_board(tuner, table, asked.hz, &self.script());
+        self.own_if(records, asked)?;
+        let answer = records.driver.tune_board(&mut records.tuner, table, asked.hz, &self.script());
         let lock = answer.lock;
-        let ended = self.stepped(Call::Tune, answer.into());
+        let ended = self.stepped(Call::Tune, Job::Tune(asked.hz), answer.into(), records);
         if let Some(made) = self.made.last_mut() {
             made.lock = Some(lock);
         }
         ended
+    }
+
+    /// An IF of the site's own, on tuner and demodulator. The tuner's record has it before its first write is tried, so one that was cut is made again
+    /// whatever the record says.
+    fn own_if(&mut self, records: &mut Records, asked: &Asked) -> Option<()> {
+        let cut = records.owed.if_hz.is_some();
+        let Some(hz) = asked.if_hz.filter(|hz| cut || u64::from(*hz) != records.tuner.if_freq()) else { return Some(()) };
+        let answer = records.tuner.set_if_freq(hz.into(), &self.script());
+        self.stepped(Call::If, Job::If(hz), answer, records)?;
+        let answer = demod::set_if_freq_xtal(hz, records.driver.corrected_xtal_hz(), &self.script());
+        self.stepped(Call::DemodIf, Job::DemodIf(hz), answer, records)
     }
 
     /// What is left of the script for the next call: no call needs more than `Script` has.
@@ -185,8 +206,10 @@ impl Run {
         Script::new(left(&self.outcomes, self.steps, Script::OUTCOMES), left(&self.replies, 0, Script::REPLIES))
     }
 
-    fn stepped<T>(&mut self, call: Call, answer: Answer<T>) -> Option<()> {
-        self.after(call, answer.result.map(drop), answer.transcript)
+    fn stepped<T>(&mut self, call: Call, job: Job, answer: Answer<T>, records: &mut Records) -> Option<()> {
+        let result = answer.result.map(drop);
+        records.owed.made(job, result, &answer.transcript, &records.tuner, &records.driver);
+        self.after(call, result, answer.transcript)
     }
 
     /// Behind a call: what it made. `None` where the run is at its end.
@@ -196,6 +219,11 @@ impl Run {
         self.steps += transcript.len();
         self.made.push(Made { call, first, transcript, result, lock: None, left });
         result.ok()
+    }
+
+    /// Whether a step stopped it.
+    pub fn was_cut(&self) -> bool {
+        self.made.last().is_some_and(|made| matches!(made.result, Err(Error::Step { .. })))
     }
 
     /// How the tuning's waiting for a lock went, where the run came to it.

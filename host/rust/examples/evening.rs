@@ -104,7 +104,10 @@ fn main() -> Result<(), Error> {
     print_doubtful(&tuner);
     compare(&last_night.transcript, &tonight.transcript)?;
     restore(&[first.transcript.bytes(), tonight.transcript.bytes()].concat())?;
+    // Half of the way back: N is the new station's, the sum the old one's.
     print_answer("reload", &tuner.reload(&Script::all_done()));
     print_doubtful(&tuner);
+    print_tuning("the same tune again", &driver.tune_board(&mut tuner, &table, frequency, &script));
+    println!("frequency: {} Hz", driver.frequency());
     Ok(())
 }

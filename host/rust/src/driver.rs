@@ -116,14 +116,15 @@ impl Driver {
 
     /// The sample rate, on tuner and demodulator: 17 outcomes. Updates both records whenever it took steps: the tuner's IF changes before the
     /// first, the driver's rate and true rate when all are done. An IF of 0 stays 0. The spectrum follows the table's plan for the driver's frequency, and is
-    /// not inverted where the table has none; [`Board::table`] is that of a built-in board.
+    /// not inverted where the table has none; [`Board::table`] is that of a built-in board. It moves the IF and tunes nothing: tune after it.
     ///
     /// # Errors
     ///
     /// - [`Error::Rate`] (3): `rate` is 0.
     /// - [`Error::Ratio`] (13): the resampler cannot hold it with the corrected reference. At 28,800,000 Hz it holds 225,001 to 300,000, and 900,001 up.
     /// - [`Error::Outcomes`] (9): fewer than 17 outcomes.
-    /// - [`Error::Step`] (11): a step failed, and the steps before it stand.
+    /// - [`Error::Step`] (11): a step failed, and the steps before it stand. The demodulator's rate and IF are not known until a rate is done: a reload
+    ///   sends nothing there.
     pub fn set_sample_rate(&mut self, tuner: &mut Tuner, table: &Table, rate: u32, script: &Script) -> Answer<()> {
         let (mut next_driver, mut next_tuner) = (self.record, *tuner.as_bytes());
         let (d, t, b, o) = (&self.record, tuner.as_bytes(), table.as_bytes(), script.outcomes());

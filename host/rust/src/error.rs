@@ -143,7 +143,7 @@ impl Error {
                 "the script has too few replies: take Script::all_done, which has enough for every call, and an index below its length"
             }
             Error::Step { .. } => {
-                "a step failed, and the steps before it stand: see the transcript, reload a tuner with doubtful registers, and make the call again"
+                "a step failed, and the steps before it stand: reload the tuner, then make the same call again until it is done; what it wrote to the demodulator or the GPIO no reload repairs"
             }
             Error::Section => "the bytes do not end in a section: give a whole one, its trailer last",
             Error::Ratio => {

@@ -20,10 +20,15 @@
 //! assert_eq!(answer.transcript.len(), 15);
 //! assert_eq!(tuner.doubtful().collect::<Vec<_>>(), [0x14]);
 //!
+//! // Every register again: nothing is doubtful, and the chip has N of the new frequency and the sum of the old one. So the same call again.
 //! tuner.reload(&Script::all_done()).result?;
 //! assert_eq!(tuner.doubtful().count(), 0);
+//! assert_eq!(tuner.set_frequency(100_000_000, &Script::all_done()).result, Ok(100_000_000));
 //! # Ok::<(), Error>(())
 //! ```
+//!
+//! The way back after a failed step: [`Tuner::reload`], then the same call again until it is done. What the call wrote to the demodulator, the GPIO or the
+//! board's input a reload does not repair. A sample rate moves the IF: tune after it.
 //!
 //! # On a receiver
 //!

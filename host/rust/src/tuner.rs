@@ -235,8 +235,11 @@ impl Tuner {
         }))
     }
 
-    /// Sends the shadow again, every register of it: 9 outcomes. All done, none is doubtful and the chip holds the shadow: the way back after
-    /// [`Error::Step`]. The shadow stays.
+    /// Sends the shadow again, every register of it: 9 outcomes. All done, none is doubtful and the chip holds the shadow. The shadow stays.
+    ///
+    /// It is half of the way back after [`Error::Step`]: the shadow has the bytes that the cut call came to, so a tuning that was cut and only reloaded may
+    /// stand beside its station with no register doubtful, and of the demodulator, the GPIO and the board's input nothing is sent. Reload, then make the
+    /// same call again until it is done; after a sample rate or an IF the tuning too.
     ///
     /// # Errors
     ///
