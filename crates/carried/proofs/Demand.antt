@@ -16,8 +16,8 @@ use lib.ListN.{getD, length, take, drop, List·getD-map}
 use lib.Seq.{getD-drop, getD-take, sets}
 use Rattle.transcript.specs.declared.Entry.{Entry}
 use Rattle.transcript.specs.Sections.{AllFit, Parted}
-use Rattle.attempts.specs.Attempts.{Played, Regs, byteIn, doubtIn, lastIn}
-use Rattle.attempts.specs.Attempts.Last.{Never, Tried}
+use Rattle.attempts.specs.Attempts.{Played, Regs, byteIn, doubtIn, lastIn, tunerAt}
+use Rattle.attempts.specs.Namings.Last.{Never, Tried}
 use Rattle.attempts.proofs.Doubt.{InVain, doubt-any, doubt-exactly, sure-byte}
 use Rattle.attempts.proofs.Played.{last-done, last-never, some-played}
 use Rattle.wire.specs.Bytes.{leBytes}
@@ -313,24 +313,24 @@ module _ (b : List ℕ) (es : List Entry) (c : Carried b es) where
   module _ (before now : Regs) (played : Played (getD b 1 0) es before now) where
     -- (b) "a register whose last attempt was done holds the byte sent": any register, also past 0x1f
     pub done-holds : (r byte : ℕ) → lastIn (getD b 1 0) es r ≡ Tried byte true → now r ≡ byte
-    done-holds r byte h = last-done (getD b 1 0) es before now played r byte h
+    done-holds r byte h = last-done (tunerAt (getD b 1 0)) es before now played r byte h
 
     pub never-kept : (r : ℕ) → lastIn (getD b 1 0) es r ≡ Never → now r ≡ before r
-    never-kept r h = last-never (getD b 1 0) es before now played r h
+    never-kept r h = last-never (tunerAt (getD b 1 0)) es before now played r h
 
     -- so where the doubtful byte is 0 the chip holds the shadow's
     pub sure-holds : (i : ℕ) → i < 27 → getD b (51 + i) 1 ≡ 0 → now (5 + i) ≡ getD b (2 + i) 0
     sure-holds i h d =
-        sure-byte (getD b 1 0) es before now (5 + i) (getD initArray i 0) played (flag-none (doubtIn (lastIn (getD b 1 0) es (5 + i))) (sym (doubtful-byte i h) ∙ d))
+        sure-byte (tunerAt (getD b 1 0)) es before now (5 + i) (getD initArray i 0) played (flag-none (doubtIn (lastIn (getD b 1 0) es (5 + i))) (sym (doubtful-byte i h) ∙ d))
         ∙ sym (shadow-byte i h)
 
   -- (f) there is such a chip, whatever the chip to start from; and where the doubtful byte is 1 it may hold any byte
   pub some-chip : (before : Regs) → (now : Regs) × Played (getD b 1 0) es before now
-  some-chip before = some-played (getD b 1 0) es before
+  some-chip before = some-played (tunerAt (getD b 1 0)) es before
 
   pub doubtful-any : (i x : ℕ) → i < 27 → getD b (51 + i) 1 ≡ 1 → (before : Regs) × (now : Regs) × Played (getD b 1 0) es before now × (now (5 + i) ≡ x)
   doubtful-any i x h d =
-      doubt-any (getD b 1 0) es (5 + i) x (flag-one (doubtIn (lastIn (getD b 1 0) es (5 + i))) .0 (sym (doubtful-byte i h) ∙ d))
+      doubt-any (tunerAt (getD b 1 0)) es (5 + i) x (flag-one (doubtIn (lastIn (getD b 1 0) es (5 + i))) .0 (sym (doubtful-byte i h) ∙ d))
 
   -- every entry that the host read fits the table
   pub carried-fits : AllFit es

@@ -9,9 +9,11 @@ use borrow.Author.Tests.{eqb-true, ltb-false, ltb-true, not-true}
 use lib.Dec.{eqb, leb, ltb}
 use lib.ListN.{getD, length}
 use Rattle.transcript.specs.declared.Entry.{Entry}
-use Rattle.attempts.specs.Attempts.{Last, Played, Regs, byteIn, doubtIn, lastFrom, lastIn, names}
-use Rattle.attempts.specs.Attempts.Last.{Never}
-use Rattle.attempts.proofs.Named.{below-first, known, last-append, last-known, last-same, other-kind, past-last}
+use Rattle.attempts.specs.Attempts.{Last, Played, Regs, byteIn, doubtIn, lastFrom, lastIn, names, tunerAt}
+use Rattle.attempts.specs.Namings as any
+use Rattle.attempts.specs.Namings.Last.{Never}
+use Rattle.attempts.proofs.Named.{below-first, other-kind, past-last}
+use Rattle.attempts.proofs.Lasts.{known, last-append, last-known, last-same}
 use Rattle.attempts.proofs.Played.{last-never}
 use Rattle.board.specs.declared.Path.{Path}
 use Rattle.board.specs.declared.Path.the-variants.{Hf, Vhf, Uhf}
@@ -91,7 +93,7 @@ module _ (r : ℕ) (five : standsBy r ≡ true) where
           absurd (true≢false (sym five ∙ ap standsBy equal ∙ not-it))
 
   unnamed-trace : (os : List ℕ) (ss : List Step) (c : Chip) → every (λ (s : Step). fine s && elsewhere s) ss ≡ true → lastIn (c .address) (trace os ss c .log) r ≡ Never
-  unfolding trace lastFrom attemptedBy
+  unfolding trace any.lastFrom attemptedBy
   unnamed-trace os ss c g = run-keeps os (λ (u : Trace). (u .chip .address ≡ c .address) × (lastIn (c .address) (u .log) r ≡ Never)) (λ s. fine s && elsewhere s) keeps ss _ g (refl, refl) .1
     where
       address : (s : Step) (u : Trace) (ok : Bool) → taken inList os ok s u .chip .address ≡ u .chip .address
@@ -107,7 +109,7 @@ module _ (r : ℕ) (five : standsBy r ≡ true) where
       keeps s u q a p =
           let ok : Bool = okFor os (u .count) s in
           let none : names (c .address) (emit s (u .chip) ok) r ≡ false = subst (λ (x : ℕ). names x (emit s (u .chip) ok) r ≡ false) (p .0) (unnamed s (u .chip) ok q) in
-          (address s u ok ∙ p .0, last-same (c .address) (u .log) (emit s (u .chip) ok) r none ∙ p .1)
+          (address s u ok ∙ p .0, last-same (tunerAt (c .address)) (u .log) (emit s (u .chip) ok) r none ∙ p .1)
 
 every-both : {A : Type 0} (f h : A → Bool) (l : List A) → every f l ≡ true → every h l ≡ true → every (λ (a : A). f a && h a) l ≡ true
 unfolding every
@@ -185,7 +187,7 @@ row-apart (BoardTune hz table rs d) t h = absurd (true≢false h)
 
 module _ (t : Tuner) (es : List Entry) (s : Sequence t es) (k : Call) (g : given (k .order) t ≡ true) (h : retunes (k .order) ≡ false) where
   never : (r : ℕ) → standsBy r ≡ true → lastIn (t .chip .address) (entries k t) r ≡ Never
-  unfolding lastFrom
+  unfolding any.lastFrom
   never r five = go (eqb (asked k t .number) 0)
     where
       all : every (λ (x : Step). fine x && elsewhere x) (asked k t .steps) ≡ true
@@ -200,7 +202,7 @@ module _ (t : Tuner) (es : List Entry) (s : Sequence t es) (k : Call) (g : given
   -- on every chip on which its entries were played
   module _ (now after : Regs) (played : Played (t .chip .address) (entries k t) now after) where
     pub unmoved : (r : ℕ) → standsBy r ≡ true → after r ≡ now r
-    unmoved r five = last-never (t .chip .address) (entries k t) now after played r (never r five)
+    unmoved r five = last-never (tunerAt (t .chip .address)) (entries k t) now after played r (never r five)
 
     pub unmoved-hz : (reference : ℕ) → hzIn reference after ≡ hzIn reference now
     unmoved-hz reference = same-hz reference after now unmoved
@@ -231,8 +233,8 @@ module _ (t : Tuner) (es : List Entry) (s : Sequence t es) (k : Call) (g : given
   same-last r five =
       let a : ℕ = t .chip .address in
       ap (λ (x : ℕ). lastIn x (es ++ entries k t) r) same-address
-      ∙ last-append a Never es (entries k t) r
-      ∙ last-known a (lastIn a es r) (entries k t) r
+      ∙ last-append (tunerAt a) Never es (entries k t) r
+      ∙ last-known (tunerAt a) (lastIn a es r) (entries k t) r
       ∙ ap (λ (l : Last). known l (lastIn a es r)) (never r five)
 
   pub unmoved-record : (i : ℕ) → i < 27 → standsBy (5 + i) ≡ true
@@ -246,7 +248,7 @@ module _ (t : Tuner) (es : List Entry) (s : Sequence t es) (k : Call) (g : given
 -- ---- calls that take no record: they name no register at all
 
 beside-never : (address r : ℕ) (os : List ℕ) (ss : List Step) (c : Chip) → every beside ss ≡ true → lastIn address (trace os ss c .log) r ≡ Never
-unfolding trace lastFrom
+unfolding trace any.lastFrom
 beside-never address r os ss c g = run-keeps os (λ (u : Trace). lastIn address (u .log) r ≡ Never) beside keeps ss _ g refl
   where
     none-named : (s : Step) (d : Chip) (ok : Bool) → beside s ≡ true → names address (emit s d ok) r ≡ false
@@ -258,11 +260,11 @@ beside-never address r os ss c g = run-keeps os (λ (u : Trace). lastIn address 
 
     keeps : (s : Step) (u : Trace) → beside s ≡ true → acts s (u .progress) (u .opened) ≡ true → lastIn address (u .log) r ≡ Never
         → lastIn address (taken inList os (okFor os (u .count) s) s u .log) r ≡ Never
-    keeps s u q a p = last-same address (u .log) (emit s (u .chip) (okFor os (u .count) s)) r (none-named s (u .chip) (okFor os (u .count) s) q) ∙ p
+    keeps s u q a p = last-same (tunerAt address) (u .log) (emit s (u .chip) (okFor os (u .count) s)) r (none-named s (u .chip) (okFor os (u .count) s) q) ∙ p
 
 pub aside-unmoved : (a : Aside) → asideGiven (a .other) ≡ true → (address : ℕ) (now after : Regs) → Played address (asideEntries a) now after → (r : ℕ) → after r ≡ now r
-unfolding lastFrom
-aside-unmoved a g address now after played r = last-never address (asideEntries a) now after played r (go (eqb (asideAsked a .number) 0))
+unfolding any.lastFrom
+aside-unmoved a g address now after played r = last-never (tunerAt address) (asideEntries a) now after played r (go (eqb (asideAsked a .number) 0))
   where
     steps : every beside (asideAsked a .steps) ≡ true
     steps =
