@@ -103,7 +103,7 @@ fn word(s: &[u8], at: usize) -> u32
     requires { ⌜ at + 4 ≤ length (now s) ⌝ }
     ensures { λ r. ⌜ (r ≡ leValue (take 4 (drop at (now (s .entry))))) × (r < 4294967296) ⌝ }
 {
-    wire::get(s, at, 4) as u32
+    wire::four(s, at)
 }
 
 // Sixteen signed numbers of their bytes.

@@ -1,5 +1,5 @@
--- What a doubt is: the demand's words, and what the entries settle of a register's byte and what not. The premises stand at the head of
--- specs/Attempts.antt.
+-- What a doubt is: the demand's words, and what the entries settle of a place's byte and what not. The premises stand at the head of
+-- specs/Namings.antt.
 -- Assumes nothing.
 use Prim.Native.Nat.{ℕ}
 use mathlib.Core.Path.{_≡_, refl, sym, ap, _∙_}
@@ -7,8 +7,8 @@ use mathlib.Core.Bool.{true, false, true≢false, false≢true}
 use mathlib.Core.List.{List}
 use mathlib.Core.Logic.{_⊎_, _↔_, inl, inr}
 use Rattle.transcript.specs.declared.Entry.{Entry}
-use Rattle.attempts.specs.Attempts.{Last, Played, Regs, byteIn, doubtIn, lastIn}
-use Rattle.attempts.specs.Attempts.Last.{Never, Tried}
+use Rattle.attempts.specs.Namings.{Last, Naming, Played, byteIn, doubtIn, lastIn}
+use Rattle.attempts.specs.Namings.Last.{Never, Tried}
 use Rattle.attempts.proofs.Played.{last-done, last-never, some-played, vain-any}
 
 -- "those never attempted or last attempted in vain"
@@ -28,26 +28,27 @@ doubt-exactly l = (to l, from l)
     from l (inl e) = ap doubtIn e
     from l (inr p) = ap doubtIn (p .1)
 
--- a register without doubt holds the byte last attempted, whatever the chip was
-pub sure-byte : (address : ℕ) (es : List Entry) (before after : Regs) (r other : ℕ) → Played address es before after
-    → doubtIn (lastIn address es r) ≡ false → after r ≡ byteIn other (lastIn address es r)
-sure-byte address es before after r other p h = go (lastIn address es r) refl
-  where
-    go : (l : Last) → lastIn address es r ≡ l → after r ≡ byteIn other (lastIn address es r)
-    go Never e = absurd (true≢false (sym (ap doubtIn e) ∙ h))
-    go (Tried byte true) e = last-done address es before after p r byte e ∙ sym (ap (byteIn other) e)
-    go (Tried byte false) e = absurd (true≢false (sym (ap doubtIn e) ∙ h))
+module _ {P : Type 0} (chip : Naming P) where
+  -- a register without doubt holds the byte last attempted, whatever the chip was
+  pub sure-byte : (es : List Entry) (before after : P → ℕ) (r : P) (other : ℕ) → Played chip es before after
+      → doubtIn (lastIn chip es r) ≡ false → after r ≡ byteIn other (lastIn chip es r)
+  sure-byte es before after r other p h = go (lastIn chip es r) refl
+    where
+      go : (l : Last) → lastIn chip es r ≡ l → after r ≡ byteIn other (lastIn chip es r)
+      go Never e = absurd (true≢false (sym (ap doubtIn e) ∙ h))
+      go (Tried byte true) e = last-done chip es before after p r byte e ∙ sym (ap (byteIn other) e)
+      go (Tried byte false) e = absurd (true≢false (sym (ap doubtIn e) ∙ h))
 
--- and one with doubt may hold any byte: the entries settle nothing of it
-pub doubt-any : (address : ℕ) (es : List Entry) (r x : ℕ) → doubtIn (lastIn address es r) ≡ true
-    → (before : Regs) × (after : Regs) × Played address es before after × (after r ≡ x)
-doubt-any address es r x h = go (lastIn address es r) refl
-  where
-    go : (l : Last) → lastIn address es r ≡ l → (before : Regs) × (after : Regs) × Played address es before after × (after r ≡ x)
-    go Never e =
-        let some = some-played address es (λ q. x) in
-        (λ q. x, some .0, some .1, last-never address es (λ q. x) (some .0) (some .1) r e)
-    go (Tried byte true) e = absurd (false≢true (sym (ap doubtIn e) ∙ h))
-    go (Tried byte false) e =
-        let some = vain-any address es r byte x (λ q. 0) e in
-        (λ q. 0, some .0, some .1, some .2)
+  -- and one with doubt may hold any byte: the entries settle nothing of it
+  pub doubt-any : (es : List Entry) (r : P) (x : ℕ) → doubtIn (lastIn chip es r) ≡ true
+      → (before : P → ℕ) × (after : P → ℕ) × Played chip es before after × (after r ≡ x)
+  doubt-any es r x h = go (lastIn chip es r) refl
+    where
+      go : (l : Last) → lastIn chip es r ≡ l → (before : P → ℕ) × (after : P → ℕ) × Played chip es before after × (after r ≡ x)
+      go Never e =
+          let some = some-played chip es (λ q. x) in
+          (λ q. x, some .0, some .1, last-never chip es (λ q. x) (some .0) (some .1) r e)
+      go (Tried byte true) e = absurd (false≢true (sym (ap doubtIn e) ∙ h))
+      go (Tried byte false) e =
+          let some = vain-any chip es r byte x (λ q. 0) e in
+          (λ q. 0, some .0, some .1, some .2)

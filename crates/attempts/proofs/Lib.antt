@@ -1,4 +1,5 @@
 pub mod Named
+pub mod Lasts
 pub mod Played
 pub mod Doubt
 pub mod Worked

@@ -4,8 +4,9 @@ use mathlib.Core.Path.{_≡_, refl}
 use mathlib.Core.List.{[], _∷_}
 use mathlib.Core.Bool.{true, false}
 use Rattle.transcript.specs.declared.Entry.{Entry}
-use Rattle.attempts.specs.Attempts.{lastFrom, lastIn, names}
-use Rattle.attempts.specs.Attempts.Last.{Never, Tried}
+use Rattle.attempts.specs.Attempts.{lastIn, names}
+use Rattle.attempts.specs.Namings.{lastFrom}
+use Rattle.attempts.specs.Namings.Last.{Never, Tried}
 
 -- 02 00 74 02 00 00 00 00 0a d8 00 00 00 00 00 00
 abbrev bandwidth : Entry

@@ -2,8 +2,7 @@
 // it. Document 02, #113, "Boards from a table". It knows no record and no step; the calls that plan by a table lean on it.
 ghost use mathlib.Core.Path.{_≡_};
 ghost use Prim.Native.Nat.{_+_, _≤_};
-ghost use lib.ListN.{length, drop, take};
-ghost use Rattle.wire.specs.Bytes.{leValue};
+ghost use lib.ListN.{length, drop};
 ghost use Rattle.board.specs.Numbers.{boardOf};
 ghost use Rattle.board.specs.declared.Board.the-variants.{Generic, V4};
 ghost use Rattle.lending.specs.Lent.{given};
@@ -52,23 +51,15 @@ pub struct Planned {
     pub plan: Plan,
 }
 
-// A number of eight bytes. A function of its own, so that the compiler sees eight bytes as one load before it puts it in line.
-fn eight(s: &[u8], at: usize) -> u64
-    requires { ⌜ at + 8 ≤ length (now s) ⌝ }
-    ensures { λ r. ⌜ r ≡ leValue (take 8 (drop at (now (s .entry)))) ⌝ }
-{
-    wire::get(s, at, 8)
-}
-
 // The band whose bytes begin at `at`.
 fn band_at(s: &[u8], at: usize) -> Band
     requires { ⌜ at + 27 ≤ length (now s) ⌝ }
     ensures { λ r. ⌜ r ≡ bandOf (drop at (now (s .entry))) ⌝ }
 {
     Band {
-        first: eight(s, at),
-        last: eight(s, at + LAST),
-        shift: eight(s, at + SHIFT),
+        first: wire::eight(s, at),
+        last: wire::eight(s, at + LAST),
+        shift: wire::eight(s, at + SHIFT),
         inverted: s[at + INVERTED],
         path: s[at + PATH],
         notch: s[at + NOTCH],

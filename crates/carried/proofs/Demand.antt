@@ -16,8 +16,8 @@ use lib.ListN.{getD, length, take, drop, List·getD-map}
 use lib.Seq.{getD-drop, getD-take, sets}
 use Rattle.transcript.specs.declared.Entry.{Entry}
 use Rattle.transcript.specs.Sections.{AllFit, Parted}
-use Rattle.attempts.specs.Attempts.{Played, Regs, byteIn, doubtIn, lastIn}
-use Rattle.attempts.specs.Attempts.Last.{Never, Tried}
+use Rattle.attempts.specs.Attempts.{Played, Regs, byteIn, doubtIn, lastIn, tunerAt}
+use Rattle.attempts.specs.Namings.Last.{Never, Tried}
 use Rattle.attempts.proofs.Doubt.{InVain, doubt-any, doubt-exactly, sure-byte}
 use Rattle.attempts.proofs.Played.{last-done, last-never, some-played}
 use Rattle.wire.specs.Bytes.{leBytes}
@@ -34,7 +34,8 @@ use Rattle.pll.specs.declared.Kind.the-variants.{R820T, R828D}
 use Rattle.writes.specs.Lists.{initArray}
 use Rattle.r82xx.specs.declared.Tuner.{Tuner}
 use Rattle.r82xx.specs.Record.{freshTuner, madeOf}
-use Rattle.r82xx.specs.Orders.Order.{Reload}
+use Rattle.r82xx.specs.Orders.Order.{Reload, Tune}
+use Rattle.records.specs.Drivers.{driverOf}
 use Rattle.records.specs.Fields.{flagByte}
 use Rattle.records.specs.Tuners.{tunerBytes, tunerOf, tunerParts, tunerWidths}
 use Rattle.records.specs.declared.TunerRead.{TunerRead}
@@ -49,18 +50,27 @@ use Rattle.sequences.specs.Sequences.{Sequence}
 use Rattle.sequences.specs.Sequences.Sequence.{fresh as first, next as more, between as aside}
 use Rattle.sequences.proofs.Demand as sequence
 use Rattle.sequences.proofs.Failed as eleven
+use Rattle.sequences.proofs.Station as station
+use Rattle.sequences.proofs.Unmoved as still
+use Rattle.sequences.specs.Retunes.{retunes}
+use Rattle.sequences.proofs.Tunings.{hop-done, tune-done}
+use Rattle.oscillator.specs.Registers.{Within, standsBy}
+use Rattle.bands.specs.Tables.{planBy}
+use Rattle.boards.specs.Hops.{pathReplies}
+use Rattle.tuning.specs.Tries.{fineOf, powerOf}
+use Rattle.sequences.specs.Calls.{isByte}
 use Rattle.sequences.proofs.Failed.{nothing-failed}
 use Rattle.history.specs.Histories.{Cut, passable, stops, progressIn}
 use Rattle.chip.specs.Steps.{Step, Trace, every, trace}
 use Rattle.chip.specs.Courses.{leftBy}
 use Rattle.chip.specs.declared.Chip.{Chip}
 use Rattle.chip.specs.declared.Progress.{Progress}
-use Rattle.sequences.specs.Calls.Order.{Tuned}
+use Rattle.sequences.specs.Calls.Order.{BoardTune, Tuned}
 use Rattle.r82xx.specs.Orders as tuner
 use Rattle.sequences.proofs.Asides.{aside-stepping}
 use Rattle.sequences.proofs.Ties.{entries-most}
 use Rattle.carried.specs.Exported.{Left, Lent, amiss, asideEntriesOf, entriesOf, leaves, lent, orderOf, readBy, typed, typedOrder, uncut}
-use Rattle.carried.specs.Exported.Exported.{Own}
+use Rattle.carried.specs.Exported.Exported.{Hop, Own}
 use Rattle.carried.specs.Carried.{Carried}
 use Rattle.carried.specs.Carried.Carried.{fresh, next, between}
 use Rattle.carried.proofs.Steady.{typed-given}
@@ -303,24 +313,24 @@ module _ (b : List ℕ) (es : List Entry) (c : Carried b es) where
   module _ (before now : Regs) (played : Played (getD b 1 0) es before now) where
     -- (b) "a register whose last attempt was done holds the byte sent": any register, also past 0x1f
     pub done-holds : (r byte : ℕ) → lastIn (getD b 1 0) es r ≡ Tried byte true → now r ≡ byte
-    done-holds r byte h = last-done (getD b 1 0) es before now played r byte h
+    done-holds r byte h = last-done (tunerAt (getD b 1 0)) es before now played r byte h
 
     pub never-kept : (r : ℕ) → lastIn (getD b 1 0) es r ≡ Never → now r ≡ before r
-    never-kept r h = last-never (getD b 1 0) es before now played r h
+    never-kept r h = last-never (tunerAt (getD b 1 0)) es before now played r h
 
     -- so where the doubtful byte is 0 the chip holds the shadow's
     pub sure-holds : (i : ℕ) → i < 27 → getD b (51 + i) 1 ≡ 0 → now (5 + i) ≡ getD b (2 + i) 0
     sure-holds i h d =
-        sure-byte (getD b 1 0) es before now (5 + i) (getD initArray i 0) played (flag-none (doubtIn (lastIn (getD b 1 0) es (5 + i))) (sym (doubtful-byte i h) ∙ d))
+        sure-byte (tunerAt (getD b 1 0)) es before now (5 + i) (getD initArray i 0) played (flag-none (doubtIn (lastIn (getD b 1 0) es (5 + i))) (sym (doubtful-byte i h) ∙ d))
         ∙ sym (shadow-byte i h)
 
   -- (f) there is such a chip, whatever the chip to start from; and where the doubtful byte is 1 it may hold any byte
   pub some-chip : (before : Regs) → (now : Regs) × Played (getD b 1 0) es before now
-  some-chip before = some-played (getD b 1 0) es before
+  some-chip before = some-played (tunerAt (getD b 1 0)) es before
 
   pub doubtful-any : (i x : ℕ) → i < 27 → getD b (51 + i) 1 ≡ 1 → (before : Regs) × (now : Regs) × Played (getD b 1 0) es before now × (now (5 + i) ≡ x)
   doubtful-any i x h d =
-      doubt-any (getD b 1 0) es (5 + i) x (flag-one (doubtIn (lastIn (getD b 1 0) es (5 + i))) .0 (sym (doubtful-byte i h) ∙ d))
+      doubt-any (tunerAt (getD b 1 0)) es (5 + i) x (flag-one (doubtIn (lastIn (getD b 1 0) es (5 + i))) .0 (sym (doubtful-byte i h) ∙ d))
 
   -- every entry that the host read fits the table
   pub carried-fits : AllFit es
@@ -468,3 +478,65 @@ module _ (b : List ℕ) (es : List Entry) (c : Carried b es) where
             ap (λ (d : List ℕ). getD d (2 + i) 0) bytes ∙ shadow-byte-of (tunerAfter (inner k refl) t) r i l ∙ w .shadow ∙ at,
             ap (λ (d : List ℕ). getD d (51 + i) 1) bytes ∙ doubtful-byte-of (tunerAfter (inner k refl) t) r i l ∙ ap flagByte (w .doubtful),
           )
+
+  -- of a call that is answered 0: so is the call behind it, and the host reads its entries
+  answered : (k : Lent) (h : typed (k .exported) ≡ true) → leaves k b .reply .refusal ≡ 0
+      → (before now : Regs) → Played (getD b 1 0) (es ++ entriesOf k b) before now
+      → (numberOf (result (inner k h) t .answer) ≡ 0) × Played (t .chip .address) (es ++ entries (inner k h) t) before now
+  answered k h e before now played = go (pass k h)
+    where
+      go : Passed t (inner k h) (number k h) (amiss (k .exported)) (leaves k b)
+          → (numberOf (result (inner k h) t .answer) ≡ 0) × Played (t .chip .address) (es ++ entries (inner k h) t) before now
+      go (away z told same bytes) = absurd (eqb-false (number k h) 0 z (sym (ap (λ (a : Reply). a .refusal) same) ∙ e))
+      go (made z told same room bytes) =
+          let all : entriesOf k b ≡ entries (inner k h) t = made-entries t es calls ranges (inner k h) h (leaves k b) same room in (
+            sym (ap (λ (a : Reply). a .refusal) same) ∙ e,
+            subst (λ (a : ℕ). Played a (es ++ entries (inner k h) t) before now) address (subst (λ (l : List Entry). Played (getD b 1 0) (es ++ l) before now) all played),
+          )
+
+  -- the record that the bytes are
+  abbrev u : Tuner
+  u = tunerOf b .tuner
+
+  same-tuner : t ≡ u
+  same-tuner = sym (ap (λ (l : List ℕ). tunerOf l .tuner) is ∙ ap (λ (r : TunerRead). r .tuner) (read-written t ranges))
+
+  -- "A recording filed under the wrong transmitter": a tuning that is answered 0, whose status asked for no repair of the divider, has the chip's oscillator at hz + IF
+  -- within 25 kHz of the VCO, on every chip and by its registers alone. IF, reference and kind are those of the bytes that it was given
+  pub on-station : (hz : ℕ) (rs os room out : List ℕ) → every isByte rs ≡ true → leaves (lent (Own (Tune hz rs)) os room out) b .reply .refusal ≡ 0
+      → fineOf (getD rs 4 0) ≡ powerOf (tunerOf b .tuner .kind)
+      → (before now : Regs) → Played (getD b 1 0) (es ++ entriesOf (lent (Own (Tune hz rs)) os room out) b) before now
+      → Within (hz + tunerOf b .tuner .ifreq) (tunerOf b .tuner .corrected) now
+  on-station hz rs os room out small e fine before now played =
+      let p = answered (lent (Own (Tune hz rs)) os room out) small e before now played in
+      subst (λ (v : Tuner). fineOf (getD rs 4 0) ≡ powerOf (v .kind) → Within (hz + v .ifreq) (v .corrected) now) same-tuner
+      (λ q. station.on-station t es calls hz rs os room (typed-given (Tuned (Tune hz rs)) t small) (tune-done t hz rs os room (p .0)) q before now (p .1)) fine
+
+  -- the same of the board-level tune, at the frequency that its table planned. The status stands behind the three replies of the board's path, where that is taken
+  pub on-station-hop : (hz : ℕ) (table rs driver slot os room out : List ℕ) → every isByte rs ≡ true
+      → leaves (lent (Hop hz table rs driver slot) os room out) b .reply .refusal ≡ 0
+      → fineOf (getD (drop (pathReplies (tunerOf b .tuner .kind) (planBy table hz .plan .path)) rs) 4 0) ≡ powerOf (tunerOf b .tuner .kind)
+      → (before now : Regs) → Played (getD b 1 0) (es ++ entriesOf (lent (Hop hz table rs driver slot) os room out) b) before now
+      → Within (planBy table hz .plan .hz + tunerOf b .tuner .ifreq) (tunerOf b .tuner .corrected) now
+  on-station-hop hz table rs driver slot os room out small e fine before now played =
+      let p = answered (lent (Hop hz table rs driver slot) os room out) small e before now played in
+      let d = driverOf driver .driver in
+      subst
+      (λ (v : Tuner). fineOf (getD (drop (pathReplies (v .kind) (planBy table hz .plan .path)) rs) 4 0) ≡ powerOf (v .kind)
+      → Within (planBy table hz .plan .hz + v .ifreq) (v .corrected) now) same-tuner
+      (λ q.
+      station.on-station-hop t es calls hz table rs d os room (typed-given (BoardTune hz table rs d) t small) (hop-done t hz table rs d os room (p .0)) q before now (p .1))
+      fine
+
+  -- a call that is no tuning, no initialising and no reload leaves the oscillator where it is, whatever its outcomes: it names none of the five registers
+  pub unmoved : (k : Lent) → typed (k .exported) ≡ true → retunes (orderOf (k .exported)) ≡ false
+      → (now after : Regs) → Played (getD b 1 0) (entriesOf k b) now after → (r : ℕ) → standsBy r ≡ true → after r ≡ now r
+  unmoved k h q now after played r five = go (pass k h)
+    where
+      go : Passed t (inner k h) (number k h) (amiss (k .exported)) (leaves k b) → after r ≡ now r
+      go (away z told same bytes) = subst (λ (l : List Entry). Played (getD b 1 0) l now after) (away-entries (leaves k b) (number k h) same) played r
+      go (made z told same room bytes) =
+          let all : entriesOf k b ≡ entries (inner k h) t = made-entries t es calls ranges (inner k h) h (leaves k b) same room in
+          let there : Played (t .chip .address) (entries (inner k h) t) now after =
+          subst (λ (a : ℕ). Played a (entries (inner k h) t) now after) address (subst (λ (l : List Entry). Played (getD b 1 0) l now after) all played) in
+          still.unmoved t es calls (inner k h) (typed-given (inner k h .order) t h) q now after there r five

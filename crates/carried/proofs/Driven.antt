@@ -134,7 +134,7 @@ module _ (t : Tuner) (d : Driver) (r : RangedDriver d) where
 -- ---- what a call on both leaves of the driver's
 
 -- no more entries than steps
-left-count : {R : Type 0} (s : Bool) (row : Course R) (os : List ℕ) (c : Chip) (old : R) (room : List ℕ) → length (stepsOf row) ≤ 64 → leftBy s row os c old room .count ≤ 64
+pub left-count : {R : Type 0} (s : Bool) (row : Course R) (os : List ℕ) (c : Chip) (old : R) (room : List ℕ) → length (stepsOf row) ≤ 64 → leftBy s row os c old room .count ≤ 64
 unfolding leftBy callOf
 left-count s (Still next answer) os c old room h = go s
   where

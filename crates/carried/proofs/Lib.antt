@@ -5,3 +5,4 @@ pub mod Demand
 pub mod Driven
 pub mod Fed
 pub mod Worked
+pub mod FedDriven

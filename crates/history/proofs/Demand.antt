@@ -14,10 +14,12 @@ use native.Mathlib.Omega.{arith}
 use lib.ListN.{length, getD, set, length-replicate, getD-replicate}
 use Rattle.transcript.specs.declared.Entry.{Entry}
 use Rattle.transcript.specs.Sections.{AllFit, Parted, sectionBytes}
-use Rattle.attempts.specs.Attempts.{Last, Played, Regs, byteIn, done, doubtIn, lastFrom, lastIn, names}
-use Rattle.attempts.specs.Attempts.Last.{Never, Tried}
+use Rattle.attempts.specs.Attempts.{Last, Played, Regs, byteIn, done, doubtIn, lastFrom, lastIn, names, tunerAt}
+use Rattle.attempts.specs.Namings as any
+use Rattle.attempts.specs.Namings.Last.{Never, Tried}
 use Rattle.attempts.proofs.Doubt.{InVain, doubt-any, doubt-exactly, sure-byte}
-use Rattle.attempts.proofs.Named.{known, last-append, last-known, other-kind}
+use Rattle.attempts.proofs.Named.{other-kind}
+use Rattle.attempts.proofs.Lasts.{known, last-append, last-known}
 use Rattle.attempts.proofs.Played.{last-done, last-never, some-played}
 use Rattle.chip.specs.declared.Chip.{Chip}
 use Rattle.chip.specs.declared.Progress.the-variants.{Going, Refused11}
@@ -39,7 +41,7 @@ use Rattle.history.proofs.Reload.{reload-last}
 -- ---- the record follows the entries of a history
 
 tracks-fresh : (init : List ℕ) (c : Chip) → Fresh init c → Tracks init c []
-unfolding lastFrom
+unfolding any.lastFrom
 tracks-fresh init c h =
     record {
       chip = h .chip;
@@ -88,16 +90,16 @@ module _ (init : List ℕ) (c : Chip) (es : List Entry) (history : History init 
   module _ (before after : Regs) (played : Played (c .address) es before after) where
     -- (b) "at each call's end a register whose last attempt was done holds the byte sent": any register, also past 0x1f
     pub done-holds : (r byte : ℕ) → lastIn (c .address) es r ≡ Tried byte true → after r ≡ byte
-    done-holds r byte h = last-done (c .address) es before after played r byte h
+    done-holds r byte h = last-done (tunerAt (c .address)) es before after played r byte h
 
     -- a register that was never attempted holds what it held
     pub never-kept : (r : ℕ) → lastIn (c .address) es r ≡ Never → after r ≡ before r
-    never-kept r h = last-never (c .address) es before after played r h
+    never-kept r h = last-never (tunerAt (c .address)) es before after played r h
 
     -- so a register without a doubtful mark holds the shadow's byte
     pub sure-holds : (i : ℕ) → i < 27 → getD (c .doubtful) i true ≡ false → after (5 + i) ≡ getD (c .shadow) i 0
     sure-holds i h d =
-        sure-byte (c .address) es before after (5 + i) (getD init i 0) played (sym (doubtful-exactly i h) ∙ d) ∙ sym (shadow-last i h)
+        sure-byte (tunerAt (c .address)) es before after (5 + i) (getD init i 0) played (sym (doubtful-exactly i h) ∙ d) ∙ sym (shadow-last i h)
 
     -- and a masked write is built on what the chip holds: the complaint of #106, "a masked update was built on a shadow the chip no longer had"
     pub built-on : (i value mask : ℕ) → i < 27 → getD (c .doubtful) i true ≡ false → maskedByte c (5 + i) value mask ≡ maskOf (after (5 + i)) value mask
@@ -108,12 +110,12 @@ module _ (init : List ℕ) (c : Chip) (es : List Entry) (history : History init 
   -- (f) there is such a chip, whatever the chip to start from; a failed write admits both the old and the new byte in each register that it
   -- named (`failed-part` of crate attempts)
   pub some-chip : (before : Regs) → (after : Regs) × Played (c .address) es before after
-  some-chip before = some-played (c .address) es before
+  some-chip before = some-played (tunerAt (c .address)) es before
 
   -- and of a register with a doubtful mark the entries settle nothing: it may hold any byte
   pub doubtful-any : (i x : ℕ) → i < 27 → getD (c .doubtful) i true ≡ true
       → (before : Regs) × (after : Regs) × Played (c .address) es before after × (after (5 + i) ≡ x)
-  doubtful-any i x h d = doubt-any (c .address) es (5 + i) x (sym (doubtful-exactly i h) ∙ d)
+  doubtful-any i x h d = doubt-any (tunerAt (c .address)) es (5 + i) x (sym (doubtful-exactly i h) ∙ d)
 
 -- every entry of a history fits the table
 pub history-fits : (init : List ℕ) (c : Chip) (es : List Entry) → History init c es → AllFit es
@@ -143,8 +145,8 @@ module _ (init : List ℕ) (c : Chip) (es : List Entry) (history : History init 
   module _ (done : t .progress ≡ Going) (before after : Regs) (played : Played (c .address) (es ++ t .log) before after) (i : ℕ) (h : i < 27) where
     last : lastIn (c .address) (es ++ t .log) (5 + i) ≡ Tried (getD (c .shadow) i 0) true
     last =
-        last-append (c .address) Never es (t .log) (5 + i)
-        ∙ last-known (c .address) (lastIn (c .address) es (5 + i)) (t .log) (5 + i)
+        last-append (tunerAt (c .address)) Never es (t .log) (5 + i)
+        ∙ last-known (tunerAt (c .address)) (lastIn (c .address) es (5 + i)) (t .log) (5 + i)
         ∙ ap (λ (l : Last). known l (lastIn (c .address) es (5 + i))) (reload-last os c (c .shadow) (follows init c es history .bytes) done i h)
 
     same : t .chip .address ≡ c .address
@@ -168,7 +170,7 @@ module _ (init : List ℕ) (c : Chip) (es : List Entry) (history : History init 
     pub reload-done : Restored (byteIn (getD init i 0) (lastIn (c .address) es (5 + i))) i (t .chip) after
     reload-done =
         record {
-          holds = last-done (c .address) (es ++ t .log) before after played (5 + i) (getD (c .shadow) i 0) last ∙ byte;
+          holds = last-done (tunerAt (c .address)) (es ++ t .log) before after played (5 + i) (getD (c .shadow) i 0) last ∙ byte;
           shadow = kept;
           doubtful = sure;
         }

@@ -10,9 +10,11 @@ use lib.ListN.{length, getD, take, drop, length-drop}
 use lib.Seq.{length-take-le, getD-take, getD-drop}
 use Rattle.below.proofs.Test.{below}
 use Rattle.transcript.specs.declared.Entry.{Entry}
-use Rattle.attempts.specs.Attempts.{Last, firstOf, lastBy, lastFrom, lastIn, names, sentTo}
-use Rattle.attempts.specs.Attempts.Last.{Never, Tried}
-use Rattle.attempts.proofs.Named.{named, other-kind, below-first, past-last, last-snoc, last-same}
+use Rattle.attempts.specs.Attempts.{Last, firstOf, lastBy, lastFrom, lastIn, names, sentTo, tunerAt}
+use Rattle.attempts.specs.Namings as any
+use Rattle.attempts.specs.Namings.Last.{Never, Tried}
+use Rattle.attempts.proofs.Named.{named, other-kind, below-first, past-last}
+use Rattle.attempts.proofs.Lasts.{last-snoc, last-same}
 use Rattle.chip.specs.declared.Chip.{Chip}
 use Rattle.chip.specs.declared.Chunk.{Chunk}
 use Rattle.chip.specs.declared.Progress.{Progress}
@@ -130,7 +132,7 @@ module _ (os : List ℕ) where
       go : (a : Bool) → acts s (t .progress) (t .opened) ≡ a → lastIn address (step inList os s t .log) r ≡ lastIn address (t .log) r
       go true a =
           let ok : Bool = okFor os (t .count) s in
-          sym (ap (λ (u : Trace). lastIn address (u .log) r) (active inList os s t a)) ∙ last-same address (t .log) (emit s (t .chip) ok) r (none ok)
+          sym (ap (λ (u : Trace). lastIn address (u .log) r) (active inList os s t a)) ∙ last-same (tunerAt address) (t .log) (emit s (t .chip) ok) r (none ok)
       go false a = sym (ap (λ (u : Trace). lastIn address (u .log) r) (idle inList os s t a))
 
   run-behind : (ss : List Step) (t : Trace) → run inList os (whileOpen ss) t ≡ step inList os Close (run inList os ss (step inList os Open t))
@@ -159,7 +161,7 @@ module _ (os : List ℕ) where
         let same : next .chip .address ≡ address = sym (ap (λ (u : Trace). u .chip .address) made) ∙ a in
         let one : lastIn address (next .log) (5 + i) ≡ cond (inChunk k i) now (lastIn address (t .log) (5 + i)) =
         sym (ap (λ (u : Trace). lastIn address (u .log) (5 + i)) made)
-        ∙ last-snoc address (t .log) (emit s (t .chip) true) (5 + i)
+        ∙ last-snoc (tunerAt address) (t .log) (emit s (t .chip) true) (5 + i)
         ∙ ap (λ (j : ℕ). lastBy address (written j (k .size + 1) (chunkBytes bs (k .at) (k .size)) true) (5 + i) (lastIn address (t .log) (5 + i))) a
         ∙ chunk-last address bs long k (and-left (within k) (every within ks) w) i (lastIn address (t .log) (5 + i)) in
         chunks-last ks (and-right (within k) (every within ks) w) next same g
@@ -186,7 +188,7 @@ module _ (os : List ℕ) where
 -- every register's last attempt in a reload that was done
 pub reload-last : (os : List ℕ) (c : Chip) (bs : List ℕ) → length bs ≡ 27 → trace os (reloadSteps bs) c .progress ≡ Going → (i : ℕ) → i < 27
     → lastIn (c .address) (trace os (reloadSteps bs) c .log) (5 + i) ≡ Tried (getD bs i 0) true
-unfolding trace lastFrom
+unfolding trace any.lastFrom
 reload-last os c bs long g i h =
     let start : Trace = line c [] 0 Going false in
     let mid : Trace = run inList os (tunerWrite bs 0 3) start in

@@ -13,9 +13,10 @@ use lib.Seq.{sets, length-sets, length-take-le, getD-take, getD-drop, getD-set-s
 use Rattle.transcript.specs.declared.Entry.{Entry}
 use Rattle.transcript.specs.Entries.{entryFits, zeros}
 use Rattle.transcript.proofs.Reading.{both}
-use Rattle.attempts.specs.Attempts.{byteIn, done, doubtIn, lastIn, names, sentTo}
-use Rattle.attempts.specs.Attempts.Last.{Tried}
-use Rattle.attempts.proofs.Named.{named, other-kind, below-first, past-last, one-byte, last-snoc, last-same}
+use Rattle.attempts.specs.Attempts.{byteIn, done, doubtIn, lastIn, names, sentTo, tunerAt}
+use Rattle.attempts.specs.Namings.Last.{Tried}
+use Rattle.attempts.proofs.Named.{named, other-kind, below-first, past-last, one-byte}
+use Rattle.attempts.proofs.Lasts.{last-snoc, last-same}
 use Rattle.chip.specs.declared.Chip.{Chip}
 use Rattle.chip.specs.declared.Progress.the-variants.{Going}
 use Rattle.chip.specs.Chips.{attemptedBy, maskedByte, pair}
@@ -136,7 +137,7 @@ module _ (init : List ℕ) (c : Chip) (es : List Entry) (n : ℕ) (bytes : List 
 
   module _ (i : ℕ) (l : first ≤ 5 + i) (k : 5 + i < first + (n - 1)) where
     last : lastIn (c .address) (es ++ (e ∷ [])) (5 + i) ≡ Tried (sentTo e (5 + i)) (done e)
-    last = last-snoc (c .address) es e (5 + i) ∙ rw (named (c .address) e (5 + i) refl refl l k)
+    last = last-snoc (tunerAt (c .address)) es e (5 + i) ∙ rw (named (c .address) e (5 + i) refl refl l k)
 
     mark : getD (sets (c .doubtful) (first - 5) marks) i true ≡ not (done e)
     mark =
@@ -162,7 +163,7 @@ module _ (init : List ℕ) (c : Chip) (es : List Entry) (n : ℕ) (bytes : List 
       → getD (sets (c .shadow) (first - 5) sent) i 0 ≡ getD (c .shadow) i 0
       → At i
   outside i h none p q =
-      let last = last-same (c .address) es e (5 + i) none in
+      let last = last-same (tunerAt (c .address)) es e (5 + i) none in
       (p ∙ follows .doubtful i h ∙ sym (ap doubtIn last), q ∙ follows .shadow i h ∙ sym (ap (byteIn (getD init i 0)) last))
 
   at : (i : ℕ) → i < 27 → At i
@@ -202,8 +203,8 @@ tracks-quiet init c es e none follows =
       chip = follows .chip;
       marks = follows .marks;
       bytes = follows .bytes;
-      doubtful = λ i h. follows .doubtful i h ∙ sym (ap doubtIn (last-same (c .address) es e (5 + i) (none (5 + i))));
-      shadow = λ i h. follows .shadow i h ∙ sym (ap (byteIn (getD init i 0)) (last-same (c .address) es e (5 + i) (none (5 + i))));
+      doubtful = λ i h. follows .doubtful i h ∙ sym (ap doubtIn (last-same (tunerAt (c .address)) es e (5 + i) (none (5 + i))));
+      shadow = λ i h. follows .shadow i h ∙ sym (ap (byteIn (getD init i 0)) (last-same (tunerAt (c .address)) es e (5 + i) (none (5 + i))));
     }
 
 pub plain-none : (address : ℕ) (e : Entry) (ok : Bool) → finePlain e ≡ true → (r : ℕ) → names address (withOutcome e ok) r ≡ false

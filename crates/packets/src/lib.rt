@@ -15,11 +15,6 @@ use transcript::Entry;
 // The read of page 0x0a, register 0x01, as a number of eight bytes, low byte first.
 const SYNC: u64 = 0x0001_000a_0120_00c0;
 
-// Document 01's table: how many bytes a kind has.
-const N_LOW: [u8; 10] = [0, 1, 1, 1, 1, 2, 1, 2, 1, 0];
-
-const N_HIGH: [u8; 10] = [0, 1, 8, 5, 1, 2, 1, 2, 1, 0];
-
 fn wide(x: u8) -> u64
     ensures { λ r. ⌜ (r ≡ x) × (r < 256) ⌝ }
 {
@@ -223,12 +218,22 @@ fn named(w: u64) -> Entry
     step(picked(write, sized, transcript::READ), high, n, value)
 }
 
+// Document 01's table: how many bytes a kind has.
 fn in_table(k: u8, n: u8) -> bool
     requires { ⌜ k < 10 ⌝ }
     ensures { λ r. ⌜ r ≡ inTable k n ⌝ }
 {
-    let row = k as usize;
-    (N_LOW[row] <= n) & (n <= N_HIGH[row])
+    match k {
+        1 => (1 <= n) & (n <= 1),
+        2 => (1 <= n) & (n <= 8),
+        3 => (1 <= n) & (n <= 5),
+        4 => (1 <= n) & (n <= 1),
+        5 => (2 <= n) & (n <= 2),
+        6 => (1 <= n) & (n <= 1),
+        7 => (2 <= n) & (n <= 2),
+        8 => (1 <= n) & (n <= 1),
+        _ => (0 <= n) & (n <= 0),
+    }
 }
 
 // Whether the bytes from `at` begin with the read of page 0x0a.
@@ -239,7 +244,7 @@ fn sync_at(s: &[u8], at: usize) -> bool
     if s.len() - at < 8 {
         return false;
     }
-    wire::get(s, at, 8) == SYNC
+    wire::eight(s, at) == SYNC
 }
 
 // How many bytes the read of page 0x0a has there, after a transfer of this kind.
@@ -299,7 +304,7 @@ pub fn hear(s: &[u8], at: usize) -> Heard
     if left < 8 {
         return nothing();
     }
-    let w = wire::get(s, at, 8);
+    let w = wire::eight(s, at);
     let e = named(w);
     let sent = sent_by(e.kind, e.n);
     if !(in_table(e.kind, e.n) & (setup_of(e) == w)) {

@@ -10,7 +10,7 @@ use Rattle.pll.specs.declared.Sum.{Sum}
 use Rattle.pll.specs.Fraction.{sumStart, sumOf, takesTurn, turnOf, turnsOf}
 
 -- what that many turns add, the first of them at the highest bit
-bitsOf : ℕ → ℕ → ℕ → Sum → ℕ
+unfoldable pub bitsOf : ℕ → ℕ → ℕ → Sum → ℕ
 bitsOf zero k n s = 0
 bitsOf (suc t) k n s = cond (takesTurn k n s) 1 0 * 2 ^ t + bitsOf t k (n * 2) (turnOf k n s)
 
@@ -36,7 +36,7 @@ unfolding turnOf
 adds t k n s true e w = simp e (omega arith)
 adds t k n s false e w = simp e (omega arith)
 
-sum-is : (t i k n : ℕ) (s : Sum) → n ≡ 2 * 2 ^ i → t + i ≡ 16 → turnsOf t k n s .sum ≡ s .sum + bitsOf t k n s
+pub sum-is : (t i k n : ℕ) (s : Sum) → n ≡ 2 * 2 ^ i → t + i ≡ 16 → turnsOf t k n s .sum ≡ s .sum + bitsOf t k n s
 unfolding turnsOf bitsOf
 sum-is zero i k n s e l = omega arith
 sum-is (suc t) i k n s e l =

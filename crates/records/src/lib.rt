@@ -88,7 +88,7 @@ fn kind_of(n: u64) -> Kind
 }
 
 // The bits of any NaN other than the one that a gain is written as are not valid.
-fn proper_gain(bits: u64) -> bool
+fn proper_gain(bits: u32) -> bool
     ensures { λ r. ⌜ r ≡ properGain bits ⌝ }
 {
     (bits % 0x8000_0000 <= 0x7f80_0000) | (bits == 0x7fc0_0000)
@@ -149,10 +149,10 @@ fn tuner_fits(b: &[u8]) -> bool
     ensures { λ r. ⌜ r ≡ tunerFits (partsFrom 0 tunerWidths (now (b .entry))) ⌝ }
 {
     (wire::get(b, 0, 1) <= 1)
-        & (1 <= wire::get(b, NOMINAL, 4))
-        & (1 <= wire::get(b, CORRECTED, 4))
+        & (1 <= wire::four(b, NOMINAL))
+        & (1 <= wire::four(b, CORRECTED))
         & (wire::get(b, LOCK, 1) <= 1)
-        & proper_gain(wire::get(b, GAIN, 4))
+        & proper_gain(wire::four(b, GAIN))
         & (wire::get(b, NOTCH, 1) <= 1)
         & flags_only(b, DOUBTFUL)
 }
@@ -175,11 +175,11 @@ fn tuner_in(b: &[u8]) -> Tuner
     Tuner {
         kind: kind_of(wire::get(b, 0, 1)),
         chip: chip_in(b),
-        nominal: wire::get(b, NOMINAL, 4) as u32,
-        corrected: wire::get(b, CORRECTED, 4) as u32,
+        nominal: wire::four(b, NOMINAL),
+        corrected: wire::four(b, CORRECTED),
         lock: wire::get(b, LOCK, 1) == 1,
-        gain: wire::float_of(wire::get(b, GAIN, 4) as u32),
-        ifreq: wire::get(b, IFREQ, 8),
+        gain: wire::float_of(wire::four(b, GAIN)),
+        ifreq: wire::eight(b, IFREQ),
         notch: wire::get(b, NOTCH, 1) == 1,
     }
 }
@@ -257,11 +257,11 @@ fn driver_in(b: &[u8]) -> Driver
 {
     Driver {
         board: board_from(wire::get(b, 0, 1)),
-        nominal: wire::get(b, REFERENCE, 4) as u32,
-        ppm: wire::to_signed(wire::get(b, PPM, 4) as u32),
-        frequency: wire::get(b, FREQUENCY, 8),
-        rate: wire::get(b, RATE, 4) as u32,
-        actual: wire::get(b, ACTUAL, 8),
+        nominal: wire::four(b, REFERENCE),
+        ppm: wire::to_signed(wire::four(b, PPM)),
+        frequency: wire::eight(b, FREQUENCY),
+        rate: wire::four(b, RATE),
+        actual: wire::eight(b, ACTUAL),
     }
 }
 

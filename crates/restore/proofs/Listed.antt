@@ -10,8 +10,9 @@ use borrow.Author.Tests.{leb-true, leb-false, ltb-true, ltb-false, eq-eqb, le-le
 use lib.Dec.{eqb, leb, ltb}
 use lib.ListN.{length, getD, length-map}
 use Rattle.transcript.specs.declared.Entry.{Entry}
-use Rattle.attempts.specs.Attempts.{Last, Played, Regs, byteIn, done, doubtIn, lastBy, lastFrom, lastIn, names, sentTo}
-use Rattle.attempts.specs.Attempts.Last.{Never, Tried}
+use Rattle.attempts.specs.Attempts.{Last, Played, Regs, byteIn, done, doubtIn, lastBy, lastFrom, lastIn, names, sentTo, tunerAt}
+use Rattle.attempts.specs.Namings as any
+use Rattle.attempts.specs.Namings.Last.{Never, Tried}
 use Rattle.attempts.proofs.Played.{last-done, last-never}
 use Rattle.attempts.proofs.Doubt.{sure-byte}
 use Rattle.restore.specs.Restore.{Run, heldIn, inRun, listOf, runs, slot, sureIn, times, runsWith, writeOf}
@@ -65,11 +66,11 @@ module _ (address : ℕ) (held : ℕ → ℕ) where
 
   one-named : (e : Entry) (fs : List Entry) (r : ℕ) (l : Last) → names address e r ≡ true
       → lastFrom address l (e ∷ fs) r ≡ lastFrom address (Tried (sentTo e r) (done e)) fs r
-  unfolding lastFrom
+  unfolding any.lastFrom
   one-named e fs r l h = rw h
 
   one-other : (e : Entry) (fs : List Entry) (r : ℕ) (l : Last) → names address e r ≡ false → lastFrom address l (e ∷ fs) r ≡ lastFrom address l fs r
-  unfolding lastFrom
+  unfolding any.lastFrom
   one-other e fs r l h = rw h
 
   abbrev after : ℕ → Last → List Run → Last
@@ -120,7 +121,7 @@ module _ (address : ℕ) (es : List Entry) where
 
   -- "with its byte"
   pub sent : (r : ℕ) → sureIn address es r ≡ true → lastIn address (listOf address es) r ≡ Tried (byteIn 0 (lastIn address es r)) true
-  unfolding listOf lastFrom
+  unfolding listOf any.lastFrom
   sent r t =
       let at = sure-range address es r t in
       let one = sure-one (sureIn address es) 32 0 r (omega arith) (omega arith) t in
@@ -134,7 +135,7 @@ module _ (address : ℕ) (es : List Entry) where
       ∙ ap₂ Tried (sent-write address held w r (one .2) (one .3) ∙ told) (done-write address held w)
 
   pub unsaid : (r : ℕ) → sureIn address es r ≡ false → lastIn address (listOf address es) r ≡ Never
-  unfolding listOf lastFrom
+  unfolding listOf any.lastFrom
   unsaid r d =
       last-within address (heldIn address es) (runs (sureIn address es) 32 0) r Never
       ∙ ap (λ (ws : List Run). lastFrom address Never (map (writeOf address (heldIn address es)) ws) r) (doubt-none (sureIn address es) 32 0 r d)
@@ -144,12 +145,12 @@ module _ (address : ℕ) (es : List Entry) where
     pub restored : (r : ℕ) → sureIn address es r ≡ true → after r ≡ left r
     restored r t =
         let at = sure-range address es r t in
-        last-done address (listOf address es) before after then r (byteIn 0 (lastIn address es r)) (sent r t)
-        ∙ sym (sure-byte address es was left r 0 first (at .2))
+        last-done (tunerAt address) (listOf address es) before after then r (byteIn 0 (lastIn address es r)) (sent r t)
+        ∙ sym (sure-byte (tunerAt address) es was left r 0 first (at .2))
 
     -- "and the others as they were"
     pub untouched : (r : ℕ) → sureIn address es r ≡ false → after r ≡ before r
-    untouched r d = last-never address (listOf address es) before after then r (unsaid r d)
+    untouched r d = last-never (tunerAt address) (listOf address es) before after then r (unsaid r d)
 
   -- "it never needs more than 14 writes": 27 registers, and between two runs a register that is not sure or a run of seven
   pub most : length (listOf address es) ≤ 14

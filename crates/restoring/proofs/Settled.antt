@@ -16,7 +16,7 @@ use Rattle.chip.specs.declared.Answer.the-variants.{Refused}
 use Rattle.lending.specs.Lent.{given, lentTo}
 use Rattle.lending.proofs.Giving as giving
 use Rattle.attempts.specs.Attempts.{Last, byteIn, doubtIn, lastIn}
-use Rattle.attempts.specs.Attempts.Last.{Never, Tried}
+use Rattle.attempts.specs.Namings.Last.{Never, Tried}
 use Rattle.sections.specs.Chain.{chain, chainEntries}
 use Rattle.restore.specs.Restore.{heldIn, listBy, listBytes, listOf, refusedBy, runs, sureIn, writeOf}
 use Rattle.restore.proofs.Listed.{most}

@@ -14,9 +14,10 @@ use Rattle.transcript.specs.Entries.{entryFits, entryOf, fits}
 use Rattle.transcript.specs.Sections.{allFit, entriesIn}
 use Rattle.transcript.proofs.Reading.{both}
 use Rattle.transcript.proofs.Rows.{row-of}
-use Rattle.attempts.specs.Attempts.{Last, done, firstOf, lastFrom, lastIn, names, sentTo}
-use Rattle.attempts.specs.Attempts.Last.{Never, Tried}
-use Rattle.attempts.proofs.Named.{known, last-append, last-known}
+use Rattle.attempts.specs.Attempts.{Last, done, firstOf, lastFrom, lastIn, names, sentTo, tunerAt}
+use Rattle.attempts.specs.Namings as any
+use Rattle.attempts.specs.Namings.Last.{Never, Tried}
+use Rattle.attempts.proofs.Lasts.{known, last-append, last-known}
 use Rattle.restoring.specs.Standing.{Known, counts, markOf, newer, none, only, over, knownAs, knownIn, knownAll, knownOf}
 use Rattle.restoring.proofs.Overs.{fresh, over-one, over-over, over-quiet, over-same, quiet, stays, told-at, told-set}
 
@@ -61,7 +62,7 @@ module _ (ms bs : List ℕ) (r mark byte : ℕ) where
 -- ---- one entry
 
 tells-one : (address : ℕ) (e : Entry) (q : ℕ) → knownIn address (e ∷ []) q ≡ cond (counts q && names address e q) (knownAs (markOf (done e)) (sentTo e q)) none
-unfolding knownIn lastFrom
+unfolding knownIn any.lastFrom
 tells-one address e q = go (counts q) (names address e q) refl refl
   where
     go : (a b : Bool) → counts q ≡ a → names address e q ≡ b
@@ -158,7 +159,7 @@ unfolding knownIn
 tells-both address xs ys r = go (counts r) refl
   where
     last : lastIn address (xs ++ ys) r ≡ known (lastIn address ys r) (lastIn address xs r)
-    last = last-append address Never xs ys r ∙ last-known address (lastIn address xs r) ys r
+    last = last-append (tunerAt address) Never xs ys r ∙ last-known (tunerAt address) (lastIn address xs r) ys r
 
     go : (b : Bool) → counts r ≡ b
         → newer (cond (counts r) (knownOf (lastIn address ys r)) none) (cond (counts r) (knownOf (lastIn address xs r)) none) ≡ cond (counts r) (knownOf (lastIn address (xs ++ ys) r)) none
@@ -172,7 +173,7 @@ over-both address xs ys l =
     ∙ over-same (λ r. newer (knownIn address ys r) (knownIn address xs r)) (knownIn address (xs ++ ys)) (tells-both address xs ys) 0 l
 
 pub over-empty : (address : ℕ) (l : List Known) → l ≡ over (knownIn address []) 0 l
-unfolding knownIn lastFrom
+unfolding knownIn any.lastFrom
 over-empty address l = sym (over-quiet (knownIn address []) 0 l (λ r a b. go r (counts r) refl))
   where
     go : (r : ℕ) (b : Bool) → counts r ≡ b → cond (counts r) (knownOf (lastFrom address Never [] r)) none .mark ≡ 0

@@ -8,7 +8,7 @@ use lib.Dec.{eqb, leb, ltb}
 use lib.ListN.{length, getD}
 use Rattle.transcript.specs.declared.Entry.{Entry}
 use Rattle.attempts.specs.Attempts.{Last, lastIn}
-use Rattle.attempts.specs.Attempts.Last.{Never, Tried}
+use Rattle.attempts.specs.Namings.Last.{Never, Tried}
 use Rattle.lending.specs.Lent.{Given, lentTo}
 use Rattle.restore.specs.Restore.{listBytes, refusedBy}
 

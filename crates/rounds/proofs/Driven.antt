@@ -1,17 +1,19 @@
 -- What a host has that drives a receiver in rounds. Assumes nothing.
-use Prim.Native.Nat.{ℕ, _+_, _≤_, _<_}
+use Prim.Native.Nat.{ℕ, suc, _+_, _-_, _≤_, _<_}
 use mathlib.Core.Path.{_≡_, refl, sym, ap, subst, _∙_}
-use mathlib.Core.Bool.{Bool, true, false, cond, _&&_, _||_, or-false}
+use mathlib.Core.Bool.{Bool, true, false, cond, _&&_, _||_, or-false, true≢false}
 use mathlib.Core.List.{List, [], _∷_, _++_, append-nil, map}
 use native.Mathlib.Omega.{arith}
 use borrow.Author.Tests.{eqb-true, ltb-true, ltb-false}
-use lib.Dec.{eqb, ltb}
+use lib.Dec.{eqb, leb, ltb}
 use lib.ListN.{List·getD-append, drop, getD, length, length-append, length-drop, take, take-append-drop}
-use lib.Seq.{drop-append-seam, getD-append-seam, getD-take, length-take-le, sets, take-add, take-append-add, take-append-seam, take-take}
+use lib.Seq.{drop-append-seam, getD-append-seam, getD-drop, getD-take, length-take-le, sets, take-add, take-append-add, take-append-seam, take-take}
 use Rattle.transcript.specs.declared.Entry.{Entry}
 use Rattle.transcript.specs.Entries.{bare, zeros8}
 use Rattle.transcript.specs.Table.{isRead}
-use Rattle.attempts.specs.Attempts.{done}
+use Rattle.attempts.specs.Attempts.{Lands, Played, Regs, done, names, tunerAt}
+use Rattle.attempts.proofs.Named.{other-kind}
+use Rattle.attempts.proofs.Played.{played-append}
 use Rattle.chip.specs.declared.Chip.{Chip}
 use Rattle.chip.specs.declared.Progress.the-variants.{Going}
 use Rattle.chip.specs.Entries.{flagOf}
@@ -294,3 +296,93 @@ module _ (t : Tuner) (es : List Entry) (q : Sequence t es) (os rs : List ℕ) (d
   driven-between o r k h g =
       subst (λ (l : List Entry). Sequence t (es ++ l)) (all-taken (Beside o) os rs ds r s s k k h .0)
       (between t es q (aside (otherWith (s .replies) o) (s .outcomes) (s .room)) g)
+
+-- ---- a host that died while it drove a receiver
+
+-- what it had kept: a script with what was known, and failed for all the rest
+pub record Kept (a : Ask) (os rs : List ℕ) (s : Script) : Type 0 where
+  pub known : Knows a os rs s
+  pub vain : (j : ℕ) → length os ≤ j → j < 64 → eqb (getD (s .outcomes) j 0) 0 ≡ false
+
+-- the step that it was at was tried or not, and landed in any part: what the step does not name is as it was
+abbrev pub Touched : ℕ → List Entry → Regs → Regs → Type 0
+Touched address [] mid now = (r : ℕ) → now r ≡ mid r
+Touched address (e ∷ es) mid now = (r : ℕ) → names address e r ≡ false → now r ≡ mid r
+
+module _ (address : ℕ) where
+  bare-write : (x : Entry) (r : ℕ) → isRead (x .kind) ≡ false → names address (bare x) r ≡ names address x r
+  unfolding names
+  bare-write x r q =
+      ap
+      (λ (c : Bool). eqb (x .kind) 2
+      && eqb (x .target) address
+      && leb (getD (cond c zeros8 (x .bytes)) 0 0) r
+      && ltb r (getD (cond c zeros8 (x .bytes)) 0 0 + (x .n - 1)))
+      q
+
+  -- a step names what its entry does
+  names-bare : (x : Entry) (r : ℕ) → names address (bare x) r ≡ names address x r
+  names-bare x r = go (eqb (x .kind) 2) refl
+    where
+      go : (b : Bool) → eqb (x .kind) 2 ≡ b → names address (bare x) r ≡ names address x r
+      go true q = bare-write x r (ap isRead (eqb-true (x .kind) 2 q))
+      go false q = other-kind address (bare x) r q ∙ sym (other-kind address x r q)
+
+  abbrev Vain : Entry → Type 0
+  Vain x = (r : ℕ) → names address x r ≡ true → done x ≡ false
+
+  vain-by : (o : ℕ) (x : Entry) → eqb o 0 ≡ false → By o x → Vain x
+  vain-by o x z by r h = go (eqb (x .kind) 2) refl
+    where
+      go : (b : Bool) → eqb (x .kind) 2 ≡ b → done x ≡ false
+      go true q = ap (λ (y : ℕ). eqb y 0) (by ∙ (λ i. flagOf (z i || eqb (eqb-true (x .kind) 2 q i) 9)))
+      go false q = absurd (true≢false (sym h ∙ other-kind address x r q))
+
+  lands-vain : (x : Entry) (mid now : Regs) → Vain x → ((r : ℕ) → names address (bare x) r ≡ false → now r ≡ mid r) → Lands address x mid now
+  lands-vain x mid now v h = record { kept = λ r t. h r (names-bare x r ∙ t); sent = λ r t d. absurd (true≢false (sym d ∙ v r t)) }
+
+  abbrev Vains : List Entry → Type 0
+  Vains xs = (d : Entry) (j : ℕ) → j < length xs → Vain (getD xs j d)
+
+  played-vain : (xs : List Entry) (now : Regs) → Vains xs → Played address xs now now
+  played-vain [] now v = λ r. refl
+  played-vain (x ∷ xs) now v =
+      (now, lands-vain x now now (v x 0 (omega arith)) (λ r t. refl), played-vain xs now (λ d j l. v d (suc j) (omega (arith, l))))
+
+  module _ (a : Ask) (os rs : List ℕ) (es : List Entry) (known : Rounds a os rs es) (s : Script) (kept : Kept a os rs s) where
+    vain-later : Vains (drop (length os) (made a s))
+    vain-later d j l =
+        let at : ℕ = length os + j in
+        let h : at < length (made a s) = omega (arith, length-drop (length os) (made a s), l) in
+        subst Vain (sym (getD-drop (length os) (made a s) j d))
+        (vain-by (getD (s .outcomes) at 0) (getD (made a s) at d) (kept .vain at (omega arith) (omega (arith, few-made a s, h))) (by-made a s d at h))
+
+    -- whenever it died: the call made once more with what it had kept, by the library alone, tells entries that were played on the chip as it is now
+    pub crashed : (before mid now : Regs) → Played address es before mid → Touched address (stepAt (length os) (made a s)) mid now
+        → Played address (made a s) before now
+    crashed before mid now p t =
+        let whole : es ++ drop (length os) (made a s) ≡ made a s =
+        ap (λ (l : List Entry). l ++ drop (length os) (made a s)) (sym (told a os rs es known s (kept .known) .entries)) ∙ take-append-drop (length os) (made a s) in
+        subst (λ (l : List Entry). Played address l before now) whole
+        (played-append (tunerAt address) es (drop (length os) (made a s)) before mid now p (rest (drop (length os) (made a s)) refl))
+      where
+        rest : (xs : List Entry) → drop (length os) (made a s) ≡ xs → Played address xs mid now
+        rest [] q = subst (λ (l : List Entry). Touched address (map bare (take 1 l)) mid now) q t
+        rest (x ∷ xs) q =
+            let v : Vains (x ∷ xs) = subst Vains q vain-later in (
+              now,
+              lands-vain x mid now (v x 0 (omega arith)) (subst (λ (l : List Entry). Touched address (map bare (take 1 l)) mid now) q t),
+              played-vain xs now (λ d j l. v d (suc j) (omega (arith, l))),
+            )
+
+-- so demand 3 holds of what the next process goes on with: its record ends a sequence whose entries were played on the chip as it is now
+module _ (t : Tuner) (es : List Entry) (q : Sequence t es) (os rs : List ℕ) (ds : List Entry) (s : Script) where
+  pub recovered : (o : Order) → Rounds (On o t) os rs ds → Kept (On o t) os rs s → given (orderWith (s .replies) o) t ≡ true
+      → (address : ℕ) (before start mid now : Regs) → Played address es before start → Played address ds start mid
+      → Touched address (stepAt (length os) (made (On o t) s)) mid now
+      → Sequence (tunerAfter (call (orderWith (s .replies) o) (s .outcomes) (s .room)) t) (es ++ made (On o t) s)
+      × Played address (es ++ made (On o t) s) before now
+  recovered o r k g address before start mid now p d u = (
+    next t es q (call (orderWith (s .replies) o) (s .outcomes) (s .room)) g,
+    played-append (tunerAt address) es (made (On o t) s) before start now p (crashed address (On o t) os rs ds r s k start mid now d u),
+  )

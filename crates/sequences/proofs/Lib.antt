@@ -1,5 +1,6 @@
 pub mod Beside
 pub mod Programs
+pub mod Unmoved
 pub mod Views
 pub mod Ties
 pub mod Asides
@@ -9,7 +10,10 @@ pub mod Failed
 pub mod Shut
 pub mod Late
 pub mod Spent
+pub mod Stands
+pub mod Station
 pub mod Since
 pub mod Worked
 pub mod Tried
+pub mod Tunings
 pub mod Listed

@@ -11,7 +11,7 @@ use lib.ListN.{getD}
 use Rattle.transcript.specs.declared.Entry.{Entry}
 use Rattle.transcript.specs.Sections.{sectionBytes}
 use Rattle.attempts.specs.Attempts.{Last, byteIn, doubtIn, lastIn}
-use Rattle.attempts.specs.Attempts.Last.{Never, Tried}
+use Rattle.attempts.specs.Namings.Last.{Never, Tried}
 use Rattle.sections.specs.Chain.{Good, endToEnd, together}
 use Rattle.sections.proofs.Exact.{accepted}
 use Rattle.restore.specs.Restore.{listBytes, listOf, sureIn, times}

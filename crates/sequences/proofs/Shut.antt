@@ -397,10 +397,10 @@ proper-fine t (resting next answer a b) = no-fine
 proper-fine t (stepping argument n m rs whole ss keep a b c) = b
 
 module _ (t : Tuner) (es : List Entry) (s : Sequence t es) (k : Call) (g : given (k .order) t ≡ true) where
-  same-steps : stepsOf (rowOf (k .order) t) ≡ asked k t .steps
+  pub same-steps : stepsOf (rowOf (k .order) t) ≡ asked k t .steps
   same-steps = sym (asked-steps (soundFor (k .order) t) (rowOf (k .order) t) (length (k .outcomes)) (length (k .room)))
 
-  fine-steps : every fine (asked k t .steps) ≡ true
+  pub fine-steps : every fine (asked k t .steps) ≡ true
   fine-steps = subst (λ (ss : List Step). every fine ss ≡ true) same-steps (proper-fine t (proper t (k .order) g (small t es s)))
 
   -- no call leaves the repeater open, whatever the outcomes

@@ -35,88 +35,93 @@ use Rattle.r82xx.specs.Orders as tuner
 use Rattle.r82xx.specs.Orders.{bracket, gainRow, pathRow}
 use Rattle.r82xx.specs.Orders.Order.{Initialize, Reload, Bandwidth, IfFreq, Gain, GainIndex, InputPath, Tune, Notch, GainTold, IfTold, TableTold}
 use Rattle.writes.specs.Lists.{bandwidthUpdates, gainUpdates, ifUpdates, pathUpdates}
-use Rattle.sequences.specs.Calls.{Order, tunerAfter, call, resultOf, result, rowOf, soundFor, tunerPart}
+use Rattle.sequences.specs.Calls.{Call, Order, tunerAfter, call, resultOf, result, rowOf, soundFor, tunerPart}
 use Rattle.sequences.specs.Calls.Order.{Tuned, SampleRate, Correction, BoardPath, BoardTune}
-use Rattle.sequences.specs.Since.{Since, setsIf}
+use Rattle.sequences.specs.Since.{Since, rates, setsIf}
 use Rattle.sequences.specs.Since.Since.{start, later}
 use Rattle.sequences.proofs.Views.{result-row}
 
--- a row that leaves an IF of 0
-data Zero : Course Tuner → Type 0 where
-  resting : (next : Tuner) (answer : Answer) → next .ifreq ≡ 0 → Zero (Still next answer)
-  stepping : (argument n m : ℕ) (rs : List ℕ) (whole : Answer) (ss : List Step) (keep : Trace → Tuner) → ((tr : Trace) → keep tr .ifreq ≡ 0)
-      → Zero (Taken argument n m rs whole ss keep)
+-- a row that leaves this IF
+data Keeps (x : ℕ) : Course Tuner → Type 0 where
+  resting : (next : Tuner) (answer : Answer) → next .ifreq ≡ x → Keeps x (Still next answer)
+  stepping : (argument n m : ℕ) (rs : List ℕ) (whole : Answer) (ss : List Step) (keep : Trace → Tuner) → ((tr : Trace) → keep tr .ifreq ≡ x)
+      → Keeps x (Taken argument n m rs whole ss keep)
 
-module _ (t : Tuner) (z : t .ifreq ≡ 0) where
-  rest-zero : (s : Bool) (next : Tuner) (answer : Answer) (room : List ℕ) → next .ifreq ≡ 0 → cond s (called next room 0 answer) (called t room 0 (Refused 1)) .next .ifreq ≡ 0
-  rest-zero true next answer room h = h
-  rest-zero false next answer room h = z
+module _ (x : ℕ) (t : Tuner) (z : t .ifreq ≡ x) where
+  rest-kept : (s : Bool) (next : Tuner) (answer : Answer) (room : List ℕ) → next .ifreq ≡ x → cond s (called next room 0 answer) (called t room 0 (Refused 1)) .next .ifreq ≡ x
+  rest-kept true next answer room h = h
+  rest-kept false next answer room h = z
 
-  steps-zero : (b : Bool) (number : ℕ) (whole : Answer) (os : List ℕ) (ss : List Step) (keep : Trace → Tuner) (room : List ℕ) → ((tr : Trace) → keep tr .ifreq ≡ 0)
-      → cond b (performed whole keep room (trace os ss (t .chip))) (called t room 0 (Refused number)) .next .ifreq ≡ 0
-  steps-zero true number whole os ss keep room h = h (trace os ss (t .chip))
-  steps-zero false number whole os ss keep room h = z
+  steps-kept : (b : Bool) (number : ℕ) (whole : Answer) (os : List ℕ) (ss : List Step) (keep : Trace → Tuner) (room : List ℕ) → ((tr : Trace) → keep tr .ifreq ≡ x)
+      → cond b (performed whole keep room (trace os ss (t .chip))) (called t room 0 (Refused number)) .next .ifreq ≡ x
+  steps-kept true number whole os ss keep room h = h (trace os ss (t .chip))
+  steps-kept false number whole os ss keep room h = z
 
-  row-zero : (s : Bool) (os room : List ℕ) (row : Course Tuner) → Zero row → leftBy s row os (t .chip) t room .next .ifreq ≡ 0
+  row-kept : (s : Bool) (os room : List ℕ) (row : Course Tuner) → Keeps x row → leftBy s row os (t .chip) t room .next .ifreq ≡ x
   unfolding leftBy callOf
-  row-zero s os room row (resting next answer h) = rest-zero s next answer room h
-  row-zero s os room row (stepping argument n m rs whole ss keep h) =
-      steps-zero (eqb (refusalWith s argument n m (length room) (length os) (length rs)) 0) (refusalWith s argument n m (length room) (length os) (length rs)) whole os ss keep room h
+  row-kept s os room row (resting next answer h) = rest-kept s next answer room h
+  row-kept s os room row (stepping argument n m rs whole ss keep h) =
+      steps-kept (eqb (refusalWith s argument n m (length room) (length os) (length rs)) 0) (refusalWith s argument n m (length room) (length os) (length rs)) whole os ss keep room h
 
-  ended-zero : (u : Tuner) → u .ifreq ≡ 0 → (w : Progress) (c : Chip) → endedBy t u w c .ifreq ≡ 0
-  ended-zero u h Going c = h
-  ended-zero u h (Refused11 k) c = z
+  ended-kept : (u : Tuner) → u .ifreq ≡ x → (w : Progress) (c : Chip) → endedBy t u w c .ifreq ≡ x
+  ended-kept u h Going c = h
+  ended-kept u h (Refused11 k) c = z
 
-  bracket-zero : (n : ℕ) (us : List Update) (answer : Answer) (u : Tuner) → u .ifreq ≡ 0 → Zero (bracket n us answer t u)
+  bracket-kept : (n : ℕ) (us : List Update) (answer : Answer) (u : Tuner) → u .ifreq ≡ x → Keeps x (bracket n us answer t u)
   unfolding bracket
-  bracket-zero n us answer u h = stepping 0 (n + 2) 0 [] answer (whileOpen (updates us)) _ (λ tr. ended-zero u h (tr .progress) (tr .chip))
+  bracket-kept n us answer u h = stepping 0 (n + 2) 0 [] answer (whileOpen (updates us)) _ (λ tr. ended-kept u h (tr .progress) (tr .chip))
 
-  gain-zero : (k : ℕ) → Zero (gainRow k t)
+  gain-kept : (k : ℕ) → Keeps x (gainRow k t)
   unfolding gainRow
-  gain-zero k = bracket-zero 5 (gainUpdates k) _ (withGain t (gainOf (stepAt k))) z
+  gain-kept k = bracket-kept 5 (gainUpdates k) _ (withGain t (gainOf (stepAt k))) z
 
-  path-zero : (p : PathRead) (kind : Kind) → Zero (pathRow p kind t)
-  path-zero path-read.Refused kind = resting t (Refused 1) z
-  path-zero (path-read.Is path) R820T = resting t (Done 0) z
-  path-zero (path-read.Is path) R828D = bracket-zero 2 (pathUpdates path) (Done 0) t z
+  path-kept : (p : PathRead) (kind : Kind) → Keeps x (pathRow p kind t)
+  path-kept path-read.Refused kind = resting t (Refused 1) z
+  path-kept (path-read.Is path) R820T = resting t (Done 0) z
+  path-kept (path-read.Is path) R828D = bracket-kept 2 (pathUpdates path) (Done 0) t z
 
-  board-zero : (p : PathRead) (rs : List ℕ) → Zero (boardRow p rs t)
-  board-zero path-read.Refused rs = resting t (Refused 1) z
-  board-zero (path-read.Is path) rs = stepping 0 10 3 rs (Done 0) (boardPathSteps (t .kind) path rs) _ (λ tr. z)
+  board-kept : (p : PathRead) (rs : List ℕ) → Keeps x (boardRow p rs t)
+  board-kept path-read.Refused rs = resting t (Refused 1) z
+  board-kept (path-read.Is path) rs = stepping 0 10 3 rs (Done 0) (boardPathSteps (t .kind) path rs) _ (λ tr. z)
 
-  correction-zero : (b : Bool) (v : ℕ) (ppm : ℤ) (d : Driver) → Zero (tunerPart (cond b (Still (both (withCorrected t v) (withPpm d ppm)) (Done 0)) (Still (both t d) (Refused 4))))
-  correction-zero true v ppm d = resting (withCorrected t v) (Done 0) z
-  correction-zero false v ppm d = resting t (Refused 4) z
+  correction-kept : (b : Bool) (v : ℕ) (ppm : ℤ) (d : Driver) → Keeps x (tunerPart (cond b (Still (both (withCorrected t v) (withPpm d ppm)) (Done 0)) (Still (both t d) (Refused 4))))
+  correction-kept true v ppm d = resting (withCorrected t v) (Done 0) z
+  correction-kept false v ppm d = resting t (Refused 4) z
 
-  -- the IF that a rate asks for
-  pub rate-zero : (rate : ℕ) → ifFor (t .ifreq) rate ≡ 0
-  rate-zero rate = rw z
+  every-kept : (o : Order) → setsIf o ≡ false → ((rate : ℕ) → rates o ≡ true → ifFor (t .ifreq) rate ≡ x) → Keeps x (rowOf o t)
+  every-kept (Tuned Initialize) h same = stepping 0 19 0 [] (Done 0) _ _ (λ tr. z)
+  every-kept (Tuned Reload) h same = stepping 0 9 0 [] (Done 0) _ _ (λ tr. z)
+  every-kept (Tuned (Bandwidth hz)) h same = bracket-kept 1 (bandwidthUpdates hz) (Done 0) t z
+  every-kept (Tuned (IfFreq hz)) h same = absurd (true≢false h)
+  every-kept (Tuned (Gain db)) h same = gain-kept (chosenOf db)
+  every-kept (Tuned (GainIndex k)) h same = gain-kept (clamped k)
+  every-kept (Tuned (InputPath path)) h same = path-kept (pathOf path) (t .kind)
+  every-kept (Tuned (Tune hz rs)) h same = stepping _ 53 35 rs _ _ _ (λ tr. z)
+  every-kept (Tuned (Notch on)) h same = resting _ (Done 0) z
+  every-kept (Tuned GainTold) h same = resting t _ z
+  every-kept (Tuned IfTold) h same = resting t _ z
+  every-kept (Tuned TableTold) h same = resting t (Done 0) z
+  every-kept (SampleRate rate table d) h same = stepping _ 17 0 [] (Done 0) _ (λ tr. retuned t (ifFor (t .ifreq) rate) (tr .chip)) (λ tr. same rate refl)
+  every-kept (Correction ppm d) h same = correction-kept (leb 1 (xtalBy (t .nominal) ppm) && leb 1 (xtalBy (d .nominal) ppm)) (xtalBy (t .nominal) ppm) ppm d
+  every-kept (BoardPath path rs) h same = board-kept (pathOf path) rs
+  every-kept (BoardTune hz table rs d) h same = stepping _ 64 38 rs _ _ _ (λ tr. z)
 
-  every-zero : (o : Order) → setsIf o ≡ false → Zero (rowOf o t)
-  every-zero (Tuned Initialize) h = stepping 0 19 0 [] (Done 0) _ _ (λ tr. z)
-  every-zero (Tuned Reload) h = stepping 0 9 0 [] (Done 0) _ _ (λ tr. z)
-  every-zero (Tuned (Bandwidth hz)) h = bracket-zero 1 (bandwidthUpdates hz) (Done 0) t z
-  every-zero (Tuned (IfFreq hz)) h = absurd (true≢false h)
-  every-zero (Tuned (Gain db)) h = gain-zero (chosenOf db)
-  every-zero (Tuned (GainIndex k)) h = gain-zero (clamped k)
-  every-zero (Tuned (InputPath path)) h = path-zero (pathOf path) (t .kind)
-  every-zero (Tuned (Tune hz rs)) h = stepping _ 53 35 rs _ _ _ (λ tr. z)
-  every-zero (Tuned (Notch on)) h = resting _ (Done 0) z
-  every-zero (Tuned GainTold) h = resting t _ z
-  every-zero (Tuned IfTold) h = resting t _ z
-  every-zero (Tuned TableTold) h = resting t (Done 0) z
-  every-zero (SampleRate rate table d) h = stepping _ 17 0 [] (Done 0) _ (λ tr. retuned t (ifFor (t .ifreq) rate) (tr .chip)) (λ tr. rate-zero rate)
-  every-zero (Correction ppm d) h = correction-zero (leb 1 (xtalBy (t .nominal) ppm) && leb 1 (xtalBy (d .nominal) ppm)) (xtalBy (t .nominal) ppm) ppm d
-  every-zero (BoardPath path rs) h = board-zero (pathOf path) rs
-  every-zero (BoardTune hz table rs d) h = stepping _ 64 38 rs _ _ _ (λ tr. z)
+  -- a call that sets no IF, and whose rate is had with this one
+  pub if-kept : (k : Call) → setsIf (k .order) ≡ false → ((rate : ℕ) → rates (k .order) ≡ true → ifFor (t .ifreq) rate ≡ x) → tunerAfter k t .ifreq ≡ x
+  if-kept k h same =
+      ap (λ (c : Called Tuner). c .next .ifreq) (result-row t (k .outcomes) (k .room) (k .order))
+      ∙ row-kept (soundFor (k .order) t) (k .outcomes) (k .room) (rowOf (k .order) t) (every-kept (k .order) h same)
+
+-- the IF that a rate asks for
+pub rate-zero : (t : Tuner) → t .ifreq ≡ 0 → (rate : ℕ) → ifFor (t .ifreq) rate ≡ 0
+rate-zero t z rate = rw z
 
 -- an IF of 0 stays 0 until an IF is set
 pub zero-stays : (t u : Tuner) → Since t u → t .ifreq ≡ 0 → u .ifreq ≡ 0
 zero-stays t u start z = z
 zero-stays t u (later v s k h) z =
     let before : v .ifreq ≡ 0 = zero-stays t v s z in
-    ap (λ (x : Called Tuner). x .next .ifreq) (result-row v (k .outcomes) (k .room) (k .order))
-    ∙ row-zero v before (soundFor (k .order) v) (k .outcomes) (k .room) (rowOf (k .order) v) (every-zero v before (k .order) h)
+    if-kept 0 v before k h (λ rate r. rate-zero v before rate)
 
 -- "for all later rates": each of them sends the tuner and the demodulator an IF of 0
 pub zero-sent : (t u : Tuner) → Since t u → t .ifreq ≡ 0 → (rate : ℕ) (table : List ℕ) (d : Driver)

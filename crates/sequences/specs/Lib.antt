@@ -6,3 +6,4 @@ pub mod Repeater
 pub mod Written
 pub mod Spent
 pub mod Since
+pub mod Retunes

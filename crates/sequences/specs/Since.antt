@@ -27,6 +27,25 @@ setsIf (Correction ppm d) = false
 setsIf (BoardPath path rs) = false
 setsIf (BoardTune hz table rs d) = false
 
+-- the one that picks it by a rate
+abbrev pub rates : Order → Bool
+rates (Tuned Initialize) = false
+rates (Tuned Reload) = false
+rates (Tuned (Bandwidth hz)) = false
+rates (Tuned (IfFreq hz)) = false
+rates (Tuned (Gain db)) = false
+rates (Tuned (GainIndex k)) = false
+rates (Tuned (InputPath path)) = false
+rates (Tuned (Tune hz rs)) = false
+rates (Tuned (Notch on)) = false
+rates (Tuned GainTold) = false
+rates (Tuned IfTold) = false
+rates (Tuned TableTold) = false
+rates (SampleRate rate table d) = true
+rates (Correction ppm d) = false
+rates (BoardPath path rs) = false
+rates (BoardTune hz table rs d) = false
+
 -- from the record t on, with any outcomes and lent memory; calls that take no record change none, and so stand where they like
 pub data Since (t : Tuner) : Tuner → Type 0 where
   start : Since t t

@@ -3,3 +3,4 @@ pub mod Images
 pub mod Exact
 pub mod Editions
 pub mod Moves
+pub mod Newer

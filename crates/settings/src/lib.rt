@@ -148,9 +148,9 @@ fn fields_at(s: &[u8], at: usize) -> Settings
     Settings {
         kind: wire::get(s, at, 1),
         board: wire::get(s, at + BOARD, 1),
-        ppm: wire::to_signed(wire::get(s, at + PPM, 4) as u32),
-        rate: wire::get(s, at + RATE, 4) as u32,
-        frequency: wire::get(s, at + FREQUENCY, 8),
+        ppm: wire::to_signed(wire::four(s, at + PPM)),
+        rate: wire::four(s, at + RATE),
+        frequency: wire::eight(s, at + FREQUENCY),
         gain: wire::get(s, at + GAIN, 1),
     }
 }
@@ -260,7 +260,7 @@ fn read_only_2(s: &[u8]) -> Read2
         refusal: 0,
         settings: Settings2 {
             settings: settings,
-            ifreq: wire::get(s, at + FIELDS_1, 4) as u32,
+            ifreq: wire::four(s, at + FIELDS_1),
         },
     }
 }

@@ -161,3 +161,8 @@ module _ {S O : Type 0} (exec : ℕ → List ℕ → S → Ran S O) where
   -- "An incomplete command at the end is reported with its length, 1 to 8, and does nothing": of a stream that starts empty
   pub left-over : (bs : List ℕ) (w : Fed S O) → w .pending ≡ [] → length (feed exec bs w .pending) ≡ length bs % 9
   left-over bs w e = let z : length (w .pending) ≡ 0 = ap length e in let k = counted bs w (omega arith) in omega arith
+
+  -- "An incomplete command at the end .. does nothing": nothing changes but what waits
+  pub incomplete : (bs : List ℕ) (w : Fed S O) → length (w .pending) + length bs ≤ 8 → feed exec bs w ≡ waiting exec (w .pending ++ bs) w
+  incomplete bs w h =
+      up-to bs w (omega arith) (omega arith) ∙ rw (nine-not (w .pending ++ bs) (omega (arith, length-append (w .pending) bs)))

@@ -1,3 +1,4 @@
 pub mod Laws
 pub mod Images
 pub mod Cuts
+pub mod Unused

@@ -74,7 +74,7 @@ fn named_low(operation: u8, argument: u32) -> Command
 pub fn command_of(bytes: &[u8; 9]) -> Command
     ensures { λ r. ⌜ r ≡ commandOf (now (bytes .entry)) ⌝ }
 {
-    let argument = wire::get(bytes, 1, 8);
+    let argument = wire::eight(bytes, 1);
     let operation = bytes[0];
     if !is_known(operation, argument) {
         return Command::Unknown;

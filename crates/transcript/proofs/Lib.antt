@@ -5,3 +5,4 @@ pub mod Rows
 pub mod Exact
 pub mod Worked
 pub mod Bare
+pub mod Words

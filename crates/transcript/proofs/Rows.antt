@@ -27,6 +27,10 @@ column m [] h k = omega arith
 column m (x ∷ xs) h zero = leb-true x m (both (leb x m) (within m xs) h .0)
 column m (x ∷ xs) h (suc k) = column m xs (both (leb x m) (within m xs) h .1) k
 
+pub address-most : (k : ℕ) → getD addressMost k 0 ≤ 65535
+unfolding within addressMost
+address-most = column 65535 addressMost refl
+
 -- what is known of an entry that fits
 pub record Row (e : Entry) : Type 0 where
   pub kind : (1 ≤ e .kind) × (e .kind ≤ 9)
@@ -66,7 +70,7 @@ row-of e h =
       outcome = omega (arith, leb-true (e .outcome) (getD outcomeMost k 0) (r3 .1), column 1 outcomeMost refl k);
       target = omega (arith, leb-true (e .target) (getD targetMost k 0) (r4 .1), column 255 targetMost refl k);
       n = omega (arith, leb-true (e .n) (getD nHigh k 0) (r6 .1), column 8 nHigh refl k);
-      address = omega (arith, leb-true (e .address) (getD addressMost k 0) (r7 .1), column 65535 addressMost refl k);
+      address = omega (arith, leb-true (e .address) (getD addressMost k 0) (r7 .1), address-most k);
       eight = eqb-true (length (e .bytes)) 8 (q .1);
       padded = p .1;
     }

@@ -4,8 +4,9 @@ ghost use mathlib.Core.Path.{_≡_};
 ghost use Prim.Native.Nat.{_+_, _*_, _≤_, _<_};
 ghost use lib.ListN.{length, take, drop};
 ghost use lib.Seq.{sets};
+ghost use Rattle.wire.specs.Bytes.{leBytes};
 ghost use Rattle.transcript.specs.Table.{rowFits};
-ghost use Rattle.transcript.specs.Entries.{entryBytes, entryOf, zeros, keptBy, entryFits, fits};
+ghost use Rattle.transcript.specs.Entries.{entryBytes, entryOf, zeros, keptBy, fits};
 ghost use Rattle.transcript.specs.Sections.{trailerBytes, allFit, sectionOf, entriesOf, beforeOf, refusalOf};
 
 // The kinds of document 01's table.
@@ -30,19 +31,6 @@ pub const WAIT: u8 = 9;
 // Refusal 12. It stands here and not with the other numbers in crate chip, since chip depends on this crate.
 pub const SECTION: u32 = 12;
 
-// The table of kinds, a column for each rule. There is no kind 0: the first number of each column only holds the place.
-const N_LOW: [u8; 10] = [0, 1, 1, 1, 1, 2, 1, 2, 1, 0];
-
-const N_HIGH: [u8; 10] = [0, 1, 8, 5, 1, 2, 1, 2, 1, 0];
-
-const OUTCOME_MOST: [u8; 10] = [0, 1, 1, 1, 1, 1, 1, 1, 1, 0];
-
-const TARGET_MOST: [u8; 10] = [0, 0, 255, 255, 255, 255, 255, 255, 255, 0];
-
-const ADDRESS_MOST: [u16; 10] = [0, 0, 0, 0, 65535, 65535, 65535, 65535, 65535, 65535];
-
-const FIRST_MOST: [u8; 10] = [0, 1, 255, 255, 255, 255, 255, 255, 255, 0];
-
 // "An entry has 16 bytes: kind, outcome (0 done, 1 failed), target, n, address (u16, low byte first), two zeros, eight data
 // bytes padded with zeros." The bytes here are the eight, with their zeros.
 pub struct Entry {
@@ -60,22 +48,26 @@ fn wide(x: u8) -> usize
     x as usize
 }
 
-fn row_fits(k: usize, o: u8, t: u8, n: u8, a: u16, b: u8) -> bool
-    requires { ⌜ k < 10 ⌝ }
+// The table of kinds, a line for each. What any byte fits is not tested.
+fn row_fits(k: u8, o: u8, t: u8, n: u8, a: u32, b: u8) -> bool
     ensures { λ r. ⌜ r ≡ rowFits k o t n a b ⌝ }
 {
-    (k <= 9)
-        & (1 <= k)
-        & (o <= OUTCOME_MOST[k])
-        & (t <= TARGET_MOST[k])
-        & (N_LOW[k] <= n)
-        & (n <= N_HIGH[k])
-        & (a <= ADDRESS_MOST[k])
-        & (b <= FIRST_MOST[k])
+    match k {
+        1 => (o <= 1) & (t <= 0) & (1 <= n) & (n <= 1) & (a <= 0) & (b <= 1),
+        2 => (o <= 1) & (1 <= n) & (n <= 8) & (a <= 0),
+        3 => (o <= 1) & (1 <= n) & (n <= 5) & (a <= 0),
+        4 => (o <= 1) & (1 <= n) & (n <= 1) & (a <= 65535),
+        5 => (o <= 1) & (2 <= n) & (n <= 2) & (a <= 65535),
+        6 => (o <= 1) & (1 <= n) & (n <= 1) & (a <= 65535),
+        7 => (o <= 1) & (2 <= n) & (n <= 2) & (a <= 65535),
+        8 => (o <= 1) & (1 <= n) & (n <= 1) & (a <= 65535),
+        9 => (o <= 0) & (t <= 0) & (n <= 0) & (a <= 65535) & (b <= 0),
+        _ => false,
+    }
 }
 
 // How many data bytes an entry keeps: none of a failed read.
-fn kept_by(k: usize, o: u8, n: u8) -> usize
+fn kept_by(k: u8, o: u8, n: u8) -> usize
     ensures { λ r. ⌜ r ≡ keptBy k o n ⌝ }
 {
     if ((k == 3) | (k == 8)) & (0 < o) {
@@ -84,17 +76,14 @@ fn kept_by(k: usize, o: u8, n: u8) -> usize
     wide(n)
 }
 
-fn zeros_from(b: [u8; 8], from: usize) -> bool
-    ensures { λ r. ⌜ r ≡ zeros (drop from b) ⌝ }
+// Whether the eight data bytes, as one number, are zeros from `kept` on.
+fn padded(d: u64, kept: usize) -> bool
+    ensures { λ r. ⌜ r ≡ zeros (drop kept (leBytes 8 d)) ⌝ }
 {
-    let mut i = from;
-    while i < 8 {
-        if b[i] != 0 {
-            return false;
-        }
-        i += 1;
+    if 7 < kept {
+        return true;
     }
-    true
+    (d >> (8 * kept)) == 0
 }
 
 impl Entry {
@@ -131,19 +120,6 @@ impl Entry {
             bytes: image,
         }
     }
-
-    // Whether the entry fits the table, with zeros after its data; a failed read has no data.
-    fn fits(self) -> bool
-        ensures { λ r. ⌜ r ≡ entryFits self ⌝ }
-    {
-        let k = wide(self.kind);
-        if 9 < k {
-            return false;
-        }
-        let b = self.bytes;
-        row_fits(k, self.outcome, self.target, self.n, self.address, b[0])
-            & zeros_from(b, kept_by(k, self.outcome, self.n))
-    }
 }
 
 // Writes the trailer after the `count` entries at the start of the room, which makes them a section.
@@ -156,13 +132,17 @@ pub fn seal(room: &mut [u8], count: usize)
     wire::put(room, at + 4, at as u64, 4);
 }
 
-// Whether the 16 bytes from `at` are an entry.
+// Whether the 16 bytes from `at` are an entry: its address and the two zeros behind it are one number here.
 fn entry_fits(s: &[u8], at: usize) -> bool
     requires { ⌜ at + 16 ≤ length (now s) ⌝ }
     ensures { λ r. ⌜ r ≡ fits (take 16 (drop at (now (s .entry)))) ⌝ }
 {
-    let e = Entry::get(s, at);
-    (s[at + 6] == 0) & (s[at + 7] == 0) & e.fits()
+    let k = s[at];
+    let o = s[at + 1];
+    let n = s[at + 3];
+    let a = wire::four(s, at + 4);
+    let d = wire::eight(s, at + 8);
+    row_fits(k, o, s[at + 2], n, a, s[at + 8]) & padded(d, kept_by(k, o, n))
 }
 
 fn all_fit(s: &[u8], at: usize, count: usize) -> bool
@@ -205,8 +185,8 @@ pub fn read_section(s: &[u8]) -> Section
         return Section::Refused;
     }
     let trailer = n - 8;
-    let count = wire::get(s, trailer, 4) as usize;
-    let distance = wire::get(s, trailer + 4, 4) as usize;
+    let count = wire::four(s, trailer) as usize;
+    let distance = wire::four(s, trailer + 4) as usize;
     if 4096 < count {
         return Section::Refused;
     }

@@ -108,3 +108,24 @@ one-below k at b bytes h =
 
 pub one-long : (k at : ℕ) (b : List ℕ) → at + k ≤ length b → length (take k (drop at b)) ≡ k
 one-long k at b h = length-take k (drop at b) ∙ omega (arith, length-drop at b)
+
+-- four bytes at the start of a part, one by one
+spelt : (k i j : ℕ) (s : List ℕ) → i < length s → suc i ≡ j → take (suc k) (drop i s) ≡ getD s i 0 ∷ take k (drop j s)
+spelt k i j s h next = rw (drop-cons s i 0 h, next)
+
+pub four-spelt : (k at : ℕ) (s : List ℕ) → at + 4 ≤ length s
+    → take (suc (suc (suc (suc k)))) (drop at s) ≡ getD s at 0 ∷ getD s (at + 1) 0 ∷ getD s (at + 2) 0 ∷ getD s (at + 3) 0 ∷ take k (drop (at + 4) s)
+four-spelt k at s h =
+    spelt (suc (suc (suc k))) at (at + 1) s (omega arith) (omega arith)
+    ∙ ap (λ l. getD s at 0 ∷ l) (spelt (suc (suc k)) (at + 1) (at + 2) s (omega arith) (omega arith))
+    ∙ ap (λ l. getD s at 0 ∷ getD s (at + 1) 0 ∷ l) (spelt (suc k) (at + 2) (at + 3) s (omega arith) (omega arith))
+    ∙ ap (λ l. getD s at 0 ∷ getD s (at + 1) 0 ∷ getD s (at + 2) 0 ∷ l) (spelt k (at + 3) (at + 4) s (omega arith) (omega arith))
+
+-- the number of eight bytes by those of its halves
+pub eight-halves : (at : ℕ) (s : List ℕ) → at + 8 ≤ length s
+    → leValue (take 4 (drop at s)) + 0x100000000 * leValue (take 4 (drop (at + 4) s)) ≡ leValue (take 8 (drop at s))
+unfolding leValue
+eight-halves at s h =
+    let low : leValue (take 4 (drop at s)) ≡ _ = ap leValue (four-spelt 0 at s (omega arith)) in
+    let all : leValue (take 8 (drop at s)) ≡ _ = ap leValue (four-spelt 4 at s (omega arith)) in
+    omega arith

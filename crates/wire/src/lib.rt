@@ -2,6 +2,7 @@
 // slice. Ours: no file of the Rust has it. Document 01, "Transcript and script": "u16, low byte first", "u32, low byte
 // first"; "Modules, leaves first": "Records cross there as bytes".
 ghost use mathlib.Core.Path.{_≡_};
+ghost use mathlib.Core.List.{[], _∷_};
 ghost use Prim.Native.Nat.{_+_, _^_, _≤_, _<_};
 ghost use lib.ListN.{length, take, drop};
 ghost use lib.Seq.{sets};
@@ -29,6 +30,29 @@ pub fn get(s: &[u8], at: usize, k: usize) -> u64
         n = n * 256 + b;
     }
     n
+}
+
+// The number of four bytes, lowest first.
+fn word(a: u8, b: u8, c: u8, d: u8) -> u32
+    ensures { λ r. ⌜ r ≡ leValue (a ∷ b ∷ c ∷ d ∷ []) ⌝ }
+{
+    (a as u32) + 0x100 * (b as u32) + 0x1_0000 * (c as u32) + 0x100_0000 * (d as u32)
+}
+
+// The numbers of four and of eight bytes as one sum: the compiler makes one load of it, whatever the number is tested for.
+// The bytes of `get`'s loop it takes apart where they are tested.
+pub fn four(s: &[u8], at: usize) -> u32
+    requires { ⌜ at + 4 ≤ length (now s) ⌝ }
+    ensures { λ r. ⌜ r ≡ leValue (take 4 (drop at (now (s .entry)))) ⌝ }
+{
+    word(s[at], s[at + 1], s[at + 2], s[at + 3])
+}
+
+pub fn eight(s: &[u8], at: usize) -> u64
+    requires { ⌜ at + 8 ≤ length (now s) ⌝ }
+    ensures { λ r. ⌜ r ≡ leValue (take 8 (drop at (now (s .entry)))) ⌝ }
+{
+    (four(s, at) as u64) + 0x1_0000_0000 * (four(s, at + 4) as u64)
 }
 
 // The low k bytes of n, lowest first, from `at`.

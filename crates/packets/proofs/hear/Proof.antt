@@ -21,8 +21,8 @@ returns c =
     let args = c .before .before .before .args in
     c .nothing .ensures ∙ heard-short (drop (args .at) (now (args .s))) (omega (arith, length-drop (args .at) (now (args .s))))
 
-get-requires : tie.Need-get-requires
-get-requires c κs = search needs
+eight-requires : tie.Need-eight-requires
+eight-requires c κs = search needs
 
 named-requires : tie.Need-named-requires
 named-requires c κs = search needs
@@ -34,10 +34,10 @@ in-table-requires : tie.Need-in-table-requires
 in-table-requires c κs =
     let at-named = c .before in
     let named = at-named .named in
-    let at-get = at-named .before in
-    let get = at-get .get in
-    let args = at-get .before .before .before .args in
-    row (drop (args .at) (now (args .s))) (get .result) (named .result) (get .ensures .0) (named .ensures) (c .sent-by .result) (c .sent-by .ensures .0)
+    let at-eight = at-named .before in
+    let eight = at-eight .eight in
+    let args = at-eight .before .before .before .args in
+    row (drop (args .at) (now (args .s))) (eight .result) (named .result) (eight .ensures) (named .ensures) (c .sent-by .result) (c .sent-by .ensures .0)
 
 setup-of-requires : tie.Need-setup-of-requires
 setup-of-requires c κs = search needs
@@ -56,11 +56,11 @@ returns-2 c =
     let sent-by = at-sent-by .sent-by in
     let at-named = at-sent-by .before in
     let named = at-named .named in
-    let at-get = at-named .before in
-    let get = at-get .get in
-    let args = at-get .before .before .before .args in
+    let at-eight = at-named .before in
+    let eight = at-eight .eight in
+    let args = at-eight .before .before .before .args in
     c .nothing2 .ensures
-    ∙ heard-other (drop (args .at) (now (args .s))) (get .result) (named .result) (get .ensures .0) (named .ensures) (sent-by .result) (sent-by .ensures .0)
+    ∙ heard-other (drop (args .at) (now (args .s))) (eight .result) (named .result) (eight .ensures) (named .ensures) (sent-by .result) (sent-by .ensures .0)
     (in-table .result) (setup-of .result) (in-table .ensures) (setup-of .ensures) (not-true _ (at-if2 .if2 .taken))
 
 add-if3 : tie.Need-add-if3
@@ -75,11 +75,11 @@ returns-3 c =
     let sent-by = at-sent-by .sent-by in
     let at-named = at-sent-by .before in
     let named = at-named .named in
-    let at-get = at-named .before in
-    let get = at-get .get in
-    let args = at-get .before .before .before .args in
+    let at-eight = at-named .before in
+    let eight = at-eight .eight in
+    let args = at-eight .before .before .before .args in
     c .nothing3 .ensures
-    ∙ heard-cut (drop (args .at) (now (args .s))) (get .result) (named .result) (get .ensures .0) (named .ensures) (sent-by .result) (sent-by .ensures .0)
+    ∙ heard-cut (drop (args .at) (now (args .s))) (eight .result) (named .result) (eight .ensures) (named .ensures) (sent-by .result) (sent-by .ensures .0)
     (omega (arith, length-drop (args .at) (now (args .s))))
 
 with-data-requires : tie.Need-with-data-requires
@@ -92,10 +92,10 @@ with-data-requires c κs =
     let sent-by = at-sent-by .sent-by in
     let at-named = at-sent-by .before in
     let named = at-named .named in
-    let at-get = at-named .before in
-    let get = at-get .get in
-    let args = at-get .before .before .before .args in (
-      few (drop (args .at) (now (args .s))) (get .result) (named .result) (get .ensures .0) (named .ensures) (sent-by .result) (sent-by .ensures .0)
+    let at-eight = at-named .before in
+    let eight = at-eight .eight in
+    let args = at-eight .before .before .before .args in (
+      few (drop (args .at) (now (args .s))) (eight .result) (named .result) (eight .ensures) (named .ensures) (sent-by .result) (sent-by .ensures .0)
           (in-table .result) (at-setup-of .setup-of .result) (in-table .ensures) (not-false _ (at-if2 .if2 .left)),
       omega arith,
     )
@@ -111,11 +111,11 @@ returns-4 c =
     let sent-by = at-sent-by .sent-by in
     let at-named = at-sent-by .before in
     let named = at-named .named in
-    let at-get = at-named .before in
-    let get = at-get .get in
-    let args = at-get .before .before .before .args in
+    let at-eight = at-named .before in
+    let eight = at-eight .eight in
+    let args = at-eight .before .before .before .args in
     c .with-data .ensures
-    ∙ heard-told (drop (args .at) (now (args .s))) (get .result) (named .result) (get .ensures .0) (named .ensures) (sent-by .result) (sent-by .ensures .0)
+    ∙ heard-told (drop (args .at) (now (args .s))) (eight .result) (named .result) (eight .ensures) (named .ensures) (sent-by .result) (sent-by .ensures .0)
     (in-table .result) (setup-of .result) (in-table .ensures) (setup-of .ensures) (not-false _ (at-if2 .if2 .left))
     (omega (arith, length-drop (args .at) (now (args .s)))) (omega (arith, length-drop (args .at) (now (args .s))))
 
@@ -126,7 +126,7 @@ hear-spec =
     sub-left
     nothing-requires
     returns
-    get-requires
+    eight-requires
     named-requires
     sent-by-requires
     in-table-requires

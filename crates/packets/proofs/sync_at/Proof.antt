@@ -14,14 +14,14 @@ returns c =
     let args = c .before .before .args in
     no-sync (now (args .s)) (args .at) (c .if1 .taken)
 
-get-requires : tie.Need-get-requires
-get-requires c κs = search needs
+eight-requires : tie.Need-eight-requires
+eight-requires c κs = search needs
 
 returns-2 : tie.Need-returns-2
 returns-2 c =
     let at-if1 = c .before in
     let args = at-if1 .before .before .args in
-    sync-told (now (args .s)) (args .at) (c .get .result) (at-if1 .if1 .left) (c .get .ensures .0)
+    sync-told (now (args .s)) (args .at) (c .eight .result) (at-if1 .if1 .left) (c .eight .ensures)
 
 pub sync-at-spec : {M : Type 1} → statement M
-sync-at-spec = tie.close (tie.spec sub-if1 returns get-requires returns-2)
+sync-at-spec = tie.close (tie.spec sub-if1 returns eight-requires returns-2)

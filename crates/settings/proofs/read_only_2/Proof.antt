@@ -58,19 +58,16 @@ returns-2 c =
     c .refuse-22 .ensures
     ∙ by-field2 s (r .result) (r .ensures) (fields-at .result) (refusal .result) (at-if1 .if1 .left) v (refusal .ensures) (at-if2 .if2 .taken)
 
-add-get : tie.Need-add-get
-add-get c = search needs
+add-four : tie.Need-add-four
+add-four c = search needs
 
-get-requires : tie.Need-get-requires
-get-requires c κs =
+four-requires : tie.Need-four-requires
+four-requires c κs =
     let at-if1 = c .before .before .before in
     let at-trailer-refusal = at-if1 .before in
     let start = at-trailer-refusal .before .before in
     let h = sealed 2 23 (now (start .args .s)) (sym (at-trailer-refusal .trailer-refusal .ensures) ∙ at-if1 .if1 .left) in
-    (omega arith, omega (arith, h .long, h .room))
-
-cast-t9 : tie.Need-cast-t9
-cast-t9 c = search needs
+    omega (arith, h .long, h .room)
 
 returns-3 : tie.Need-returns-3
 returns-3 c =
@@ -87,8 +84,8 @@ returns-3 c =
     let r = at-trailer-refusal .trailer-refusal in
     let h = sealed 2 23 s (sym (r .ensures) ∙ if1 .left) in
     let v = there2 s (fields-at .result) (fields-at .ensures) in
-    taken2 s (r .result) (r .ensures) (fields-at .result) (refusal .result) (if1 .left) v (refusal .ensures) (c .get .result)
-    (if-there s (c .get .result) (omega (arith, h .long, h .room)) (c .get .ensures .0)) (at-if2 .if2 .left)
+    taken2 s (r .result) (r .ensures) (fields-at .result) (refusal .result) (if1 .left) v (refusal .ensures) (c .four .result)
+    (if-there s (c .four .result) (omega (arith, h .long, h .room)) (c .four .ensures)) (at-if2 .if2 .left)
 
 pub read-only-2-spec : {M : Type 1} → statement M
 read-only-2-spec =
@@ -102,7 +99,6 @@ read-only-2-spec =
     refusal-requires
     refuse-2-requires-2
     returns-2
-    add-get
-    get-requires
-    cast-t9
+    add-four
+    four-requires
     returns-3)

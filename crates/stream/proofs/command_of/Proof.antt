@@ -11,8 +11,8 @@ use borrow.Author.Needs.{needs}
 use Rattle.stream.proofs.command_of.Statement.{statement}
 use Rattle.stream.proofs.command_of.Tie as tie
 
-get-requires : tie.Need-get-requires
-get-requires c κs = search needs
+eight-requires : tie.Need-eight-requires
+eight-requires c κs = search needs
 
 element-copy-out-operation : tie.Need-element-copy-out-operation
 element-copy-out-operation c = search needs
@@ -23,30 +23,30 @@ is-known-requires c κs = search needs
 returns : tie.Need-returns
 returns c =
     let at-is-known = c .before in
-    let at-get = at-is-known .before .before in
-    let start = at-get .before .before in
-    unknown (now (start .args .bytes)) _ (at-get .get .ensures .0) (sym (at-is-known .is-known .ensures) ∙ not-true _ (c .if1 .taken))
+    let at-eight = at-is-known .before .before in
+    let start = at-eight .before .before in
+    unknown (now (start .args .bytes)) _ (at-eight .eight .ensures) (sym (at-is-known .is-known .ensures) ∙ not-true _ (c .if1 .taken))
 
 returns-2 : tie.Need-returns-2
 returns-2 c =
     let at-if1 = c .before in
     let at-is-known = at-if1 .before in
-    let at-get = at-is-known .before .before in
-    let get = at-get .get in
-    let start = at-get .before .before in
+    let at-eight = at-is-known .before .before in
+    let eight = at-eight .eight in
+    let start = at-eight .before .before in
     let bytes = now (start .args .bytes) in
-    let n = get .result in
-    known bytes n (get .ensures .0) _ (sym (at-is-known .is-known .ensures) ∙ not-false _ (at-if1 .if1 .left)) (sym (ap (λ (o : ℕ). named o n) (c .if2 .taken)))
+    let n = eight .result in
+    known bytes n (eight .ensures) _ (sym (at-is-known .is-known .ensures) ∙ not-false _ (at-if1 .if1 .left)) (sym (ap (λ (o : ℕ). named o n) (c .if2 .taken)))
 
 cast-named-low : tie.Need-cast-named-low
 cast-named-low c =
     let at-if1 = c .before in
     let at-is-known = at-if1 .before in
-    let at-get = at-is-known .before .before in
-    let start = at-get .before .before in
+    let at-eight = at-is-known .before .before in
+    let start = at-eight .before .before in
     omega (
       arith,
-      low-fits (getD (now (start .args .bytes)) 0 0) (at-get .get .result) (sym (at-is-known .is-known .ensures) ∙ not-false _ (at-if1 .if1 .left))
+      low-fits (getD (now (start .args .bytes)) 0 0) (at-eight .eight .result) (sym (at-is-known .is-known .ensures) ∙ not-false _ (at-if1 .if1 .left))
           (c .if2 .left),
     )
 
@@ -54,25 +54,25 @@ named-low-requires : tie.Need-named-low-requires
 named-low-requires c κs =
     let at-if1 = c .before in
     let at-is-known = at-if1 .before in
-    let at-get = at-is-known .before .before in
-    let start = at-get .before .before in
+    let at-eight = at-is-known .before .before in
+    let start = at-eight .before .before in
     let k = sym (at-is-known .is-known .ensures) ∙ not-false _ (at-if1 .if1 .left) in
-    (omega (arith, at-least-one (getD (now (start .args .bytes)) 0 0) (at-get .get .result) k), k)
+    (omega (arith, at-least-one (getD (now (start .args .bytes)) 0 0) (at-eight .eight .result) k), k)
 
 returns-3 : tie.Need-returns-3
 returns-3 c =
     let at-if1 = c .before .before in
     let at-is-known = at-if1 .before in
-    let at-get = at-is-known .before .before in
-    let start = at-get .before .before in
-    known (now (start .args .bytes)) _ (at-get .get .ensures .0) _ (sym (at-is-known .is-known .ensures) ∙ not-false _ (at-if1 .if1 .left))
+    let at-eight = at-is-known .before .before in
+    let start = at-eight .before .before in
+    known (now (start .args .bytes)) _ (at-eight .eight .ensures) _ (sym (at-is-known .is-known .ensures) ∙ not-false _ (at-if1 .if1 .left))
     (c .named-low .ensures)
 
 pub command-of-spec : {M : Type 1} → statement M
 command-of-spec =
     tie.close
     (tie.spec
-    get-requires
+    eight-requires
     element-copy-out-operation
     is-known-requires
     returns

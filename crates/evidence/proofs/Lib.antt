@@ -1,0 +1,5 @@
+pub mod Marks
+pub mod Held
+pub mod Rates
+pub mod Quiet
+pub mod Worked

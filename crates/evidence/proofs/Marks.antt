@@ -1,0 +1,77 @@
+-- Each mark exactly: sure where each register's last attempt was done, never where none was attempted, else doubtful. Assumes nothing.
+use Prim.Native.Nat.{ℕ}
+use mathlib.Core.Path.{_≡_, refl, ap}
+use mathlib.Core.Bool.{Bool, true, false, cond, false≢true}
+use mathlib.Core.List.{List, [], _∷_}
+use mathlib.Core.Logic.{_↔_}
+use native.Mathlib.Omega.{arith}
+use lib.Dec.{eqb}
+use Rattle.attempts.specs.Namings.{Last, doubtIn}
+use Rattle.attempts.specs.Namings.Last.{Never, Tried}
+use Rattle.chip.proofs.Laws.{and-left, and-right}
+use Rattle.evidence.specs.Evidence.{markAll, markOf, same}
+
+-- all of them
+abbrev pub Each : (Last → Type 0) → List Last → Type 0
+Each p [] = Unit {0}
+Each p (l ∷ ls) = p l × Each p ls
+
+abbrev pub Sure : Last → Type 0
+Sure l = (byte : ℕ) × (l ≡ Tried byte true)
+
+abbrev pub Unheard : Last → Type 0
+Unheard l = l ≡ Never
+
+two : (l : Last) → eqb (markOf l) 2 ≡ true → Sure l
+two Never h = absurd (false≢true h)
+two (Tried byte true) h = (byte, refl)
+two (Tried byte false) h = absurd (false≢true h)
+
+zero-mark : (l : Last) → eqb (markOf l) 0 ≡ true → l ≡ Never
+zero-mark Never h = refl
+zero-mark (Tried byte true) h = absurd (false≢true h)
+zero-mark (Tried byte false) h = absurd (false≢true h)
+
+sures : (ls : List Last) → same 2 ls ≡ true → Each Sure ls
+sures [] h = tt
+sures (l ∷ ls) h = (two l (and-left (eqb (markOf l) 2) (same 2 ls) h), sures ls (and-right (eqb (markOf l) 2) (same 2 ls) h))
+
+same-sure : (ls : List Last) → Each Sure ls → same 2 ls ≡ true
+same-sure [] p = refl
+same-sure (l ∷ ls) p = rw (p .0 .1) (same-sure ls (p .1))
+
+nevers : (ls : List Last) → same 0 ls ≡ true → Each Unheard ls
+nevers [] h = tt
+nevers (l ∷ ls) h = (zero-mark l (and-left (eqb (markOf l) 0) (same 0 ls) h), nevers ls (and-right (eqb (markOf l) 0) (same 0 ls) h))
+
+same-never : (ls : List Last) → Each Unheard ls → same 0 ls ≡ true
+same-never [] p = refl
+same-never (l ∷ ls) p = rw (p .0) (same-never ls (p .1))
+
+-- the mark by its two tests
+by-tests : (a b : Bool) → _≡_ {A = ℕ} (cond a 2 (cond b 0 1)) 2 → a ≡ true
+by-tests true b h = refl
+by-tests false true h = absurd (omega arith)
+by-tests false false h = absurd (omega arith)
+
+by-second : (a b : Bool) → _≡_ {A = ℕ} (cond a 2 (cond b 0 1)) 0 → b ≡ true
+by-second true b h = absurd (omega arith)
+by-second false true h = refl
+by-second false false h = absurd (omega arith)
+
+-- "2 sure": exactly where each was last attempted and done
+pub sure-exactly : (ls : List Last) → (markAll ls ≡ 2) ↔ Each Sure ls
+unfolding markAll
+sure-exactly ls = (λ h. sures ls (by-tests (same 2 ls) (same 0 ls) h), λ p. rw (same-sure ls p))
+
+-- "0 never": exactly where none was attempted, of one register at least
+pub never-exactly : (l : Last) (ls : List Last) → (markAll (l ∷ ls) ≡ 0) ↔ Each Unheard (l ∷ ls)
+unfolding markAll
+never-exactly l ls = (λ h. nevers (l ∷ ls) (by-second (same 2 (l ∷ ls)) (same 0 (l ∷ ls)) h), back)
+  where
+    back : Each Unheard (l ∷ ls) → _≡_ {A = ℕ} (cond (same 2 (l ∷ ls)) 2 (cond (same 0 (l ∷ ls)) 0 1)) 0
+    back p = rw (p .0, same-never ls (p .1))
+
+-- a sure one is without doubt
+pub sure-known : (l : Last) → Sure l → doubtIn l ≡ false
+sure-known l p = ap doubtIn (p .1)

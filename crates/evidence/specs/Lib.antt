@@ -1,0 +1,2 @@
+pub mod Demodulator
+pub mod Evidence

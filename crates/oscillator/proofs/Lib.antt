@@ -1,0 +1,3 @@
+pub mod Oscillator
+pub mod Rests
+pub mod Worked

@@ -1,0 +1,2 @@
+pub mod Centre
+pub mod Between
