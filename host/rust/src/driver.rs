@@ -1,3 +1,4 @@
+use crate::raw::Told as _;
 use crate::{Answer, Error, InputPath, Lock, Need, Script, Table, TuneAnswer, Tuner, in_room, raw};
 use core::fmt;
 

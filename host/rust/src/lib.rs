@@ -66,6 +66,7 @@
 
 extern crate alloc;
 
+use crate::raw::Told as _;
 use core::fmt;
 
 pub mod demod;

@@ -1,3 +1,4 @@
+use crate::raw::Told as _;
 use crate::rounds::rounds;
 use crate::{Driver, Entry, Error, Lock, Need, Outcome, Script, Stepped, Table, Transcript, Tuner, in_room, raw};
 use alloc::vec::Vec;

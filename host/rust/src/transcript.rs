@@ -1,3 +1,4 @@
+use crate::raw::Told as _;
 use crate::{Error, raw};
 use alloc::string::String;
 use alloc::vec::Vec;

@@ -1,3 +1,4 @@
+use crate::raw::Told as _;
 use crate::raw::{self, Reply};
 use crate::{Answer, Error, Lock, Need, Script, TuneAnswer, in_room};
 use core::fmt;
