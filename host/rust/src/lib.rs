@@ -94,7 +94,7 @@ pub use packet::Packet;
 pub use parting::{Part, Whose, parting};
 pub use pll::PllPlan;
 pub use registers::{if_freq_regs, pack_fir, resample_regs, unpack_fir};
-pub use rounds::{Outcome, Stepped, drive};
+pub use rounds::{Cause, Driven, Outcome, Stepped, drive};
 pub use script::Script;
 pub use settings::{Settings, Settings2};
 pub use stream::{Command, Fed, Stream};

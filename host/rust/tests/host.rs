@@ -260,7 +260,7 @@ fn a_driven_call_takes_what_the_host_says() {
     let answer = tuner.drive(|tuner, script| tuner.set_frequency(0, script), |_| panic!("a step of a call that takes none"));
     assert_eq!((answer.result, answer.transcript.len(), &tuner), (Err(Error::Frequency), 0, &r828d()));
     // The read of a byte: none, two, or bytes that are not said to be read are no answer.
-    for wrong in [Outcome::Read(vec![]), Outcome::Read(vec![1, 2]), Outcome::Done, Outcome::Failed] {
+    for wrong in [Outcome::Read(vec![]), Outcome::Read(vec![1, 2]), Outcome::Done, Outcome::Failed(None)] {
         let answer = drive(|script| gpio::set_bit(0, true, script), |_| wrong.clone());
         assert_eq!((answer.result, answer.transcript.len()), (Err(Error::Step { index: 0 }), 1), "{wrong:?}");
     }
@@ -274,10 +274,14 @@ fn a_driven_call_takes_what_the_host_says() {
 
 #[test]
 fn results_are_outcomes() {
-    assert_eq!(Outcome::from(Ok::<_, Error>(())), Outcome::Done);
-    assert_eq!(Outcome::from(Err::<(), _>(Error::Rate)), Outcome::Failed);
-    assert_eq!(Outcome::from(Ok::<_, Error>(vec![7])), Outcome::Read(vec![7]));
-    assert_eq!(Outcome::from(Err::<Vec<u8>, _>("no bytes")), Outcome::Failed);
+    assert!(matches!(Outcome::from(Ok::<_, Error>(())), Outcome::Done));
+    assert!(matches!(Outcome::from(Ok::<_, Error>(vec![7])), Outcome::Read(read) if read == [7]));
+    let told = |outcome| match outcome {
+        Outcome::Failed(Some(cause)) => cause.to_string(),
+        other => panic!("{other:?}"),
+    };
+    assert_eq!(told(Outcome::from(Err::<(), _>(Error::Rate))), Error::Rate.to_string());
+    assert_eq!(told(Outcome::from(Err::<Vec<u8>, _>("no bytes"))), "no bytes");
 }
 
 /// A step that fails is in the record as the call itself would leave it, and a driver's records go together.
@@ -293,14 +297,15 @@ fn driven_records_are_updated_together() {
         |step| {
             steps += 1;
             match step.kind {
-                _ if steps == 13 => Outcome::Failed,
+                _ if steps == 13 => Outcome::failed("no answer"),
                 EntryKind::BlockRead => Outcome::Read(vec![0]),
                 _ => Outcome::Done,
             }
         },
     );
     assert_eq!(found.result, Err(Error::Step { index: 12 }));
-    assert_eq!((found, tuner, driver), (wanted, at_once, its_driver));
+    assert_eq!(found.cause.unwrap().to_string(), "no answer");
+    assert_eq!((found.answer, tuner, driver), (wanted, at_once, its_driver));
 }
 
 /// A write of three bytes from register 0xfe on, by its entry: the third names nothing.
