@@ -11,6 +11,15 @@ pub enum Board {
     V4,
 }
 
+impl fmt::Display for Board {
+    fn fmt(&self, f: &mut fmt::Formatter<'_>) -> fmt::Result {
+        f.write_str(match self {
+            Board::Generic => "generic",
+            Board::V4 => "V4",
+        })
+    }
+}
+
 /// How a board is to be tuned to a frequency.
 #[derive(Clone, Copy, Debug, PartialEq, Eq, Hash)]
 pub struct Plan {

@@ -7,6 +7,7 @@ use alloc::vec::Vec;
 /// A script must be as long as its call's longest run needs, also where a run is shorter: at most [`Script::OUTCOMES`] outcomes and
 /// [`Script::REPLIES`] replies, which is what [`Driver::tune_board`](crate::Driver::tune_board) needs; [`Need`] has the numbers of each call. Longer than needed is fine, so one script serves for all calls.
 #[derive(Clone, Debug, PartialEq, Eq)]
+#[must_use = "a script does nothing by itself"]
 pub struct Script {
     outcomes: Vec<u8>,
     replies: Vec<u8>,

@@ -52,6 +52,7 @@ impl Command {
 
 /// What a command of a stream came to. Its records are updated already, as by its call.
 #[derive(Clone, Debug, PartialEq)]
+#[must_use = "a command may be refused"]
 pub struct Fed {
     /// Its nine bytes.
     pub command: [u8; Command::SIZE],
@@ -128,6 +129,7 @@ impl Stream {
     /// call asks for; [`Script::all_done`] has enough for all.
     ///
     /// What a command is refused for stands in its [`Fed::result`]: [`Error::Command`] (14) first, else as its call is refused.
+    #[must_use = "a command may be refused"]
     pub fn feed(
         &mut self,
         driver: &mut Driver,
@@ -144,6 +146,7 @@ impl Stream {
 
     /// Takes a chunk as [`Stream::feed`] does, and makes each command on a receiver, step by step, as [`drive`](crate::drive) does. Where `take` panics, its command
     /// has been taken and the rest of the chunk has not.
+    #[must_use = "a command may be refused"]
     pub fn drive(
         &mut self,
         driver: &mut Driver,

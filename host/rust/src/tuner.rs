@@ -23,6 +23,26 @@ pub enum InputPath {
     Uhf,
 }
 
+/// As it is printed on the chip.
+impl fmt::Display for TunerKind {
+    fn fmt(&self, f: &mut fmt::Formatter<'_>) -> fmt::Result {
+        f.write_str(match self {
+            TunerKind::R820t => "R820T",
+            TunerKind::R828d => "R828D",
+        })
+    }
+}
+
+impl fmt::Display for InputPath {
+    fn fmt(&self, f: &mut fmt::Formatter<'_>) -> fmt::Result {
+        f.write_str(match self {
+            InputPath::Hf => "HF",
+            InputPath::Vhf => "VHF",
+            InputPath::Uhf => "UHF",
+        })
+    }
+}
+
 const SHADOW: usize = 2;
 const NOMINAL: usize = 29;
 const CORRECTED: usize = 33;
