@@ -1,6 +1,6 @@
 #!/bin/bash
-# Installs the library under a prefix: header, archive, shared library, pkg-config file and NOTICE, by a C compiler alone (CC, or cc), from the text of dist/ for its
-# machine; and the program, bin/pasetone, where cargo is here. It takes a second, or with a program that is not built yet some 20.
+# Installs the library under a prefix: header, archive, shared library, pkg-config file, manual pages and NOTICE, by a C compiler alone (CC, or cc), from the text of
+# dist/ for its machine; and the program, bin/pasetone, where cargo is here. It takes a second, or with a program that is not built yet some 20.
 #
 #   host/install.sh PREFIX
 #   DESTDIR=FOLDER host/install.sh /PREFIX     for a package: the files go below FOLDER, and pasetone.pc names /PREFIX alone
@@ -58,6 +58,7 @@ Version: $version
 Cflags: -I\${includedir}
 Libs: -L\${libdir} -lpasetone
 END
+"$here/man" "$to/share/man"
 # The command line, where cargo can build it: the library needs no Rust.
 if command -v cargo > /dev/null; then
     "$root/pasetone" --version > /dev/null
