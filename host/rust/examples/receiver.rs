@@ -27,9 +27,7 @@ fn tune(tuner: &mut Tuner, what: &str, script: &Script) {
     let lock = answer.lock;
     let answer = answer.into();
     print_answer(what, &answer);
-    if let Err(Error::Step { index }) = answer.result
-        && let Some(entry) = answer.transcript.get(index)
-    {
+    for (index, entry) in answer.transcript.iter().enumerate().filter(|(_, entry)| entry.failed) {
         let bytes: Vec<String> = entry.bytes.iter().map(|byte| format!("{byte:02x}")).collect();
         let (kind, outcome) = (entry.kind.number(), u8::from(entry.failed));
         println!("entry {index}: kind {kind}, outcome {outcome}, target 0x{:02x}, bytes {}", entry.target, bytes.join(" "));
