@@ -1,5 +1,6 @@
 #!/bin/bash
-# Installs header, archive and pkg-config file under a prefix; makes the archive first where it is not there.
+# Installs the library under a prefix: header, archive, shared library, pkg-config file, manual pages and NOTICE, by a C compiler alone (CC, or cc), from the text of
+# dist/ for its machine; and the program, bin/pasetone, where cargo is here. It takes a second, or with a program that is not built yet some 20.
 #
 #   host/install.sh PREFIX
 #   DESTDIR=FOLDER host/install.sh /PREFIX     for a package: the files go below FOLDER, and pasetone.pc names /PREFIX alone
@@ -30,10 +31,22 @@ case $prefix in
 esac
 named=$(printf '%s' "$prefix" | sed 's/[][:space:][!"#&'\''*;<>?\\^`{|}~]/\\&/g')
 to=${DESTDIR:-}$prefix
+root=$here/..
 folder=$("$here/archive")
-install -d "$to/include" "$to/lib/pkgconfig"
-install -m 644 "$here/../include/pasetone.h" "$to/include/"
+version=$(sed -n '1s,^/\* Pasetone \([0-9.]*\) for .*,\1,p' "$root/dist/pasetone-x86_64.s")
+[ -n "$version" ] || { echo "install: dist/pasetone-x86_64.s tells no version" >&2; exit 1; }
+major=${version%%.*}
+work=$(mktemp -d)
+trap 'rm -rf "$work"' EXIT
+# CC may be more than one word.
+${CC:-cc} -shared -Wl,-soname,libpasetone.so."$major" -Wl,-z,defs,-z,relro,-z,now -Wl,--whole-archive "$folder/libpasetone.a" -Wl,--no-whole-archive -o "$work/shared"
+install -d "$to/include" "$to/lib/pkgconfig" "$to/share/doc/pasetone"
+install -m 644 "$root/include/"*.h "$to/include/"
+install -m 644 "$root/NOTICE" "$to/share/doc/pasetone/"
 install -m 644 "$folder/libpasetone.a" "$to/lib/"
+install -m 755 "$work/shared" "$to/lib/libpasetone.so.$version"
+ln -sf "libpasetone.so.$version" "$to/lib/libpasetone.so.$major"
+ln -sf "libpasetone.so.$major" "$to/lib/libpasetone.so"
 cat > "$to/lib/pkgconfig/pasetone.pc" << END
 prefix=$named
 includedir=\${prefix}/include
@@ -41,8 +54,17 @@ libdir=\${prefix}/lib
 
 Name: pasetone
 Description: Tuner and demodulator control of an RTL2832U receiver
-Version: 6.1.0
+Version: $version
 Cflags: -I\${includedir}
 Libs: -L\${libdir} -lpasetone
 END
+"$here/man" "$to/share/man"
+# The command line, where cargo can build it: the library needs no Rust.
+if command -v cargo > /dev/null; then
+    "$root/pasetone" --version > /dev/null
+    install -d "$to/bin"
+    install -m 755 "$root/target/line/pasetone" "$to/bin/"
+else
+    echo "install: cargo is not on the path: all but the program, bin/pasetone" >&2
+fi
 echo "installed: $to"

@@ -1,17 +1,14 @@
 #!/bin/bash
 # The port beside the original in one run: nanoseconds per call (minimum over rounds in which both take their turn), two
-# threads against one, instructions per call by callgrind, and that the archive asks for no allocator. The archive is the
-# one that PASETONE_ARCHIVE names, else the one that host/archive finds or makes. Measure on a quiet machine.
+# threads against one, instructions per call by callgrind, and that the library asks for no allocator. The library is that of
+# dist/. Measure on a quiet machine.
 set -euo pipefail
-use="use: oracle/bench-port.sh    takes no word; PASETONE_ARCHIVE may name the archive; some minutes"
+use="use: oracle/bench-port.sh    takes no word; some minutes"
 case "$# ${1:-}" in
     "0 ") ;;
     "1 -h" | "1 --help") echo "$use"; exit 0 ;;
     *) echo "$use" >&2; exit 2 ;;
 esac
-archive=${PASETONE_ARCHIVE:-$("$(dirname "$0")/../host/archive")/libpasetone.a}
-PASETONE_ARCHIVE=$(realpath "$archive")
-export PASETONE_ARCHIVE
 cd "$(dirname "$0")"
 cargo build --offline --locked --quiet --profile measure --package live --bin beside
 beside=target/measure/beside
@@ -19,7 +16,7 @@ beside=target/measure/beside
 $beside time
 echo
 $beside threads
-echo "the archive asks for: $(nm -u "$PASETONE_ARCHIVE" | sed -n 's/^ *U //p' | sort -u | paste -sd ' ')"
+echo "the library asks for: $(nm -u "$(env -u PASETONE_LIB_DIR ../host/archive)/libpasetone.a" | sed -n 's/^ *U //p' | sort -u | paste -sd ' ')"
 
 # Instructions of N calls, start and end of the program included; the difference of two runs is free of those.
 instructions() {

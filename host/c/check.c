@@ -1,12 +1,12 @@
 /*
- * Whether pasetone.h says what libpasetone.a is: sizes, every declaration linked and called, and document 01's worked numbers. Prints the count
+ * Whether pasetone.h says what libpasetone.a is, and pasetone_host.h what it says: sizes, every declaration linked and called, and document 01's worked numbers. Prints the count
  * of checks and of faults; exits 1 on a fault. What it does not do: damaged input, which is hostile.c's.
  */
 #include <stddef.h>
 #include <stdio.h>
 #include <string.h>
 
-#include "pasetone.h"
+#include "pasetone_host.h"
 
 /* C99 has no static assertion: a size below zero is an error. */
 #define SAME_AT_COMPILE_TIME(name, a, b) typedef char name[(a) == (b) ? 1 : -1]
@@ -666,8 +666,41 @@ static void check_commands(void)
     v4[24] = 1;
 }
 
+/* pasetone_host.h's own part: what it refuses, what it keeps, and that no number is cut in silence. host/c/rounds.c has its driving. */
+static void check_host(void)
+{
+    static pasetone_host host, other;
+    const uint64_t past = (uint64_t)1 << 32;
+    unsigned i, doubtful = 0;
+    same("host: no reference", pasetone_host_open(&host, PASETONE_R828D, 0x74, PASETONE_V4, 0).refusal, PASETONE_SETUP);
+    same("host: no board", pasetone_host_open(&host, PASETONE_R828D, 0x74, 2, 28800000).refusal, PASETONE_SETUP);
+    same("host: opened", pasetone_host_open(&host, PASETONE_R828D, 0x74, PASETONE_V4, 28800000).refusal, PASETONE_DONE);
+    same("host: its table", host.table_size, PASETONE_V4_TABLE_SIZE);
+    for (i = 0; i < 256; i++) {
+        doubtful += (unsigned)pasetone_host_doubtful(&host, i);
+    }
+    same("host: every register is doubtful, and no other", doubtful, PASETONE_REGISTER_COUNT);
+    other = host;
+    same("host: a try", pasetone_host_try(&host, pasetone_host_initialize, 0).count, PASETONE_INITIALIZE_ENTRIES);
+    same_bytes("host: a try leaves the record", host.tuner, other.tuner, sizeof host.tuner);
+    same("host: a call", pasetone_host_make(&host, pasetone_host_initialize, 0).refusal, PASETONE_DONE);
+    same("host: a call keeps the next record", (uint64_t)pasetone_host_doubtful(&host, 0x05), 0);
+    other = host;
+    same("host: a rate past 32 bits", pasetone_host_make(&host, pasetone_host_set_sample_rate, past + 2048000).refusal, PASETONE_RATE);
+    same_bytes("host: refused, the driver stays", host.driver, other.driver, sizeof host.driver);
+    same("host: a rate", pasetone_host_make(&host, pasetone_host_set_sample_rate, 2048000).refusal, PASETONE_DONE);
+    same("host: the rate is kept", host.driver[PASETONE_DRIVER_RATE] | (uint64_t)host.driver[PASETONE_DRIVER_RATE + 1] << 8, 2048000 & 0xffff);
+    same("host: a bandwidth past 32 bits", pasetone_host_make(&host, pasetone_host_set_bandwidth, past).refusal, PASETONE_DONE);
+    same("host: the highest bandwidth", pasetone_host_make(&other, pasetone_host_set_bandwidth, 0xffffffff).refusal, PASETONE_DONE);
+    same_bytes("host: their filter", host.room, other.room, PASETONE_BANDWIDTH_ROOM);
+    host.outcomes[1] = 1;
+    same("host: a step that fails", pasetone_host_make(&host, pasetone_host_reload, 0).refusal, PASETONE_STEP);
+    same("host: and its record is kept", (uint64_t)pasetone_host_doubtful(&host, 0x05), 1);
+}
+
 int main(void)
 {
+    check_host();
     check_making();
     check_bandwidth();
     check_tuning();

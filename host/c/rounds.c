@@ -1,23 +1,15 @@
 /*
  * Every call with steps, driven step by step on simulated receivers that fail nowhere, at one step, or from one step on: pasetone.h's rounds. Each must end as
- * the one call does that is told in advance how the receiver will behave. `drive` is what a host takes from here. host/rust/examples/rounds.rs prints the same
- * lines, host/rounds.txt. As `rounds lie` a receiver tells another outcome of its first step than it had, and faults must be found.
+ * the one call does that is told in advance how the receiver will behave. The driving is pasetone_host.h's. host/rust/examples/rounds.rs prints the same lines,
+ * host/rounds.txt. As `rounds lie` a receiver tells another outcome of its first step than it had, and faults must be found.
  */
 #include <stdio.h>
 #include <string.h>
 
-#include "pasetone.h"
+#include "pasetone_host.h"
 
 #define ENTRIES PASETONE_TUNE_BOARD_ENTRIES
 #define NEVER 1000
-
-/* What a host keeps of a receiver, and what it lends to a call. */
-struct host {
-    uint8_t tuner[PASETONE_TUNER_SIZE], driver[PASETONE_DRIVER_SIZE];
-    uint8_t next_tuner[PASETONE_TUNER_SIZE], next_driver[PASETONE_DRIVER_SIZE];
-    uint8_t outcomes[ENTRIES], replies[PASETONE_TUNE_BOARD_REPLIES], room[PASETONE_TUNE_BOARD_ROOM];
-    uint8_t table[PASETONE_V4_TABLE_SIZE];
-};
 
 /* A receiver with a will of its own: registers of its chip, bytes of its GPIO, a PLL that finds a lock at some try or never. */
 struct receiver {
@@ -31,23 +23,19 @@ struct receiver {
 
 struct call {
     const char *name;
-    pasetone_tune_reply (*make)(struct host *);
+    pasetone_host_call *make;
+    uint64_t argument;
 };
 
 static unsigned checks, faults, runs, steps;
 static int lies;
-
-static int is_read(const uint8_t *entry)
-{
-    return entry[0] == 3 || entry[0] == 8;
-}
 
 /* An entry without its outcome and what it read. */
 static void bare(uint8_t *to, const uint8_t *entry)
 {
     memcpy(to, entry, PASETONE_ENTRY_SIZE);
     to[1] = 0;
-    if (is_read(entry)) {
+    if (pasetone_host_reads(entry)) {
         memset(to + 8, 0, 8);
     }
 }
@@ -75,67 +63,29 @@ static void act(struct receiver *r, const uint8_t *entry, int failed, uint8_t *b
 }
 
 /* Takes a step: 0 done, 1 failed. On hardware this is the USB transfer of host/README.md's table. */
-static uint8_t take(struct receiver *r, const uint8_t *entry, uint8_t *bytes)
+static uint8_t take(void *receiver, const uint8_t *entry, uint8_t *bytes)
 {
+    struct receiver *r = receiver;
     int failed = r->steps >= r->first && r->steps <= r->last;
     bare(r->asked[r->steps], entry);
     r->outcomes[r->steps++] = (uint8_t)failed;
     act(r, entry, failed, bytes);
-    if (is_read(entry) && !failed) {
+    if (pasetone_host_reads(entry) && !failed) {
         memcpy(r->replies + r->read, bytes, entry[3]);
         r->read += entry[3];
     }
     return (uint8_t)failed;
 }
 
-/* The next records take the place of the given ones, where the call has written them. */
-static pasetone_tune_reply keep(struct host *h, pasetone_tune_reply reply)
-{
-    if (pasetone_tune_stands(reply)) {
-        memcpy(h->tuner, h->next_tuner, sizeof h->tuner);
-        memcpy(h->driver, h->next_driver, sizeof h->driver);
-    }
-    return reply;
-}
-
-/* A call that has no next record leaves the given one. */
-static pasetone_tune_reply make(struct host *h, const struct call *call)
-{
-    memcpy(h->next_tuner, h->tuner, sizeof h->tuner);
-    memcpy(h->next_driver, h->driver, sizeof h->driver);
-    return call->make(h);
-}
-
-/* The rounds: with what is known so far, the first step that was not taken yet, until there is none. */
-static pasetone_tune_reply drive(struct host *h, const struct call *call, struct receiver *r)
-{
-    pasetone_tune_reply reply;
-    uint32_t taken = 0;
-    size_t used = 0;
-    memset(h->outcomes, 0, sizeof h->outcomes);
-    memset(h->replies, 0, sizeof h->replies);
-    for (reply = make(h, call); taken < reply.count; reply = make(h, call)) {
-        const uint8_t *entry = h->room + PASETONE_ENTRY_SIZE * taken;
-        uint8_t bytes[8] = {0};
-        h->outcomes[taken] = take(r, entry, bytes);
-        if (is_read(entry) && h->outcomes[taken] == 0) {
-            memcpy(h->replies + used, bytes, entry[3]);
-            used += entry[3];
-        }
-        taken++;
-    }
-    return keep(h, reply);
-}
-
 /* The one call, told all that the receiver did; behind it every step would fail and every read give 0xff, which no call comes to. */
-static pasetone_tune_reply at_once(struct host *h, const struct call *call, const struct receiver *r)
+static pasetone_tune_reply at_once(pasetone_host *h, const struct call *call, const struct receiver *r)
 {
     memset(h->outcomes, 1, sizeof h->outcomes);
     memset(h->replies, 0xff, sizeof h->replies);
     memcpy(h->outcomes, r->outcomes, r->steps);
     h->outcomes[0] ^= (uint8_t)lies;
     memcpy(h->replies, r->replies, r->read);
-    return keep(h, make(h, call));
+    return pasetone_host_make(h, call->make, call->argument);
 }
 
 static void that(int good, const char *what, const struct call *call, const struct receiver *r)
@@ -179,15 +129,15 @@ static int holds(const struct receiver *r, const uint8_t *tuner)
 }
 
 /* One call in rounds on a receiver, then at once with what the receiver did; how many steps there were. */
-static uint32_t run(const struct call *call, const struct host *given, const struct receiver *fresh, unsigned first, unsigned last)
+static uint32_t run(const struct call *call, const pasetone_host *given, const struct receiver *fresh, unsigned first, unsigned last)
 {
-    struct host driven = *given, other = *given;
+    pasetone_host driven = *given, other = *given;
     struct receiver r = *fresh;
     pasetone_tune_reply found, wanted;
     r.first = first;
     r.last = last;
     r.steps = r.read = 0;
-    found = drive(&driven, call, &r);
+    found = pasetone_host_drive(&driven, call->make, call->argument, take, &r);
     wanted = at_once(&other, call, &r);
     that(same_reply(found, wanted), "another answer", call, &r);
     that(found.count == 0 || memcmp(driven.room, other.room, PASETONE_ROOM_FOR(found.count)) == 0, "another section", call, &r);
@@ -201,38 +151,15 @@ static uint32_t run(const struct call *call, const struct host *given, const str
     return found.count;
 }
 
-/* The calls. What has no tries and no lock tells none. */
+/* The calls that pasetone_host.h does not have: a gain in dB, those without a record, and a command. */
 
-static pasetone_tune_reply widened(pasetone_reply reply)
-{
-    pasetone_tune_reply wide = {reply.value, reply.index, reply.refusal, reply.count, 0, 0};
-    return wide;
-}
+#define OUTCOMES PASETONE_LEND(h->outcomes)
+#define REPLIES PASETONE_LEND(h->replies)
+#define ROOM PASETONE_LEND(h->room)
+#define CALL(name, expression) \
+    static pasetone_tune_reply name(pasetone_host *h, uint64_t number) { return (void)number, pasetone_host_widened(expression); }
 
-#define TUNER h->tuner, sizeof h->tuner
-#define DRIVER h->driver, sizeof h->driver
-#define TABLE h->table, sizeof h->table
-#define OUTCOMES h->outcomes, sizeof h->outcomes
-#define REPLIES h->replies, sizeof h->replies
-#define ROOM h->room, sizeof h->room
-#define NEXT h->next_tuner, sizeof h->next_tuner
-#define NEXT_DRIVER h->next_driver, sizeof h->next_driver
-#define TUNING(name, expression) \
-    static pasetone_tune_reply name(struct host *h) { return expression; }
-#define CALL(name, expression) TUNING(name, widened(expression))
-
-CALL(initialize, pasetone_initialize(TUNER, OUTCOMES, ROOM, NEXT))
-TUNING(tune, pasetone_set_frequency(TUNER, 102300000, OUTCOMES, REPLIES, ROOM, NEXT))
-TUNING(tune_in_vain, pasetone_set_frequency(TUNER, 1, OUTCOMES, REPLIES, ROOM, NEXT))
-CALL(gain, pasetone_set_gain(TUNER, 29.7f, OUTCOMES, ROOM, NEXT))
-CALL(gain_by_index, pasetone_set_gain_by_index(TUNER, 28, OUTCOMES, ROOM, NEXT))
-CALL(bandwidth, pasetone_set_bandwidth(TUNER, 2048000, OUTCOMES, ROOM, NEXT))
-CALL(if_freq, pasetone_set_if_freq(TUNER, 3570000, OUTCOMES, ROOM, NEXT))
-CALL(input_path, pasetone_set_input_path(TUNER, PASETONE_HF, OUTCOMES, ROOM, NEXT))
-CALL(reload, pasetone_reload(TUNER, OUTCOMES, ROOM, NEXT))
-CALL(sample_rate, pasetone_set_sample_rate(DRIVER, TUNER, TABLE, 2048000, OUTCOMES, ROOM, NEXT_DRIVER, NEXT))
-TUNING(tune_board, pasetone_tune_board(DRIVER, TUNER, TABLE, 7000000, OUTCOMES, REPLIES, ROOM, NEXT_DRIVER, NEXT))
-CALL(board_path, pasetone_apply_input_path(TUNER, PASETONE_UHF, OUTCOMES, REPLIES, ROOM, NEXT))
+CALL(gain, pasetone_set_gain(PASETONE_LEND(h->tuner), 29.7f, OUTCOMES, ROOM, PASETONE_LEND(h->next_tuner)))
 CALL(baseband, pasetone_init_baseband(OUTCOMES, ROOM))
 CALL(power_on, pasetone_power_on(OUTCOMES, ROOM))
 CALL(reset, pasetone_reset_demod(OUTCOMES, ROOM))
@@ -241,67 +168,68 @@ CALL(zero_if, pasetone_set_tuner_zero_if(OUTCOMES, ROOM))
 CALL(start, pasetone_start_streaming(OUTCOMES, ROOM))
 CALL(stop, pasetone_stop_streaming(OUTCOMES, ROOM))
 CALL(direct, pasetone_write_reg_direct(1, 0x15, 1, OUTCOMES, ROOM))
-CALL(if_xtal, pasetone_set_if_freq_xtal(2300000, 28800000, OUTCOMES, ROOM))
-CALL(rate_xtal, pasetone_set_sample_rate_xtal(2048000, 28800000, OUTCOMES, ROOM))
-CALL(gpio_output, pasetone_set_gpio_output(5, OUTCOMES, REPLIES, ROOM))
-CALL(gpio_bit, pasetone_set_gpio_bit(5, 1, OUTCOMES, REPLIES, ROOM))
+CALL(if_xtal, pasetone_set_if_freq_xtal((uint32_t)number, 28800000, OUTCOMES, ROOM))
+CALL(rate_xtal, pasetone_set_sample_rate_xtal((uint32_t)number, 28800000, OUTCOMES, ROOM))
+CALL(gpio_output, pasetone_set_gpio_output((uint8_t)number, OUTCOMES, REPLIES, ROOM))
+CALL(gpio_bit, pasetone_set_gpio_bit((uint8_t)number, 1, OUTCOMES, REPLIES, ROOM))
 
-/* A command changes its records where they lie, so each round has copies of them, which `make` has laid out. */
-static pasetone_tune_reply feed(struct host *h)
+/* A command changes its records where they lie, so each round has copies of them, which pasetone_host_try has laid out. */
+static pasetone_tune_reply feed(pasetone_host *h, uint64_t nothing)
 {
     static const uint8_t command[PASETONE_COMMAND_SIZE] = {PASETONE_OPERATION_FREQUENCY, 0x60, 0xf9, 0x18, 0x06}; /* 102,300,000 Hz */
     uint8_t stream[PASETONE_STREAM_SIZE] = {0};
     pasetone_feed_reply r =
-        pasetone_feed(stream, sizeof stream, NEXT_DRIVER, NEXT, TABLE, command, sizeof command, OUTCOMES, REPLIES, ROOM);
+        pasetone_feed(PASETONE_LEND(stream), PASETONE_LEND(h->next_driver), PASETONE_LEND(h->next_tuner), h->table, h->table_size, PASETONE_LEND(command), OUTCOMES,
+                      REPLIES, ROOM);
     pasetone_tune_reply reply = {r.value, r.index, r.refusal, r.count, r.tries, r.locked};
+    (void)nothing;
     return reply;
 }
 
 /* In the order of pasetone.h. */
 static const struct call calls[] = {
-    {"initialize", initialize},
-    {"set_frequency", tune},
-    {"set_frequency, refused in the PLL", tune_in_vain},
-    {"set_gain", gain},
-    {"set_gain_by_index", gain_by_index},
-    {"set_bandwidth", bandwidth},
-    {"set_if_freq", if_freq},
-    {"set_input_path", input_path},
-    {"reload", reload},
-    {"set_sample_rate", sample_rate},
-    {"tune_board", tune_board},
-    {"apply_input_path", board_path},
-    {"init_baseband", baseband},
-    {"power_on", power_on},
-    {"reset_demod", reset},
-    {"set_tuner_low_if", low_if},
-    {"set_tuner_zero_if", zero_if},
-    {"start_streaming", start},
-    {"stop_streaming", stop},
-    {"write_reg_direct", direct},
-    {"set_if_freq_xtal", if_xtal},
-    {"set_sample_rate_xtal", rate_xtal},
-    {"set_gpio_output", gpio_output},
-    {"set_gpio_bit", gpio_bit},
-    {"feed, operation 1", feed},
+    {"initialize", pasetone_host_initialize, 0},
+    {"set_frequency", pasetone_host_set_frequency, 102300000},
+    {"set_frequency, refused in the PLL", pasetone_host_set_frequency, 1},
+    {"set_gain", gain, 0},
+    {"set_gain_by_index", pasetone_host_set_gain_by_index, 28},
+    {"set_bandwidth", pasetone_host_set_bandwidth, 2048000},
+    {"set_if_freq", pasetone_host_set_if_freq, 3570000},
+    {"set_input_path", pasetone_host_set_input_path, PASETONE_HF},
+    {"reload", pasetone_host_reload, 0},
+    {"set_sample_rate", pasetone_host_set_sample_rate, 2048000},
+    {"tune_board", pasetone_host_tune_board, 7000000},
+    {"apply_input_path", pasetone_host_apply_input_path, PASETONE_UHF},
+    {"init_baseband", baseband, 0},
+    {"power_on", power_on, 0},
+    {"reset_demod", reset, 0},
+    {"set_tuner_low_if", low_if, 0},
+    {"set_tuner_zero_if", zero_if, 0},
+    {"start_streaming", start, 0},
+    {"stop_streaming", stop, 0},
+    {"write_reg_direct", direct, 0},
+    {"set_if_freq_xtal", if_xtal, 2300000},
+    {"set_sample_rate_xtal", rate_xtal, 2048000},
+    {"set_gpio_output", gpio_output, 5},
+    {"set_gpio_bit", gpio_bit, 5},
+    {"feed, operation 1", feed, 0},
 };
 
 /* A receiver whose chip is initialised, and its host. */
-static int prepare(struct host *h, struct receiver *r, uint64_t kind, uint8_t address, unsigned locks_at)
+static int prepare(pasetone_host *h, struct receiver *r, uint64_t kind, uint8_t address, unsigned locks_at)
 {
-    pasetone_reply tuner = pasetone_tuner_new(kind, address, 28800000, TUNER), driver = pasetone_driver_new(PASETONE_V4, 28800000, 0, 0, 0, DRIVER);
     memset(r, 0, sizeof *r);
     memset(r->registers, 0xa5, sizeof r->registers);
     memset(r->gpio, 0x5a, sizeof r->gpio);
     r->address = address;
     r->locks_at = locks_at;
     r->first = NEVER;
-    return tuner.refusal == 0 && driver.refusal == 0 && pasetone_board_table(PASETONE_V4, TABLE).refusal == 0 && drive(h, calls, r).refusal == 0;
+    return pasetone_host_open(h, kind, address, PASETONE_V4, 28800000).refusal == 0 && pasetone_host_drive(h, pasetone_host_initialize, 0, take, r).refusal == 0;
 }
 
 int main(int argc, char **argv)
 {
-    static struct host hosts[3];
+    static pasetone_host hosts[3];
     static struct receiver receivers[3];
     size_t i, k;
     lies = argc > 1 && strcmp(argv[1], "lie") == 0;

@@ -166,8 +166,13 @@ void make_table(struct attempt *a)
     }
     /* what a tuner reaches, so that a board's tuning is often taken; else at an end of a band, or anywhere */
     if (a->call->way == HOPPING && below(2) == 0) {
-        a->n[INPUT] = below(2) == 0 ? built_in_model(below(2), table)
-                                    : (size_t)(put_band(table, below(3), UINT64_MAX, below(200000000), (int)below(2), (int)below(4), (int)below(2)) - table);
+        if (below(2) == 0) {
+            a->n[INPUT] = built_in_model(below(2), table);
+        } else {
+            uint64_t first = below(3), shift = below(200000000);
+            int inverted = (int)below(2), path = (int)below(4), notch = (int)below(2);
+            a->n[INPUT] = (size_t)(put_band(table, first, UINT64_MAX, shift, inverted, path, notch) - table);
+        }
         a->arg[0] = 1000000 + below(1800000000);
     } else if (a->n[INPUT] >= BAND && below(4) > 0) {
         const uint8_t *band = table + BAND * below(a->n[INPUT] / BAND);

@@ -58,7 +58,7 @@ impl Receiver {
         self.outcomes.push(u8::from(failed));
         let read = self.act(step, failed);
         if failed {
-            return Outcome::Failed;
+            return Outcome::Failed(None);
         }
         self.replies.extend(&read);
         if is_read(step) { Outcome::Read(read) } else { Outcome::Done }
@@ -127,31 +127,32 @@ fn told<A: Stepped + Debug>(answer: A) -> Told {
 fn plain<A: Stepped + Debug>(way: Way, call: impl Fn(&Script) -> A) -> Told {
     told(match way {
         Way::AtOnce(script) => call(script),
-        Way::InRounds(receiver) => drive(call, |step| receiver.take(step)),
+        Way::InRounds(receiver) => drive(call, |step| receiver.take(step)).answer,
     })
 }
 
 fn on_tuner<A: Stepped + Debug>(host: &mut Host, way: Way, call: impl Fn(&mut Tuner, &Script) -> A) -> Told {
     told(match way {
         Way::AtOnce(script) => call(&mut host.tuner, script),
-        Way::InRounds(receiver) => host.tuner.drive(call, |step| receiver.take(step)),
+        Way::InRounds(receiver) => host.tuner.drive(call, |step| receiver.take(step)).answer,
     })
 }
 
 fn on_driver<A: Stepped + Debug>(host: &mut Host, way: Way, call: impl Fn(&mut Driver, &mut Tuner, &Script) -> A) -> Told {
     told(match way {
         Way::AtOnce(script) => call(&mut host.driver, &mut host.tuner, script),
-        Way::InRounds(receiver) => host.driver.drive(&mut host.tuner, call, |step| receiver.take(step)),
+        Way::InRounds(receiver) => host.driver.drive(&mut host.tuner, call, |step| receiver.take(step)).answer,
     })
 }
 
 fn by_stream(host: &mut Host, way: Way, command: Command) -> Told {
     let (table, sent, mut stream) = (Board::V4.table(), command.bytes(), Stream::new());
-    let mut fed = match way {
-        Way::AtOnce(script) => stream.feed(&mut host.driver, &mut host.tuner, &table, &sent, |_| script.clone()),
-        Way::InRounds(receiver) => stream.drive(&mut host.driver, &mut host.tuner, &table, &sent, |step| receiver.take(step)),
-    };
-    told(fed.remove(0))
+    told(match way {
+        Way::AtOnce(script) => stream.feed(&mut host.driver, &mut host.tuner, &table, &sent, |_| script.clone()).remove(0),
+        Way::InRounds(receiver) => {
+            stream.drive(&mut host.driver, &mut host.tuner, &table, &sent, |step| receiver.take(step)).remove(0).answer
+        }
+    })
 }
 
 type Call = fn(&mut Host, Way) -> Told;

@@ -1,3 +1,4 @@
+use crate::raw::Told as _;
 use crate::{Answer, Error, InputPath, Lock, Need, Script, Table, TuneAnswer, Tuner, in_room, raw};
 use core::fmt;
 
@@ -8,6 +9,15 @@ pub enum Board {
     Generic,
     /// 1: RTL-SDR Blog V4, with an upconverter below 28.8 MHz, three inputs and notches.
     V4,
+}
+
+impl fmt::Display for Board {
+    fn fmt(&self, f: &mut fmt::Formatter<'_>) -> fmt::Result {
+        f.write_str(match self {
+            Board::Generic => "generic",
+            Board::V4 => "V4",
+        })
+    }
 }
 
 /// How a board is to be tuned to a frequency.

@@ -45,6 +45,11 @@ pub enum Error {
     NotExpressible,
     /// 19: bands that are no well-formed table.
     Table,
+    /// A number that this crate has no word for: the library is of another version. Of the one that it is built with it is never met.
+    Other {
+        /// The number.
+        number: u32,
+    },
 }
 
 impl Error {
@@ -70,7 +75,7 @@ impl Error {
             17 => Error::Settings,
             18 => Error::NotExpressible,
             19 => Error::Table,
-            other => unreachable!("pasetone.h has no refusal {other}"),
+            number => Error::Other { number },
         })
     }
 
@@ -95,6 +100,7 @@ impl Error {
             Error::Settings => 17,
             Error::NotExpressible => 18,
             Error::Table => 19,
+            Error::Other { number } => number,
         }
     }
 
@@ -119,6 +125,7 @@ impl Error {
             Error::Settings => "settings",
             Error::NotExpressible => "not expressible",
             Error::Table => "table",
+            Error::Other { .. } => "unknown",
         }
     }
 }
@@ -161,6 +168,7 @@ impl Error {
             Error::Table => {
                 "the bands are no table: give at most 16, each with a first Hz not above its last and above the last of the band before, flags of 0 or 1 and a path up to 3"
             }
+            Error::Other { .. } => "the library gives a number that this crate has no word for: build both from one tree",
         }
     }
 }
@@ -177,3 +185,19 @@ impl fmt::Display for Error {
 }
 
 impl core::error::Error for Error {}
+
+#[cfg(test)]
+mod tests {
+    use super::Error;
+
+    /// Whatever number a library answers is told as it is.
+    #[test]
+    fn every_number_is_told() {
+        assert_eq!(Error::of(0, 7), None);
+        for number in (1..300).chain([u32::MAX]) {
+            let error = Error::of(number, 7).expect("a refusal");
+            assert_eq!((error.number(), matches!(error, Error::Other { .. })), (number, number == 5 || number > 19));
+        }
+        assert_eq!(Error::of(11, 7), Some(Error::Step { index: 7 }));
+    }
+}

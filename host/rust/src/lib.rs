@@ -33,7 +33,8 @@
 //! # On a receiver
 //!
 //! A script says in advance how each step ends. A receiver says it when the step is taken: [`Tuner::drive`], [`Driver::drive`] and [`drive`] make any call
-//! that way, and show each step to a closure when its turn comes. Commands that arrive over a line, chopped anywhere, are fed to a [`Stream`].
+//! that way, and show each step to a closure when its turn comes. A [`Receiver`] holds tuner, driver and table together. Commands that arrive over a line, chopped
+//! anywhere, are fed to a [`Stream`].
 //!
 //! ```
 //! use pasetone::{Entry, EntryKind, Error, Outcome, Tuner, TunerKind};
@@ -71,6 +72,7 @@
 
 extern crate alloc;
 
+use crate::raw::Told as _;
 use core::fmt;
 
 pub mod demod;
@@ -82,6 +84,7 @@ mod packet;
 mod parting;
 mod pll;
 mod raw;
+mod receiver;
 mod registers;
 mod rounds;
 mod script;
@@ -97,8 +100,9 @@ pub use need::Need;
 pub use packet::Packet;
 pub use parting::{Part, Whose, parting};
 pub use pll::PllPlan;
+pub use receiver::Receiver;
 pub use registers::{if_freq_regs, pack_fir, resample_regs, unpack_fir};
-pub use rounds::{Outcome, Stepped, drive};
+pub use rounds::{Cause, Driven, Outcome, Stepped, drive};
 pub use script::Script;
 pub use settings::{Settings, Settings2};
 pub use stream::{Command, Fed, Stream};

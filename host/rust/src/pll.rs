@@ -1,3 +1,4 @@
+use crate::raw::Told as _;
 use crate::{Error, TunerKind, raw};
 
 /// The PLL's numbers for one frequency of the oscillator and one reference, as a tuning sends them.

@@ -1,3 +1,4 @@
+use crate::raw::Told as _;
 use crate::{Error, raw};
 
 /// hz · 2^22 / xtal, kept to 22 bits, high byte first. [`demod::set_if_freq_xtal`](crate::demod::set_if_freq_xtal) sends it negated.

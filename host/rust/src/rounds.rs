@@ -1,38 +1,78 @@
 use crate::{Answer, Driver, Entry, EntryKind, Script, Transcript, TuneAnswer, Tuner};
+use alloc::boxed::Box;
+use alloc::format;
+use alloc::sync::Arc;
 use alloc::vec::Vec;
+use core::ops::Deref;
+
+/// Why a step failed, in the host's own words: any error, or a text.
+pub type Cause = Arc<dyn core::error::Error + Send + Sync>;
 
 /// What became of a step on the receiver. A [`Result`] becomes one by [`Into`]: what a write ends with, or a read with its bytes.
-#[derive(Clone, Debug, PartialEq, Eq, Hash)]
+#[derive(Clone, Debug)]
+#[must_use = "it says how the step ended"]
 pub enum Outcome {
     /// It was done. A read says [`Outcome::Read`] instead.
     Done,
     /// It was done, and read these bytes, as many as its entry has. Of a step that is no read the bytes are not looked at.
     Read(Vec<u8>),
-    /// It failed. So did a read that gave another number of bytes than its entry has, or none: what the missing ones are, nobody knows.
-    Failed,
+    /// It failed, for this cause where one is told: [`Driven::cause`] hands it back. So did a read that gave another number of bytes than its entry has, or
+    /// none: what the missing ones are, nobody knows.
+    Failed(Option<Cause>),
 }
 
-impl<E> From<Result<(), E>> for Outcome {
+impl<E: Into<Box<dyn core::error::Error + Send + Sync>>> From<Result<(), E>> for Outcome {
     fn from(result: Result<(), E>) -> Outcome {
-        result.map_or(Outcome::Failed, |()| Outcome::Done)
+        result.map_or_else(Outcome::failed, |()| Outcome::Done)
     }
 }
 
-impl<E> From<Result<Vec<u8>, E>> for Outcome {
+impl<E: Into<Box<dyn core::error::Error + Send + Sync>>> From<Result<Vec<u8>, E>> for Outcome {
     fn from(result: Result<Vec<u8>, E>) -> Outcome {
-        result.map_or(Outcome::Failed, Outcome::Read)
+        result.map_or_else(Outcome::failed, Outcome::Read)
     }
 }
 
 impl Outcome {
-    /// The bytes read, none for a step that is no read; `None` where it failed.
-    fn read(self, entry: &Entry<'_>) -> Option<Vec<u8>> {
-        match (self, entry.kind) {
-            (Outcome::Failed, _) => None,
-            (Outcome::Read(bytes), EntryKind::I2cRead | EntryKind::BlockRead) => (bytes.len() == entry.bytes.len()).then_some(bytes),
-            (Outcome::Done, EntryKind::I2cRead | EntryKind::BlockRead) => None,
-            _ => Some(Vec::new()),
+    /// It failed, and this is why.
+    pub fn failed(cause: impl Into<Box<dyn core::error::Error + Send + Sync>>) -> Outcome {
+        Outcome::Failed(Some(Arc::from(cause.into())))
+    }
+
+    /// The bytes read, none for a step that is no read; or why it failed.
+    fn read(self, entry: &Entry<'_>) -> Result<Vec<u8>, Option<Cause>> {
+        let is_read = matches!(entry.kind, EntryKind::I2cRead | EntryKind::BlockRead);
+        let given = match self {
+            Outcome::Failed(cause) => return Err(cause),
+            Outcome::Read(bytes) => bytes,
+            Outcome::Done => Vec::new(),
+        };
+        if !is_read {
+            Ok(Vec::new())
+        } else if given.len() == entry.bytes.len() {
+            Ok(given)
+        } else {
+            let text = format!("the host gave {} bytes of a read of {}", given.len(), entry.bytes.len());
+            Err(Some(Arc::from(Box::<dyn core::error::Error + Send + Sync>::from(text))))
         }
+    }
+}
+
+/// What a driven call hands back: its answer, which this can be read as, and why a step of it failed.
+#[derive(Clone, Debug)]
+#[must_use = "a call may be refused"]
+pub struct Driven<A> {
+    /// What the call answers.
+    pub answer: A,
+    /// The cause of the first step that failed, where the host told one.
+    pub cause: Option<Cause>,
+}
+
+impl<A> Deref for Driven<A> {
+    type Target = A;
+
+    fn deref(&self) -> &A {
+        &self.answer
     }
 }
 
@@ -61,15 +101,29 @@ impl Stepped for TuneAnswer {
     }
 }
 
-/// The rounds of a call, whose answer comes with the records that it leaves: those of the last round are handed back.
-pub(crate) fn rounds<A: Stepped, R>(call: impl Fn(&Script) -> (A, R), mut take: impl FnMut(&Entry<'_>) -> Outcome) -> (A, R) {
-    let (mut script, mut taken, mut read) = (Script::all_done(), 0, 0);
+/// The rounds of a call, whose answer comes with the records that it leaves: `keep` is given those of the last round.
+///
+/// While the host takes a step nobody knows how it will end, and the host may panic in it. So before each step `keep` is given the records that the call leaves
+/// where this step and all behind it fail: whatever became of the step, they call no register sure that may hold another byte (theorem `crashed`).
+pub(crate) fn rounds<A: Stepped, R>(
+    call: impl Fn(&Script) -> (A, R),
+    mut keep: impl FnMut(R),
+    mut take: impl FnMut(&Entry<'_>) -> Outcome,
+) -> Driven<A> {
+    let (mut script, mut taken, mut read, mut failed) = (Script::all_done(), 0, 0, None);
     loop {
         let (answer, records) = call(&script);
-        let Some(entry) = answer.transcript().get(taken) else { return (answer, records) };
+        let Some(entry) = answer.transcript().get(taken) else {
+            keep(records);
+            return Driven { answer, cause: failed.flatten() };
+        };
+        keep(call(&script.failing_from(taken)).1);
         match take(&entry).read(&entry) {
-            None => script.fail(taken),
-            Some(bytes) => {
+            Err(cause) => {
+                script.fail(taken);
+                failed = failed.or(Some(cause));
+            }
+            Ok(bytes) => {
                 script.reply(read, &bytes);
                 read += bytes.len();
             }
@@ -87,6 +141,9 @@ pub(crate) fn rounds<A: Stepped, R>(call: impl Fn(&Script) -> (A, R), mut take: 
 /// An entry is shown as if it were done, a read with zeros, as many as it is to read. A step that fails ends the call, but for the closing of an open repeater.
 /// A wait is shown too: `take` waits, and what it says of it is not looked at.
 ///
+/// Where `take` panics, the records are those of a call whose step at hand and all behind it failed: what it did is doubtful, and [`Tuner::reload`] and the same call
+/// again mend it.
+///
 /// ```
 /// use pasetone::{Error, Outcome, demod, drive};
 ///
@@ -94,12 +151,13 @@ pub(crate) fn rounds<A: Stepped, R>(call: impl Fn(&Script) -> (A, R), mut take: 
 /// let mut taken = 0;
 /// let answer = drive(demod::reset_demod, |_| {
 ///     taken += 1;
-///     if taken == 1 { Outcome::Done } else { Outcome::Failed }
+///     if taken == 1 { Outcome::Done } else { Outcome::failed("no answer") }
 /// });
 /// assert_eq!((answer.result, taken), (Err(Error::Step { index: 1 }), 2));
+/// assert_eq!(answer.cause.unwrap().to_string(), "no answer");
 /// ```
-pub fn drive<A: Stepped>(call: impl Fn(&Script) -> A, take: impl FnMut(&Entry<'_>) -> Outcome) -> A {
-    rounds(|script| (call(script), ()), take).0
+pub fn drive<A: Stepped>(call: impl Fn(&Script) -> A, take: impl FnMut(&Entry<'_>) -> Outcome) -> Driven<A> {
+    rounds(|script| (call(script), ()), drop, take)
 }
 
 impl Tuner {
@@ -118,21 +176,20 @@ impl Tuner {
     /// assert!(tuner.has_lock());
     ///
     /// // A call without arguments is named alone. This receiver does nothing.
-    /// let answer = tuner.drive(Tuner::reload, |_| Outcome::Failed);
+    /// let answer = tuner.drive(Tuner::reload, |_| Outcome::Failed(None));
     /// assert_eq!(answer.transcript.len(), 1);
     /// # Ok::<(), pasetone::Error>(())
     /// ```
-    pub fn drive<A: Stepped>(&mut self, call: impl Fn(&mut Tuner, &Script) -> A, take: impl FnMut(&Entry<'_>) -> Outcome) -> A {
+    pub fn drive<A: Stepped>(&mut self, call: impl Fn(&mut Tuner, &Script) -> A, take: impl FnMut(&Entry<'_>) -> Outcome) -> Driven<A> {
         let given = self.clone();
-        let (answer, next) = rounds(
+        rounds(
             |script| {
                 let mut next = given.clone();
                 (call(&mut next, script), next)
             },
+            |next| *self = next,
             take,
-        );
-        *self = next;
-        answer
+        )
     }
 }
 
@@ -159,16 +216,15 @@ impl Driver {
         tuner: &mut Tuner,
         call: impl Fn(&mut Driver, &mut Tuner, &Script) -> A,
         take: impl FnMut(&Entry<'_>) -> Outcome,
-    ) -> A {
+    ) -> Driven<A> {
         let given = (self.clone(), tuner.clone());
-        let (answer, next) = rounds(
+        rounds(
             |script| {
                 let mut next = given.clone();
                 (call(&mut next.0, &mut next.1, script), next)
             },
+            |next| (*self, *tuner) = next,
             take,
-        );
-        (*self, *tuner) = next;
-        answer
+        )
     }
 }

@@ -7,6 +7,7 @@ use alloc::vec::Vec;
 /// A script must be as long as its call's longest run needs, also where a run is shorter: at most [`Script::OUTCOMES`] outcomes and
 /// [`Script::REPLIES`] replies, which is what [`Driver::tune_board`](crate::Driver::tune_board) needs; [`Need`] has the numbers of each call. Longer than needed is fine, so one script serves for all calls.
 #[derive(Clone, Debug, PartialEq, Eq)]
+#[must_use = "a script does nothing by itself"]
 pub struct Script {
     outcomes: Vec<u8>,
     replies: Vec<u8>,
@@ -63,6 +64,13 @@ impl Script {
     /// For a round: step `index` failed. The script is long enough for every call.
     pub(crate) fn fail(&mut self, index: usize) {
         self.outcomes[index] = 1;
+    }
+
+    /// For a round: the same, with step `index` and all behind it failing.
+    pub(crate) fn failing_from(&self, index: usize) -> Script {
+        let mut script = self.clone();
+        script.outcomes[index..].fill(1);
+        script
     }
 
     /// For a round: a read gave these replies, behind those that were read before.

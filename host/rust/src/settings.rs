@@ -1,3 +1,4 @@
+use crate::raw::Told as _;
 use crate::{Board, Error, TunerKind, raw};
 
 /// Receiver settings as they stand on file: what a site keeps in a spreadsheet no longer.

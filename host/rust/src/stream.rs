@@ -1,5 +1,6 @@
+use crate::raw::Told as _;
 use crate::rounds::rounds;
-use crate::{Driver, Entry, Error, Lock, Need, Outcome, Script, Stepped, Table, Transcript, Tuner, in_room, raw};
+use crate::{Driven, Driver, Entry, Error, Lock, Need, Outcome, Script, Stepped, Table, Transcript, Tuner, in_room, raw};
 use alloc::vec::Vec;
 use core::fmt;
 
@@ -51,6 +52,7 @@ impl Command {
 
 /// What a command of a stream came to. Its records are updated already, as by its call.
 #[derive(Clone, Debug, PartialEq)]
+#[must_use = "a command may be refused"]
 pub struct Fed {
     /// Its nine bytes.
     pub command: [u8; Command::SIZE],
@@ -127,6 +129,7 @@ impl Stream {
     /// call asks for; [`Script::all_done`] has enough for all.
     ///
     /// What a command is refused for stands in its [`Fed::result`]: [`Error::Command`] (14) first, else as its call is refused.
+    #[must_use = "a command may be refused"]
     pub fn feed(
         &mut self,
         driver: &mut Driver,
@@ -141,7 +144,9 @@ impl Stream {
         })
     }
 
-    /// Takes a chunk as [`Stream::feed`] does, and makes each command on a receiver, step by step, as [`drive`](crate::drive) does.
+    /// Takes a chunk as [`Stream::feed`] does, and makes each command on a receiver, step by step, as [`drive`](crate::drive) does. Where `take` panics, its command
+    /// has been taken and the rest of the chunk has not.
+    #[must_use = "a command may be refused"]
     pub fn drive(
         &mut self,
         driver: &mut Driver,
@@ -149,39 +154,34 @@ impl Stream {
         table: &Table,
         chunk: &[u8],
         mut take: impl FnMut(&Entry<'_>) -> Outcome,
-    ) -> Vec<Fed> {
+    ) -> Vec<Driven<Fed>> {
         self.each(driver, tuner, table, chunk, |records, command, rest| {
-            let given = records.clone();
+            let given = records.copy();
             let one_round = |script: &Script| {
                 let mut next = given.clone();
-                (next.run(command, table, rest, script), next)
+                (next.lent().run(command, table, rest, script), next)
             };
-            let (fed, next) = rounds(one_round, &mut take);
-            *records = next;
-            fed
+            rounds(one_round, |next| records.keep(next), &mut take)
         })
     }
 
     /// Each command that the chunk completes, by `make`; then what is left of the chunk is pending.
-    fn each(
+    fn each<A>(
         &mut self,
         driver: &mut Driver,
         tuner: &mut Tuner,
         table: &Table,
         chunk: &[u8],
-        mut make: impl FnMut(&mut Records, [u8; Command::SIZE], &[u8]) -> Fed,
-    ) -> Vec<Fed> {
-        let mut records = Records { stream: self.clone(), driver: driver.clone(), tuner: tuner.clone() };
-        let (mut rest, mut fed) = (chunk, Vec::new());
+        mut make: impl FnMut(&mut Records<'_>, [u8; Command::SIZE], &[u8]) -> A,
+    ) -> Vec<A> {
+        let mut records = Records { stream: self, driver, tuner };
+        let (mut rest, mut made) = (chunk, Vec::new());
         while let Some((command, used)) = records.stream.command(rest) {
-            fed.push(make(&mut records, command, rest));
-            // After each, since the next one's `make` is the host's and may panic.
-            (*self, *driver, *tuner) = records.clone().parts();
+            made.push(make(&mut records, command, rest));
             rest = &rest[used..];
         }
         records.feed(table, rest, &Script::all_done());
-        *self = records.stream;
-        fed
+        made
     }
 
     /// The command that these bytes complete, and how many of them it takes.
@@ -202,17 +202,34 @@ impl fmt::Debug for Stream {
     }
 }
 
-/// All that a feeding changes.
+/// All that a feeding changes, where it lies.
+struct Records<'a> {
+    stream: &'a mut Stream,
+    driver: &'a mut Driver,
+    tuner: &'a mut Tuner,
+}
+
+/// The same, apart.
 #[derive(Clone)]
-struct Records {
+struct Copied {
     stream: Stream,
     driver: Driver,
     tuner: Tuner,
 }
 
-impl Records {
-    fn parts(self) -> (Stream, Driver, Tuner) {
-        (self.stream, self.driver, self.tuner)
+impl Copied {
+    fn lent(&mut self) -> Records<'_> {
+        Records { stream: &mut self.stream, driver: &mut self.driver, tuner: &mut self.tuner }
+    }
+}
+
+impl Records<'_> {
+    fn copy(&self) -> Copied {
+        Copied { stream: self.stream.clone(), driver: self.driver.clone(), tuner: self.tuner.clone() }
+    }
+
+    fn keep(&mut self, next: Copied) {
+        (*self.stream, *self.driver, *self.tuner) = (next.stream, next.driver, next.tuner);
     }
 
     fn run(&mut self, command: [u8; Command::SIZE], table: &Table, chunk: &[u8], script: &Script) -> Fed {

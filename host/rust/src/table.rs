@@ -1,3 +1,4 @@
+use crate::raw::Told as _;
 use crate::{Board, Error, InputPath, Plan, raw};
 use alloc::vec::Vec;
 use core::fmt;

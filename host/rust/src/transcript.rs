@@ -1,3 +1,4 @@
+use crate::raw::Told as _;
 use crate::{Error, raw};
 use alloc::string::String;
 use alloc::vec::Vec;
@@ -68,6 +69,23 @@ impl EntryKind {
     /// Document 01's number.
     pub fn number(self) -> u8 {
         self as u8 + 1
+    }
+}
+
+/// What it is, without what it does.
+impl fmt::Display for EntryKind {
+    fn fmt(&self, f: &mut fmt::Formatter<'_>) -> fmt::Result {
+        f.write_str(match self {
+            EntryKind::Repeater => "repeater",
+            EntryKind::I2cWrite => "I2C write",
+            EntryKind::I2cRead => "I2C read",
+            EntryKind::DemodWrite8 => "demod write of 8 bits",
+            EntryKind::DemodWrite16 => "demod write of 16 bits",
+            EntryKind::BlockWrite8 => "block write of 8 bits",
+            EntryKind::BlockWrite16 => "block write of 16 bits",
+            EntryKind::BlockRead => "block read",
+            EntryKind::Wait => "wait",
+        })
     }
 }
 

@@ -1,3 +1,4 @@
+use crate::raw::Told as _;
 use crate::raw::{self, Reply};
 use crate::{Answer, Error, Lock, Need, Script, TuneAnswer, in_room};
 use core::fmt;
@@ -20,6 +21,26 @@ pub enum InputPath {
     Vhf,
     /// 2: air in.
     Uhf,
+}
+
+/// As it is printed on the chip.
+impl fmt::Display for TunerKind {
+    fn fmt(&self, f: &mut fmt::Formatter<'_>) -> fmt::Result {
+        f.write_str(match self {
+            TunerKind::R820t => "R820T",
+            TunerKind::R828d => "R828D",
+        })
+    }
+}
+
+impl fmt::Display for InputPath {
+    fn fmt(&self, f: &mut fmt::Formatter<'_>) -> fmt::Result {
+        f.write_str(match self {
+            InputPath::Hf => "HF",
+            InputPath::Vhf => "VHF",
+            InputPath::Uhf => "UHF",
+        })
+    }
 }
 
 const SHADOW: usize = 2;

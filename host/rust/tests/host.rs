@@ -1,7 +1,7 @@
 //! What this crate adds to the archive: texts, scripts, records as values. On good, bad and empty input.
 use pasetone::{
-    Answer, Band, Board, Driver, Entry, EntryKind, Error, InputPath, Need, Outcome, Packet, Script, Table, Transcript, Tuner, TunerKind,
-    demod, drive, gpio,
+    Answer, Band, Board, Command, Driver, Entry, EntryKind, Error, InputPath, Need, Outcome, Packet, Receiver, Script, Stream, Table,
+    Transcript, Tuner, TunerKind, demod, drive, gpio,
 };
 
 fn r828d() -> Tuner {
@@ -260,7 +260,7 @@ fn a_driven_call_takes_what_the_host_says() {
     let answer = tuner.drive(|tuner, script| tuner.set_frequency(0, script), |_| panic!("a step of a call that takes none"));
     assert_eq!((answer.result, answer.transcript.len(), &tuner), (Err(Error::Frequency), 0, &r828d()));
     // The read of a byte: none, two, or bytes that are not said to be read are no answer.
-    for wrong in [Outcome::Read(vec![]), Outcome::Read(vec![1, 2]), Outcome::Done, Outcome::Failed] {
+    for wrong in [Outcome::Read(vec![]), Outcome::Read(vec![1, 2]), Outcome::Done, Outcome::Failed(None)] {
         let answer = drive(|script| gpio::set_bit(0, true, script), |_| wrong.clone());
         assert_eq!((answer.result, answer.transcript.len()), (Err(Error::Step { index: 0 }), 1), "{wrong:?}");
     }
@@ -274,10 +274,14 @@ fn a_driven_call_takes_what_the_host_says() {
 
 #[test]
 fn results_are_outcomes() {
-    assert_eq!(Outcome::from(Ok::<_, Error>(())), Outcome::Done);
-    assert_eq!(Outcome::from(Err::<(), _>(Error::Rate)), Outcome::Failed);
-    assert_eq!(Outcome::from(Ok::<_, Error>(vec![7])), Outcome::Read(vec![7]));
-    assert_eq!(Outcome::from(Err::<Vec<u8>, _>("no bytes")), Outcome::Failed);
+    assert!(matches!(Outcome::from(Ok::<_, Error>(())), Outcome::Done));
+    assert!(matches!(Outcome::from(Ok::<_, Error>(vec![7])), Outcome::Read(read) if read == [7]));
+    let told = |outcome| match outcome {
+        Outcome::Failed(Some(cause)) => cause.to_string(),
+        other => panic!("{other:?}"),
+    };
+    assert_eq!(told(Outcome::from(Err::<(), _>(Error::Rate))), Error::Rate.to_string());
+    assert_eq!(told(Outcome::from(Err::<Vec<u8>, _>("no bytes"))), "no bytes");
 }
 
 /// A step that fails is in the record as the call itself would leave it, and a driver's records go together.
@@ -293,14 +297,48 @@ fn driven_records_are_updated_together() {
         |step| {
             steps += 1;
             match step.kind {
-                _ if steps == 13 => Outcome::Failed,
+                _ if steps == 13 => Outcome::failed("no answer"),
                 EntryKind::BlockRead => Outcome::Read(vec![0]),
                 _ => Outcome::Done,
             }
         },
     );
     assert_eq!(found.result, Err(Error::Step { index: 12 }));
-    assert_eq!((found, tuner, driver), (wanted, at_once, its_driver));
+    assert_eq!(found.cause.unwrap().to_string(), "no answer");
+    assert_eq!((found.answer, tuner, driver), (wanted, at_once, its_driver));
+}
+
+/// What a [`Receiver`] does is what its parts do, with their words and its own.
+#[test]
+fn a_receiver_is_its_parts() {
+    let (mut tuner, mut driver, table) = (r828d(), Driver::new(Board::V4, 28_800_000, 0, 0, 0).unwrap(), Board::V4.table());
+    let mut receiver = Receiver::new(TunerKind::R828d, 0x74, Board::V4, 28_800_000).unwrap();
+    assert_eq!(receiver.clone().parts(), (tuner.clone(), driver.clone(), table.clone()));
+    assert_eq!(Receiver::new(TunerKind::R828d, 0x74, Board::V4, 0), Err(Error::Setup));
+
+    assert_eq!((receiver.set_ppm(7), driver.set_ppm(&mut tuner, 7)), (Ok(()), Ok(())));
+    assert_eq!(receiver.set_ppm(-1_000_000), Err(Error::Correction));
+    assert_eq!(receiver.tuner_mut().initialize(&done()), tuner.initialize(&done()));
+    let failing = done().failing(5).unwrap();
+    assert_eq!(receiver.set_sample_rate(3_200_000, &failing), driver.set_sample_rate(&mut tuner, &table, 3_200_000, &failing));
+    assert_eq!(receiver.tune(7_000_000, &failing), driver.tune_board(&mut tuner, &table, 7_000_000, &failing));
+    let (mut one, mut other, sent) = (Stream::new(), Stream::new(), Command::Gain(8.7).bytes());
+    assert_eq!(receiver.feed(&mut one, &sent[..5], |_| done()), other.feed(&mut driver, &mut tuner, &table, &sent[..5], |_| done()));
+    assert_eq!((receiver.tuner(), receiver.driver(), receiver.table(), &one), (&tuner, &driver, &table, &other));
+    let taken = receiver.drive_stream(&mut one, &sent[5..], |_| Outcome::Done);
+    let fed = other.feed(&mut driver, &mut tuner, &table, &sent[5..], |_| done());
+    assert_eq!(taken.into_iter().map(|driven| driven.answer).collect::<Vec<_>>(), fed);
+    let answer = receiver.drive(|receiver, script| receiver.tune(102_300_000, script), |_| Outcome::Failed(None)).answer;
+    assert_eq!(answer, driver.tune_board(&mut tuner, &table, 102_300_000, &done().failing(0).unwrap()));
+    assert_eq!(receiver.parts(), (tuner, driver, table));
+}
+
+/// Kinds print as the command line names them.
+#[test]
+fn kinds_have_words() {
+    let words = [TunerKind::R820t.to_string(), Board::Generic.to_string(), Board::V4.to_string(), InputPath::Uhf.to_string()];
+    assert_eq!(words, ["R820T", "generic", "V4", "UHF"]);
+    assert_eq!(EntryKind::DemodWrite16.to_string(), "demod write of 16 bits");
 }
 
 /// A write of three bytes from register 0xfe on, by its entry: the third names nothing.

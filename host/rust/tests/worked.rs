@@ -570,7 +570,7 @@ fn commands_driven_on_a_receiver() {
     let mut steps = 0;
     let fed = stream.drive(&mut driver, &mut tuner, &Board::V4.table(), &sent, |_| {
         steps += 1;
-        if steps == 7 { Outcome::Failed } else { Outcome::Done }
+        if steps == 7 { Outcome::Failed(None) } else { Outcome::Done }
     });
     let mut at_once = r828d();
     let wanted = [at_once.reload(&done().failing(6).unwrap()), at_once.set_bandwidth(6_500_000, &done())];
