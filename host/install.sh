@@ -58,13 +58,19 @@ Version: $version
 Cflags: -I\${includedir}
 Libs: -L\${libdir} -lpasetone
 END
-"$here/man" "$to/share/man"
-# The command line, where cargo can build it: the library needs no Rust.
-if command -v cargo > /dev/null; then
-    "$root/pasetone" --version > /dev/null
-    install -d "$to/bin"
-    install -m 755 "$root/target/line/pasetone" "$to/bin/"
+"$here/man" "$work/man"
+install -d "$to/share/man/man3"
+install -m 644 "$work/man/man3/"* "$to/share/man/man3/"
+# The command line and its pages, where cargo can build it: the library needs no Rust.
+machine=$(${CC:-cc} -dumpmachine)
+if ! command -v cargo > /dev/null; then
+    echo "install: cargo is not on the path: all but the program, bin/pasetone, and its pages" >&2
+elif [ "${machine%%-*}" != "$(uname -m)" ]; then
+    echo "install: the library is for another machine, $machine: all but the program, bin/pasetone, and its pages" >&2
 else
-    echo "install: cargo is not on the path: all but the program, bin/pasetone" >&2
+    PASETONE_BUILD="" "$root/pasetone" --version > /dev/null
+    install -d "$to/bin" "$to/share/man/man1"
+    install -m 755 "$root/target/line/pasetone" "$to/bin/"
+    install -m 644 "$work/man/man1/"* "$to/share/man/man1/"
 fi
 echo "installed: $to"

@@ -4,7 +4,8 @@
 //! assembly, and the one for the target is assembled into this crate: no C compiler, no build script, nothing from a registry, and no `std`.
 //!
 //! A slice is a pointer and a length. What makes a call sound: every pointer is not null and valid for its length, also where that is 0 (a Rust slice's is);
-//! slices that are written overlap no other; and the library keeps nothing when a call has ended. The header says what each function takes and answers.
+//! slices that are written overlap no other; and the library keeps nothing when a call has ended. The header, module `manual` of these pages, says what each function
+//! takes and answers.
 //!
 //! ```
 //! // SAFETY: it takes nothing.
@@ -58,6 +59,11 @@ mod linked {
     #[used]
     static ONCE: unsafe extern "C" fn() -> u32 = super::pasetone_version;
 }
+
+/// `pasetone.h`: above each function stands what it takes, answers and refuses.
+#[doc = concat!("```c\n", include_str!("../pasetone.h"), "\n```")]
+#[cfg(doc)]
+pub mod manual {}
 
 /// Where a slice begins that is read.
 pub type Bytes = *const u8;

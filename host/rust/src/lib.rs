@@ -1,6 +1,6 @@
 //! Tuner and demodulator control of an RTL2832U receiver with an R820T or R828D tuner, after rtlsdr-next.
 //!
-//! The work is done by libpasetone.a, written in Rattle with every function proved; this crate owns its records and lends its slices. Nothing
+//! The work is done by the library of crate `pasetone-sys`, written in Rattle with every function proved; this crate owns its records and lends its slices. Nothing
 //! here talks to hardware. A call is given a record ([`Tuner`], [`Driver`]) and a [`Script`] that says how each step ends, and hands back an
 //! [`Answer`]: the result and the [`Transcript`] of the steps taken.
 //!
