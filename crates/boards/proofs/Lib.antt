@@ -1,1 +1,3 @@
 pub mod Hops
+pub mod Late
+pub mod Unpathed

@@ -26,7 +26,9 @@ use Rattle.wire.proofs.Joins.{parts-joined}
 use Rattle.chip.specs.declared.Answer.{Answer}
 use Rattle.chip.specs.declared.Answer.the-variants.{Done, Refused, Stopped}
 use Rattle.chip.specs.declared.Progress.the-variants.{Going, Refused11}
-use Rattle.chip.specs.Calls.{Called, answerOf, callOf, called, indexOf, numberOf, performed}
+use Rattle.chip.specs.declared.LockTries.{LockTries}
+use Rattle.chip.specs.Entries.{noTries}
+use Rattle.chip.specs.Calls.{Called, answerOf, callOf, called, indexOf, lockTriesIn, lockedIn, numberOf, performed, triesIn}
 use Rattle.device.specs.Calls.{noChip}
 use Rattle.lending.specs.Lent.{lentTo}
 use Rattle.pll.specs.declared.Kind.{Kind}
@@ -37,26 +39,30 @@ use Rattle.r82xx.specs.Record.{freshTuner, madeOf}
 use Rattle.r82xx.specs.Orders.Order.{Reload, Tune}
 use Rattle.records.specs.Drivers.{driverOf}
 use Rattle.records.specs.Fields.{flagByte}
-use Rattle.records.specs.Tuners.{tunerBytes, tunerOf, tunerParts, tunerWidths}
+use Rattle.records.specs.Tuners.{tunerBytes, tunerOf, tunerParts, tunerRead, tunerWidths}
 use Rattle.records.specs.declared.TunerRead.{TunerRead}
 use Rattle.records.proofs.Exact.{Ranged, read-written}
 use Rattle.records.proofs.Made.{sized}
 use Rattle.reply.specs.declared.Reply.{Reply}
 use Rattle.reply.specs.Replies.{callReply, replyOf}
+use Rattle.tuners.specs.Over.{lockTriesOver, overTuning, unlessRefused}
 use Rattle.tuners.specs.Still.{freshInto}
+use Rattle.drivers.specs.Drivers.{hopArgument, hopOver, lockTriesBoth}
 use Rattle.sequences.specs.Asides.{Aside, asideAsked, asideEntries, asideGiven, asideResult}
 use Rattle.sequences.specs.Calls.{Call, tunerAfter, call, entries, result}
 use Rattle.sequences.specs.Sequences.{Sequence}
 use Rattle.sequences.specs.Sequences.Sequence.{fresh as first, next as more, between as aside}
 use Rattle.sequences.proofs.Demand as sequence
 use Rattle.sequences.proofs.Failed as eleven
+use Rattle.sequences.specs.Waited.{Waited}
+use Rattle.sequences.proofs.Ten.{hop-ten, nothing-waited, tune-ten}
 use Rattle.sequences.proofs.Station as station
 use Rattle.sequences.proofs.Unmoved as still
 use Rattle.sequences.specs.Retunes.{retunes}
 use Rattle.sequences.proofs.Tunings.{hop-done, tune-done}
 use Rattle.oscillator.specs.Registers.{Within, standsBy}
 use Rattle.bands.specs.Tables.{planBy}
-use Rattle.boards.specs.Hops.{pathReplies}
+use Rattle.boards.specs.Hops.{hopLockTries, pathReplies}
 use Rattle.tuning.specs.Tries.{fineOf, powerOf}
 use Rattle.sequences.specs.Calls.{isByte}
 use Rattle.sequences.proofs.Failed.{nothing-failed}
@@ -361,6 +367,14 @@ module _ (b : List ℕ) (es : List Entry) (c : Carried b es) where
         go (away z told same bytes) = ap (λ (a : Reply). eqb (a .refusal) 1) same ∙ told .setup
         go (made z told same room bytes) = ap (λ (a : Reply). eqb (a .refusal) 1) same ∙ told .setup
 
+    -- #106, "refusal 5 goes with it": no call is refused 5
+    pub never-five : eqb (reply .refusal) 5 ≡ false
+    never-five = go pass
+      where
+        go : Passed t inner number (amiss (k .exported)) (leaves k b) → eqb (reply .refusal) 5 ≡ false
+        go (away z told same bytes) = ap (λ (a : Reply). eqb (a .refusal) 5) same ∙ told .never
+        go (made z told same room bytes) = ap (λ (a : Reply). eqb (a .refusal) 5) same ∙ told .never
+
     -- (e) its count is that of the entries in its room
     pub count-told : reply .count ≡ length (entriesOf k b)
     count-told = go pass
@@ -500,6 +514,64 @@ module _ (b : List ℕ) (es : List Entry) (c : Carried b es) where
 
   same-tuner : t ≡ u
   same-tuner = sym (ap (λ (l : List ℕ). tunerOf l .tuner) is ∙ ap (λ (r : TunerRead). r .tuner) (read-written t ranges))
+
+  -- ---- #101: what the two tunings tell of their tries
+
+  reads : tunerOf b ≡ tunerRead true t
+  reads = ap tunerOf is ∙ read-written t ranges
+
+  -- by the number that a call is turned away by: what it would tell is of no entry then
+  lock-read : (k : Lent) (h : typed (k .exported) ≡ true)
+      → unlessRefused (number k h) (λ n. noTries) (lockTriesIn (entries (inner k h) t)) ≡ lockTriesIn (entriesOf k b)
+  unfolding unlessRefused triesIn lockedIn
+  lock-read k h = go (pass k h)
+    where
+      go : Passed t (inner k h) (number k h) (amiss (k .exported)) (leaves k b)
+          → cond (eqb (number k h) 0) (lockTriesIn (entries (inner k h) t)) noTries ≡ lockTriesIn (entriesOf k b)
+      go (away z told same bytes) = rw z (ap lockTriesIn (sym (away-entries (leaves k b) (number k h) same)))
+      go (made z told same room bytes) = rw z (ap lockTriesIn (sym (made-entries t es calls ranges (inner k h) h (leaves k b) same room)))
+
+  tune-lock : (hz : ℕ) (rs os room out : List ℕ) → every isByte rs ≡ true
+      → lockTriesOver (tuner.courseOf (Tune hz rs)) os b room out ≡ lockTriesIn (entriesOf (lent (Own (Tune hz rs)) os room out) b)
+  unfolding lockTriesOver
+  tune-lock hz rs os room out small = rw reads (lock-read (lent (Own (Tune hz rs)) os room out) small)
+
+  hop-lock : (hz : ℕ) (table rs driver slot os room out : List ℕ) → every isByte rs ≡ true
+      → lockTriesBoth (hopArgument table hz) (λ u v. hopLockTries (planBy table hz) hz rs os u v room) driver b slot out
+      ≡ lockTriesIn (entriesOf (lent (Hop hz table rs driver slot) os room out) b)
+  unfolding lockTriesBoth hopLockTries
+  hop-lock hz table rs driver slot os room out small = rw reads (lock-read (lent (Hop hz table rs driver slot) os room out) small)
+
+  -- "Tries equal the three-byte reads in the transcript that were done": of the entries that the host reads from its room; locked is 1 where one of them has the bit
+  pub tries-told : (hz : ℕ) (rs os room out : List ℕ) → every isByte rs ≡ true
+      → (overTuning (tuner.courseOf (Tune hz rs)) os b room out .answer .tries ≡ triesIn (entriesOf (lent (Own (Tune hz rs)) os room out) b))
+      × (overTuning (tuner.courseOf (Tune hz rs)) os b room out .answer .locked ≡ cond (lockedIn (entriesOf (lent (Own (Tune hz rs)) os room out) b)) 1 0)
+  unfolding overTuning
+  tries-told hz rs os room out small =
+      let e = tune-lock hz rs os room out small in
+      (ap (λ (s : LockTries). s .tries) e, ap (λ (s : LockTries). cond (s .locked) 1 0) e)
+
+  pub board-tries-told : (hz : ℕ) (table rs driver slot os room out : List ℕ) → every isByte rs ≡ true
+      → (hopOver table hz rs os driver b room slot out .answer .tries ≡ triesIn (entriesOf (lent (Hop hz table rs driver slot) os room out) b))
+      × (hopOver table hz rs os driver b room slot out .answer .locked ≡ cond (lockedIn (entriesOf (lent (Hop hz table rs driver slot) os room out) b)) 1 0)
+  board-tries-told hz table rs driver slot os room out small =
+      let e = hop-lock hz table rs driver slot os room out small in
+      (ap (λ (s : LockTries). s .tries) e, ap (λ (s : LockTries). cond (s .locked) 1 0) e)
+
+  -- at most ten, and the one with the lock bit is the last, of a cut tuning too
+  entries-waited : (k : Lent) (h : typed (k .exported) ≡ true) → Waited 10 (entries (inner k h) t) → Waited 10 (entriesOf k b)
+  entries-waited k h w = go (pass k h)
+    where
+      go : Passed t (inner k h) (number k h) (amiss (k .exported)) (leaves k b) → Waited 10 (entriesOf k b)
+      go (away z told same bytes) = subst (Waited 10) (sym (away-entries (leaves k b) (number k h) same)) nothing-waited
+      go (made z told same room bytes) = subst (Waited 10) (sym (made-entries t es calls ranges (inner k h) h (leaves k b) same room)) w
+
+  pub ten-tries : (hz : ℕ) (rs os room out : List ℕ) → every isByte rs ≡ true → Waited 10 (entriesOf (lent (Own (Tune hz rs)) os room out) b)
+  ten-tries hz rs os room out small = entries-waited (lent (Own (Tune hz rs)) os room out) small (tune-ten hz rs os room t)
+
+  pub board-ten-tries : (hz : ℕ) (table rs driver slot os room out : List ℕ) → every isByte rs ≡ true → Waited 10 (entriesOf (lent (Hop hz table rs driver slot) os room out) b)
+  board-ten-tries hz table rs driver slot os room out small =
+      entries-waited (lent (Hop hz table rs driver slot) os room out) small (hop-ten hz table rs (driverOf driver .driver) os room t)
 
   -- "A recording filed under the wrong transmitter": a tuning that is answered 0, whose status asked for no repair of the divider, has the chip's oscillator at hz + IF
   -- within 25 kHz of the VCO, on every chip and by its registers alone. IF, reference and kind are those of the bytes that it was given

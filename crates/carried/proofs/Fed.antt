@@ -5,21 +5,25 @@ use Prim.Native.Nat.{ℕ, _+_, _%_, _≤_, _<_}
 use mathlib.Core.Path.{_≡_, refl, sym, ap, subst, _∙_}
 use mathlib.Core.Bool.{Bool, true, false, not, _&&_, _||_, cond, true≢false}
 use mathlib.Core.List.{List, [], _++_, append-nil}
+use mathlib.Core.Logic.{_⊎_, inl, inr}
 use native.Mathlib.Omega.{arith}
 use borrow.Author.Tests.{eqb-false, eqb-true, le-leb, lt-ltb}
 use lib.Dec.{eqb, ltb}
 use lib.IntN.{ℤ}
-use lib.ListN.{length, take}
+use lib.ListN.{getD, length, set, take}
 use lib.Seq.{length-sets, sets, take-all}
 use Rattle.wire.specs.Bytes.{Bytes}
 use Rattle.transcript.specs.declared.Entry.{Entry}
+use Rattle.attempts.specs.Attempts.{Played, Regs, byteIn, lastIn}
 use Rattle.chip.specs.declared.Answer.{Answer}
 use Rattle.chip.specs.declared.Answer.the-variants.{Done, Refused, Stopped}
+use Rattle.chip.specs.declared.Progress.the-variants.{Refused11}
 use Rattle.chip.specs.Calls.{Called, called}
 use Rattle.chip.specs.Courses.{leftBy}
 use Rattle.chip.specs.Entries.{noTries}
 use Rattle.chip.specs.Steps.{every}
-use Rattle.chip.proofs.Laws.{and-left}
+use Rattle.history.specs.Histories.{Cut, progressIn}
+use Rattle.writes.specs.Lists.{initArray}
 use Rattle.bands.specs.Tables.{planBy}
 use Rattle.driver.specs.declared.Driver.{Driver}
 use Rattle.driver.specs.Calls.{Both, both, rateResult, rateRow}
@@ -45,27 +49,51 @@ use Rattle.commands.specs.Rows.{beside, commandRow, isUnknown, lockTriesBy}
 use Rattle.commands.proofs.Runs.{bandwidth-taken, by-correction, by-rate, by-tuner, by-tuning, driver-sound, gain-taken, index-taken, isTaken, left, over-is, rate-is, rated, reload-taken}
 use Rattle.carried.specs.Carried.{Carried}
 use Rattle.carried.specs.Carried.Carried.{next}
-use Rattle.carried.specs.Exported.{Left, amiss, byAfter, byRates, entriesOf, leaves, lent, plainly, readBy, stands, tunerLeft, tunerTyped, typed}
+use Rattle.carried.specs.Exported.{Exported, Left, Lent, amiss, byAfter, byRates, entriesOf, leaves, left as onward, lent, plainly, readBy, stands, tunerLeft, tunerTyped, typed, uncut}
 use Rattle.carried.specs.Exported.Exported.{Own, Rate as RateOf, Correct}
-use Rattle.carried.specs.Fed.{fedEntries, plainFed}
-use Rattle.carried.proofs.Demand.{behind, long, readable, refused-one}
+use Rattle.carried.specs.Fed.{Completes, Makes, fedEntries, plainFed}
+use Rattle.carried.specs.Fed.Makes.{tunes, rates, gains, steps, narrows, corrects, reloads}
+use Rattle.carried.proofs.Demand.{behind, cut-uncut, index-told, long, readable, refused-one, reload-done}
 use Rattle.carried.proofs.Passed.{few}
 
 run-none : (x : Command) (table rs os d b room : List ℕ) → isUnknown x ≡ false → driverOf d .ok ≡ false → runOver x table rs os d b room ≡ notRun 1 d b room
 unfolding runOver
 run-none x table rs os d b room known e = rw (known, e)
 
-run-unknown : (table rs os d b room : List ℕ) → runOver Unknown table rs os d b room ≡ notRun 14 d b room
+run-unknown : (x : Command) (table rs os d b room : List ℕ) → isUnknown x ≡ true → runOver x table rs os d b room ≡ notRun 14 d b room
 unfolding runOver
-run-unknown table rs os d b room = refl
+run-unknown x table rs os d b room unknown = rw unknown
+
+-- a command is unknown, or makes an exported call
+makes-or-none : (table rs d : List ℕ) (x : Command) → (isUnknown x ≡ true) ⊎ ((e : Exported) × Makes table rs d x e)
+makes-or-none table rs d (Frequency hz) = inr (Own (order.Order.Tune hz rs), tunes hz)
+makes-or-none table rs d (Rate rate) = inr (RateOf rate table d d, rates rate)
+makes-or-none table rs d (GainDb db) = inr (Own (order.Order.Gain db), gains db)
+makes-or-none table rs d (GainIndex k) = inr (Own (order.Order.GainIndex k), steps k)
+makes-or-none table rs d (Bandwidth hz) = inr (Own (order.Order.Bandwidth hz), narrows hz)
+makes-or-none table rs d (Correction ppm) = inr (Correct ppm d, corrects ppm)
+makes-or-none table rs d Reload = inr (Own order.Order.Reload, reloads)
+makes-or-none table rs d Unknown = inl refl
+
+made-known : (table rs d : List ℕ) (x : Command) (e : Exported) → Makes table rs d x e → isUnknown x ≡ false
+made-known table rs d x e (tunes hz) = refl
+made-known table rs d x e (rates rate) = refl
+made-known table rs d x e (gains db) = refl
+made-known table rs d x e (steps k) = refl
+made-known table rs d x e (narrows hz) = refl
+made-known table rs d x e (corrects ppm) = refl
+made-known table rs d x e reloads = refl
 
 -- what a call on both records leaves of the tuner's
 abbrev tunerOnly : Called Both → Called Tuner
 tunerOnly x = called (x .next .tuner) (x .room) (x .count) (x .answer)
 
--- what is left where a command was run, as a sequence's next bytes and entries
-abbrev Goes : List Entry → Hops → Type 0
-Goes es h = Carried (h .tuner) (es ++ readBy (plainly (h .answer)) (h .room))
+-- what is left where a command was run, as an exported call leaves it, and as a sequence's next bytes and entries
+abbrev leftOver : Hops → Left
+leftOver h = onward (plainly (h .answer)) (h .room) (h .tuner)
+
+abbrev Goes : List Entry → Left → Type 0
+Goes es l = Carried (l .bytes) (es ++ readBy (l .reply) (l .room))
 
 -- a next record is written into its slice exactly where the reply says that it stands: so a slice of 78 bytes holds the next bytes either way
 stood : (n count : ℕ) (y : Bool) → count < 4_294_967_296 → eqb count 0 ≡ false → (y || ltb 0 (count % 4294967296)) ≡ true
@@ -97,9 +125,6 @@ taken-there x b few n = go (stands (callReply x)) refl (isWritten (x .answer) (x
         sized true = simp length-sets (omega arith)
         sized false = omega arith
     go false e y = rw e (sym (written-stands x b few e))
-
-abbrev OneNot : Hops → Type 0
-OneNot h = eqb (h .answer .refusal) 1 ≡ false
 
 module _ (b : List ℕ) (es : List Entry) (c : Carried b es) (table rs os d room : List ℕ) (replies : every isByte rs ≡ true) (driver-bytes : Bytes d) where
   stays : Carried b (es ++ [])
@@ -135,12 +160,13 @@ module _ (b : List ℕ) (es : List Entry) (c : Carried b es) (table rs os d room
         subst (λ (u : Tuner). leftBy true (rateRow rate p u d′) os (u .chip) (both u d′) room .count < 4_294_967_296) (sym same-tuner)
         (subst (λ (z : Bool). leftBy z (rateRow rate p t d′) os (t .chip) (both t d′) room .count < 4_294_967_296) sounds n)
 
-    -- a call of the tuner's table
-    own-goes : (x : Command) (o : order.Order)
+    -- a call of the tuner's table, on the bytes where they lie
+    own-is : (x : Command) (o : order.Order)
         → commandRow x table rs (tunerOf b .tuner) (driverOf d .driver) ≡ beside (driverOf d .driver) (order.courseOf o (tunerOf b .tuner))
         → isUnknown x ≡ false → isTaken (order.courseOf o (tunerOf b .tuner)) ≡ true → lockTriesBy x rs os (tunerOf b .tuner) room ≡ noTries
-        → tunerTyped o ≡ true → tunerLeft o os room b b ≡ byAfter (overTuner (order.courseOf o) os b room b) b → Goes es (runOver x table rs os d b room)
-    own-goes x o row known taken none h l =
+        → tunerTyped o ≡ true → tunerLeft o os room b b ≡ byAfter (overTuner (order.courseOf o) os b room b) b
+        → tunerLeft o os room b b ≡ leftOver (runOver x table rs os d b room)
+    own-is x o row known taken none h l =
         let a : After = overTuner (order.courseOf o) os b room b in
         let is = over-is table rs os d b room driver-bytes good whole x o row known taken in
         let run = by-tuner table rs os d b room driver-bytes good whole x o row known taken none x refl b refl (a .answer) (a .room) (a .next) refl (tunedOf (a .answer) noTries) refl in
@@ -148,14 +174,12 @@ module _ (b : List ℕ) (es : List Entry) (c : Carried b es) (table rs os d room
         ap (λ (z : After). byAfter z b .bytes) is
         ∙ taken-there (left table rs os d b room driver-bytes good whole x o row known taken) b (few-of o h) (long b es c)
         ∙ sym (ap (λ (z : After). z .next) is) in
-        subst (Goes es) run
-        (subst (λ (bs : List ℕ). Carried bs (es ++ readBy (a .answer) (a .room))) there
-        (subst (λ (z : Left). Carried (z .bytes) (es ++ readBy (z .reply) (z .room))) l (next b es c (lent (Own o) os room b) h)))
+        l ∙ ap (onward (a .answer) (a .room)) there ∙ ap leftOver run
 
     -- a tuning, which is the same with its tries told
-    tuning-goes : (hz : ℕ) → Goes es (runOver (Frequency hz) table rs os d b room)
+    tuning-is : (hz : ℕ) → leaves (lent (Own (order.Order.Tune hz rs)) os room b) b ≡ leftOver (runOver (Frequency hz) table rs os d b room)
     unfolding overTuning
-    tuning-goes hz =
+    tuning-is hz =
         let o : order.Order = order.Order.Tune hz rs in
         let a : After = overTuner (order.courseOf o) os b room b in
         let v = overTuning (order.courseOf o) os b room b in
@@ -165,65 +189,59 @@ module _ (b : List ℕ) (es : List Entry) (c : Carried b es) (table rs os d room
         ap (λ (z : After). byAfter z b .bytes) is
         ∙ taken-there (left table rs os d b room driver-bytes good whole (Frequency hz) o refl refl refl) b (few-of o replies) (long b es c)
         ∙ sym (ap (λ (z : After). z .next) is) in
-        subst (Goes es) run
-        (subst (λ (bs : List ℕ). Carried bs (es ++ readBy (a .answer) (a .room))) there (next b es c (lent (Own o) os room b) replies))
+        ap (onward (a .answer) (a .room)) there ∙ ap leftOver run
 
     -- a rate, whose driver's record goes into the driver's own bytes
-    rate-goes : (rate : ℕ) → Goes es (runOver (Rate rate) table rs os d b room)
-    rate-goes rate =
+    rate-is-run : (rate : ℕ) → leaves (lent (RateOf rate table d d) os room b) b ≡ leftOver (runOver (Rate rate) table rs os d b room)
+    rate-is-run rate =
         let v = rateOver os rate table d b room d b in
         let is = rate-is table rs os d b room driver-bytes good whole rate in
         let x = rated table rs os d b room driver-bytes good whole rate in
         let run = by-rate table rs os d b room driver-bytes good whole rate (Rate rate) refl d b refl refl (v .answer) (v .room) (v .driver) (v .tuner) refl (tunedOf (v .answer) noTries) refl in
         let there : byRates v b .bytes ≡ v .tuner =
         ap (λ (z : Rates). byRates z b .bytes) is ∙ taken-there (tunerOnly x) b (few-rate rate) (long b es c) ∙ sym (ap (λ (z : Rates). z .tuner) is) in
-        subst (Goes es) run
-        (subst (λ (bs : List ℕ). Carried bs (es ++ readBy (v .answer) (v .room))) there (next b es c (lent (RateOf rate table d d) os room b) refl))
+        ap (onward (v .answer) (v .room)) there ∙ ap leftOver run
 
-    correction-goes : (ppm : ℤ) → Goes es (runOver (Correction ppm) table rs os d b room)
-    correction-goes ppm =
+    correction-is : (ppm : ℤ) → leaves (lent (Correct ppm d) os room b) b ≡ leftOver (runOver (Correction ppm) table rs os d b room)
+    correction-is ppm =
         let v = correctOver ppm b d in
-        let run = by-correction table rs os d b room driver-bytes good whole ppm (Correction ppm) refl (v .answer) (v .tuner) (v .driver) refl (tunedOf (v .answer) noTries) refl in
-        subst (Goes es) run (next b es c (lent (Correct ppm d) os room b) refl)
+        ap leftOver (by-correction table rs os d b room driver-bytes good whole ppm (Correction ppm) refl (v .answer) (v .tuner) (v .driver) refl (tunedOf (v .answer) noTries) refl)
+
+    -- a command leaves of the tuner's bytes and of the room what its own exported call leaves, and tells the same
+    pub run-is-call : (x : Command) (e : Exported) → Makes table rs d x e → leaves (lent e os room b) b ≡ leftOver (runOver x table rs os d b room)
+    run-is-call x e (tunes hz) = tuning-is hz
+    run-is-call x e (rates rate) = rate-is-run rate
+    run-is-call x e (gains db) = own-is (GainDb db) (order.Order.Gain db) refl refl (gain-taken db (tunerOf b .tuner)) refl refl refl
+    run-is-call x e (steps k) = own-is (GainIndex k) (order.Order.GainIndex k) refl refl (index-taken k (tunerOf b .tuner)) refl refl refl
+    run-is-call x e (narrows hz) = own-is (Bandwidth hz) (order.Order.Bandwidth hz) refl refl (bandwidth-taken hz (tunerOf b .tuner)) refl refl refl
+    run-is-call x e (corrects ppm) = correction-is ppm
+    run-is-call x e reloads = own-is Reload order.Order.Reload refl refl (reload-taken (tunerOf b .tuner)) refl refl refl
+
+    -- its numbers are of their types, and nothing but the tuner's and the driver's records is asked of it
+    made-typed : (x : Command) (e : Exported) → Makes table rs d x e → (typed e ≡ true) × (amiss e ≡ false)
+    made-typed x e (tunes hz) = (replies, refl)
+    made-typed x e (rates rate) = (refl, rw ok)
+    made-typed x e (gains db) = (refl, refl)
+    made-typed x e (steps k) = (refl, refl)
+    made-typed x e (narrows hz) = (refl, refl)
+    made-typed x e (corrects ppm) = (refl, rw ok)
+    made-typed x e reloads = (refl, refl)
+
+    made-goes : (x : Command) (e : Exported) → Makes table rs d x e → Goes es (leftOver (runOver x table rs os d b room))
+    made-goes x e m = subst (Goes es) (run-is-call x e m) (next b es c (lent e os room b) (made-typed x e m .0))
 
     -- 1 is told of nothing: the tuner's bytes are a record, and so are the driver's
-    own-one : (x : Command) (o : order.Order)
-        → commandRow x table rs (tunerOf b .tuner) (driverOf d .driver) ≡ beside (driverOf d .driver) (order.courseOf o (tunerOf b .tuner))
-        → isUnknown x ≡ false → isTaken (order.courseOf o (tunerOf b .tuner)) ≡ true → lockTriesBy x rs os (tunerOf b .tuner) room ≡ noTries
-        → tunerTyped o ≡ true → tunerLeft o os room b b ≡ byAfter (overTuner (order.courseOf o) os b room b) b → amiss (Own o) ≡ false → OneNot (runOver x table rs os d b room)
-    own-one x o row known taken none h l right =
-        let a : After = overTuner (order.courseOf o) os b room b in
-        let run = by-tuner table rs os d b room driver-bytes good whole x o row known taken none x refl b refl (a .answer) (a .room) (a .next) refl (tunedOf (a .answer) noTries) refl in
-        subst OneNot run (subst (λ (z : Left). eqb (z .reply .refusal) 1 ≡ false) l (refused-one b es c (lent (Own o) os room b) h ∙ right))
+    made-one : (x : Command) (e : Exported) → Makes table rs d x e → eqb (runOver x table rs os d b room .answer .refusal) 1 ≡ false
+    made-one x e m =
+        subst (λ (z : Left). eqb (z .reply .refusal) 1 ≡ false) (run-is-call x e m)
+        (refused-one b es c (lent e os room b) (made-typed x e m .0) ∙ made-typed x e m .1)
 
-    tuning-one : (hz : ℕ) → OneNot (runOver (Frequency hz) table rs os d b room)
-    unfolding overTuning
-    tuning-one hz =
-        let v = overTuning (order.courseOf (order.Order.Tune hz rs)) os b room b in
-        let run = by-tuning table rs os d b room driver-bytes good whole hz (Frequency hz) refl b refl (v .answer) (v .room) (v .next) refl in
-        subst OneNot run (refused-one b es c (lent (Own (order.Order.Tune hz rs)) os room b) replies)
-
-    rate-one : (rate : ℕ) → OneNot (runOver (Rate rate) table rs os d b room)
-    rate-one rate =
-        let v = rateOver os rate table d b room d b in
-        let run = by-rate table rs os d b room driver-bytes good whole rate (Rate rate) refl d b refl refl (v .answer) (v .room) (v .driver) (v .tuner) refl (tunedOf (v .answer) noTries) refl in
-        subst OneNot run (refused-one b es c (lent (RateOf rate table d d) os room b) refl ∙ rw ok)
-
-    correction-one : (ppm : ℤ) → OneNot (runOver (Correction ppm) table rs os d b room)
-    correction-one ppm =
-        let v = correctOver ppm b d in
-        let run = by-correction table rs os d b room driver-bytes good whole ppm (Correction ppm) refl (v .answer) (v .tuner) (v .driver) refl (tunedOf (v .answer) noTries) refl in
-        subst OneNot run (refused-one b es c (lent (Correct ppm d) os room b) refl ∙ rw ok)
-
-    run-one : (x : Command) → OneNot (runOver x table rs os d b room)
-    run-one Unknown = subst OneNot (sym (run-unknown table rs os d b room)) refl
-    run-one (Frequency hz) = tuning-one hz
-    run-one (Rate rate) = rate-one rate
-    run-one (GainDb db) = own-one (GainDb db) (order.Order.Gain db) refl refl (gain-taken db (tunerOf b .tuner)) refl refl refl refl
-    run-one (GainIndex k) = own-one (GainIndex k) (order.Order.GainIndex k) refl refl (index-taken k (tunerOf b .tuner)) refl refl refl refl
-    run-one (Bandwidth hz) = own-one (Bandwidth hz) (order.Order.Bandwidth hz) refl refl (bandwidth-taken hz (tunerOf b .tuner)) refl refl refl refl
-    run-one (Correction ppm) = correction-one ppm
-    run-one Reload = own-one Reload order.Order.Reload refl refl (reload-taken (tunerOf b .tuner)) refl refl refl refl
+    run-one : (x : Command) → eqb (runOver x table rs os d b room .answer .refusal) 1 ≡ false
+    run-one x = go (makes-or-none table rs d x)
+      where
+        go : (isUnknown x ≡ true) ⊎ ((e : Exported) × Makes table rs d x e) → eqb (runOver x table rs os d b room .answer .refusal) 1 ≡ false
+        go (inl none) = ap (λ (h : Hops). eqb (h .answer .refusal) 1) (run-unknown x table rs os d b room none)
+        go (inr made) = made-one x (made .0) (made .1)
 
     -- a feeding is refused 1 for bytes that are no stream's or no driver's alone
     pub fed-one : (chunk stream : List ℕ) → isStream stream ≡ true → eqb (feedOver table chunk rs os stream d b room .answer .refusal) 1 ≡ false
@@ -240,30 +258,15 @@ module _ (b : List ℕ) (es : List Entry) (c : Carried b es) (table rs os d room
         go true = run-one (commandOf bytes)
         go false = refl
 
-  -- bytes that are no driver's: nothing is run
-  not-run : (x : Command) → isUnknown x ≡ false → driverOf d .ok ≡ false → Goes es (runOver x table rs os d b room)
-  not-run x known e = subst (Goes es) (sym (run-none x table rs os d b room known e)) stays
-
-  -- a command on the tuner's bytes: what it leaves is the sequence's next bytes, and what is read of its room the next entries
-  pub run-goes : (x : Command) → Goes es (runOver x table rs os d b room)
-  run-goes x = go (driverOf d .ok) refl x
+  -- a command on the tuner's bytes: what it leaves is the sequence's next bytes, and what is read of its room the next entries. Unknown, or beside bytes that are no
+  -- driver's, it is not run
+  pub run-goes : (x : Command) → Goes es (leftOver (runOver x table rs os d b room))
+  run-goes x = go (makes-or-none table rs d x) (driverOf d .ok) refl
     where
-      go : (z : Bool) → driverOf d .ok ≡ z → (x : Command) → Goes es (runOver x table rs os d b room)
-      go z e Unknown = subst (Goes es) (sym (run-unknown table rs os d b room)) stays
-      go true e (Frequency hz) = tuning-goes e hz
-      go true e (Rate rate) = rate-goes e rate
-      go true e (GainDb db) = own-goes e (GainDb db) (order.Order.Gain db) refl refl (gain-taken db (tunerOf b .tuner)) refl refl refl
-      go true e (GainIndex k) = own-goes e (GainIndex k) (order.Order.GainIndex k) refl refl (index-taken k (tunerOf b .tuner)) refl refl refl
-      go true e (Bandwidth hz) = own-goes e (Bandwidth hz) (order.Order.Bandwidth hz) refl refl (bandwidth-taken hz (tunerOf b .tuner)) refl refl refl
-      go true e (Correction ppm) = correction-goes e ppm
-      go true e Reload = own-goes e Reload order.Order.Reload refl refl (reload-taken (tunerOf b .tuner)) refl refl refl
-      go false e (Frequency hz) = not-run (Frequency hz) refl e
-      go false e (Rate rate) = not-run (Rate rate) refl e
-      go false e (GainDb db) = not-run (GainDb db) refl e
-      go false e (GainIndex k) = not-run (GainIndex k) refl e
-      go false e (Bandwidth hz) = not-run (Bandwidth hz) refl e
-      go false e (Correction ppm) = not-run (Correction ppm) refl e
-      go false e Reload = not-run Reload refl e
+      go : (isUnknown x ≡ true) ⊎ ((e : Exported) × Makes table rs d x e) → (z : Bool) → driverOf d .ok ≡ z → Goes es (leftOver (runOver x table rs os d b room))
+      go (inl none) z e = subst (λ (h : Hops). Goes es (leftOver h)) (sym (run-unknown x table rs os d b room none)) stays
+      go (inr made) true e = made-goes e x (made .0) (made .1)
+      go (inr made) false e = subst (λ (h : Hops). Goes es (leftOver h)) (sym (run-none x table rs os d b room (made-known table rs d x (made .0) (made .1)) e)) stays
 
   -- any chunk, on any bytes of a stream: one more call, or none
   pub fed-carried : (chunk stream : List ℕ) → Carried (feedOver table chunk rs os stream d b room .tuner) (es ++ fedEntries (feedOver table chunk rs os stream d b room))
@@ -286,3 +289,105 @@ module _ (b : List ℕ) (es : List Entry) (c : Carried b es) (table rs os d room
       go true true = run-goes (commandOf bytes)
       go true false = stays
       go false y = stays
+
+-- ---- what is said of an exported call holds of the command that makes it
+
+module _ (b : List ℕ) (es : List Entry) (c : Carried b es) (table rs os d room : List ℕ) (replies : every isByte rs ≡ true) (driver-bytes : Bytes d) (chunk stream : List ℕ) where
+  abbrev nine : List ℕ
+  nine = gathered (pendingOf stream) chunk
+
+  -- with any outcomes: what it leaves is what the command leaves
+  fed-is : Completes stream chunk → (os : List ℕ) → feedOver table chunk rs os stream d b room ≡ completedBy (usedBy (pendingOf stream) chunk) (runOver (commandOf nine) table rs os d b room)
+  unfolding feedOver
+  fed-is w os = rw (w .valid, w .whole)
+
+  fed-call : Completes stream chunk → driverOf d .ok ≡ true → (e : Exported) → Makes table rs d (commandOf nine) e → (os : List ℕ)
+      → onward (plainFed (feedOver table chunk rs os stream d b room .answer)) (feedOver table chunk rs os stream d b room .room) (feedOver table chunk rs os stream d b room .tuner)
+      ≡ leaves (lent e os room b) b
+  fed-call w ok e m os =
+      ap (λ (f : Feeds). onward (plainFed (f .answer)) (f .room) (f .tuner)) (fed-is w os)
+      ∙ sym (run-is-call b es c table rs os d room replies driver-bytes ok (commandOf nine) e m)
+
+  -- one that is refused 11 made a call
+  record Cuts : Type 0 where
+    pub completes : Completes stream chunk
+    pub driver : driverOf d .ok ≡ true
+    pub exported : Exported
+    pub makes : Makes table rs d (commandOf nine) exported
+
+  eleven-makes : feedOver table chunk rs os stream d b room .answer .refusal ≡ 11 → Cuts
+  unfolding feedOver
+  eleven-makes = go (isStream stream) refl (eqb (length nine) 9) refl
+    where
+      ran : (w : Completes stream chunk) → runOver (commandOf nine) table rs os d b room .answer .refusal ≡ 11 → Cuts
+      ran w h = by (makes-or-none table rs d (commandOf nine)) (driverOf d .ok) refl
+        where
+          by : (isUnknown (commandOf nine) ≡ true) ⊎ ((e : Exported) × Makes table rs d (commandOf nine) e) → (z : Bool) → driverOf d .ok ≡ z → Cuts
+          by (inl none) z e =
+              let fourteen : _≡_ {A = ℕ} 14 11 = sym (ap (λ (x : Hops). x .answer .refusal) (run-unknown (commandOf nine) table rs os d b room none)) ∙ h in
+              absurd (omega arith)
+          by (inr made) true e = record { completes = w; driver = e; exported = made .0; makes = made .1 }
+          by (inr made) false e =
+              let one : _≡_ {A = ℕ} 1 11 =
+              sym (ap (λ (x : Hops). x .answer .refusal) (run-none (commandOf nine) table rs os d b room (made-known table rs d (commandOf nine) (made .0) (made .1)) e)) ∙ h in
+              absurd (omega arith)
+
+      go : (z : Bool) → isStream stream ≡ z → (y : Bool) → eqb (length nine) 9 ≡ y
+          → cond z
+          (cond y (completedBy (usedBy (pendingOf stream) chunk) (runOver (commandOf nine) table rs os d b room)) (waitingBy (usedBy (pendingOf stream) chunk) nine d b room))
+          (feeds (fedOf (noCommand (Refused 1)) 0 0 0) stream d b room) .answer .refusal
+          ≡ 11
+          → Cuts
+      go true s true n h = ran (record { valid = s; whole = n }) h
+      go true s false n h = absurd (omega arith)
+      go false s y n h = absurd (omega arith)
+
+  module _ (h : feedOver table chunk rs os stream d b room .answer .refusal ≡ 11) where
+    abbrev cuts : Cuts
+    cuts = eleven-makes h
+
+    abbrev own : Lent
+    own = lent (cuts .exported) os room b
+
+    own-typed : typed (cuts .exported) ≡ true
+    own-typed = made-typed b es c table rs os d room replies driver-bytes (cuts .driver) (commandOf nine) (cuts .exported) (cuts .makes) .0
+
+    own-left : (os : List ℕ) → onward (plainFed (feedOver table chunk rs os stream d b room .answer)) (feedOver table chunk rs os stream d b room .room) (feedOver table chunk rs os stream d b room .tuner)
+        ≡ leaves (lent (cuts .exported) os room b) b
+    own-left os = fed-call (cuts .completes) (cuts .driver) (cuts .exported) (cuts .makes) os
+
+    own-eleven : leaves own b .reply .refusal ≡ 11
+    own-eleven = sym (ap (λ (l : Left). l .reply .refusal) (own-left os)) ∙ h
+
+    own-index : leaves own b .reply .index ≡ feedOver table chunk rs os stream d b room .answer .index
+    own-index = sym (ap (λ (l : Left). l .reply .index) (own-left os))
+
+    own-read : (os : List ℕ) → entriesOf (lent (cuts .exported) os room b) b ≡ fedEntries (feedOver table chunk rs os stream d b room)
+    own-read os = sym (ap (λ (l : Left). readBy (l .reply) (l .room)) (own-left os))
+
+    -- (e) "11 also gives the failing entry's index", of a fed command
+    pub fed-index : progressIn (fedEntries (feedOver table chunk rs os stream d b room)) ≡ Refused11 (feedOver table chunk rs os stream d b room .answer .index)
+    fed-index = ap progressIn (sym (own-read os)) ∙ index-told b es c own own-typed own-eleven ∙ ap Refused11 own-index
+
+    -- (c) "A cut call made the steps of the uncut one up to the failing step, then at most the repeater's closing": the same bytes fed with the failing step done
+    pub fed-cut : Cut (feedOver table chunk rs os stream d b room .answer .index) (fedEntries (feedOver table chunk rs os stream d b room))
+        (fedEntries (feedOver table chunk rs (set os (feedOver table chunk rs os stream d b room .answer .index) 0) stream d b room))
+    fed-cut =
+        let i : ℕ = feedOver table chunk rs os stream d b room .answer .index in
+        subst (λ (l : List Entry). Cut i (fedEntries (feedOver table chunk rs os stream d b room)) l) (own-read (set os i 0))
+        (subst (λ (l : List Entry). Cut i l (entriesOf (uncut i own) b)) (own-read os)
+        (subst (λ (j : ℕ). Cut j (entriesOf own b) (entriesOf (uncut j own) b)) own-index (cut-uncut b es c own own-typed own-eleven)))
+
+  -- (d) "A reload answered done leaves all 27 registers and the shadow at the last attempted bytes", of command 7
+  pub fed-reload : Completes stream chunk → driverOf d .ok ≡ true → commandOf nine ≡ Reload → feedOver table chunk rs os stream d b room .answer .refusal ≡ 0
+      → (before now : Regs) → Played (getD b 1 0) (es ++ fedEntries (feedOver table chunk rs os stream d b room)) before now → (i : ℕ) → i < 27
+      → (now (5 + i) ≡ byteIn (getD initArray i 0) (lastIn (getD b 1 0) es (5 + i)))
+      × (getD (feedOver table chunk rs os stream d b room .tuner) (2 + i) 0 ≡ byteIn (getD initArray i 0) (lastIn (getD b 1 0) es (5 + i)))
+      × (getD (feedOver table chunk rs os stream d b room .tuner) (51 + i) 1 ≡ 0)
+  fed-reload w ok x h before now played i l =
+      let m : Makes table rs d (commandOf nine) (Own order.Order.Reload) = subst (λ (y : Command). Makes table rs d y (Own order.Order.Reload)) (sym x) reloads in
+      let is = fed-call w ok (Own order.Order.Reload) m os in
+      let same : fedEntries (feedOver table chunk rs os stream d b room) ≡ entriesOf (lent (Own order.Order.Reload) os room b) b = ap (λ (z : Left). readBy (z .reply) (z .room)) is in
+      let r = reload-done b es c os room b (sym (ap (λ (z : Left). z .reply .refusal) is) ∙ h) before now
+      (subst (λ (fs : List Entry). Played (getD b 1 0) (es ++ fs) before now) same played) i l in
+      (r .0, ap (λ (z : Left). getD (z .bytes) (2 + i) 0) is ∙ r .1, ap (λ (z : Left). getD (z .bytes) (51 + i) 1) is ∙ r .2)

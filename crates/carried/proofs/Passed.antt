@@ -51,7 +51,7 @@ use Rattle.sequences.proofs.Views.{row-few, result-row}
 use Rattle.carried.specs.Exported.{Exported, Left, amiss, byAfter, byCorrects, byGiven, byRates, left, leftOf, orderOf, pathless, stands, typed, typedOrder}
 use Rattle.carried.specs.Exported.Exported.{Own, Rate, Correct, Path, Hop}
 use Rattle.carried.proofs.Ranges.{order-ranged}
-use Rattle.carried.proofs.Steady.{Fielded, Settled, argument-told, elevens, fielded, number-told, ones, plain, settled, typed-given}
+use Rattle.carried.proofs.Steady.{Fielded, Settled, argument-told, elevens, fielded, fives, number-told, ones, plain, settled, typed-given}
 
 and-true : (b : Bool) → (b && true) ≡ b
 and-true true = refl
@@ -129,10 +129,11 @@ driver-sound b h =
 
 -- ---- one call
 
--- what a refusal number tells: 1 where something is amiss, 11 where a step failed
+-- what a refusal number tells: 1 where something is amiss, 11 where a step failed, and never 5, which went with the mask leaf (#106)
 pub record Told (number : ℕ) (one eleven : Bool) : Type 0 where
   pub setup : eqb number 1 ≡ one
   pub step : eqb number 11 ≡ eleven
+  pub never : eqb number 5 ≡ false
 
 -- how a call k on a record's bytes ended: turned away by a number before any step, or made where the number is 0. `one` is whether it is refused 1
 pub data Passed (t : Tuner) (k : Call) (number : ℕ) (one : Bool) (l : Left) : Type 0 where
@@ -204,19 +205,20 @@ module _ (t : Tuner) (es : List Entry) (s : Sequence t es) (r : Ranged t) where
 
     -- by an argument's number, by 8, and by what the call itself answers
     argument-says : Told argument (pathless o) false
-    argument-says = record { setup = argument-told (λ n. eqb n 1) ones o t ∙ and-true (pathless o); step = argument-told (λ n. eqb n 11) elevens o t ∙ and-false (pathless o) }
+    argument-says = record { setup = argument-told (λ n. eqb n 1) ones o t ∙ and-true (pathless o); step = argument-told (λ n. eqb n 11) elevens o t ∙ and-false (pathless o); never = argument-told (λ n. eqb n 5) fives o t ∙ and-false (pathless o) }
 
     unrefused : eqb argument 0 ≡ true → pathless o ≡ false
     unrefused e = sym (argument-says .setup) ∙ ap (λ (n : ℕ). eqb n 1) (eqb-true argument 0 e)
 
     short-says : eqb argument 0 ≡ true → Told 8 (pathless o) false
-    short-says e = record { setup = sym (unrefused e); step = refl }
+    short-says e = record { setup = sym (unrefused e); step = refl; never = refl }
 
     call-says : soundFor o t ≡ true → eqb argument 0 ≡ true → Told (numberOf (resultOf o os room t .answer)) (pathless o) (stops (resultOf o os room t .answer))
     call-says good e =
         record {
           setup = number-told (λ n. eqb n 1) ones o os room t fields h good e ∙ and-false (stops (resultOf o os room t .answer)) ∙ sym (unrefused e);
           step = number-told (λ n. eqb n 11) elevens o os room t fields h good e ∙ and-true (stops (resultOf o os room t .answer));
+          never = number-told (λ n. eqb n 5) fives o os room t fields h good e ∙ and-false (stops (resultOf o os room t .answer));
         }
 
     by-ready : soundFor o t ≡ true → (a : Bool) → eqb argument 0 ≡ a → (z : Bool) → ltb (length out) 78 ≡ z
@@ -257,7 +259,7 @@ module _ (t : Tuner) (es : List Entry) (s : Sequence t es) (r : Ranged t) where
         → Passed t (call o os room) (bothReady (k && true) number (length left) (length out)) (not k || pathless o)
         (byRates (unlessRefused (bothReady (k && true) number (length left) (length out)) (λ n. ratesRefused n room left out) (ratesMade (res t d) left out)) (tunerBytes t))
     unfolding unlessRefused bothReady
-    by-both false q a e y w z v = away-rates 1 true refl (record { setup = refl; step = refl })
+    by-both false q a e y w z v = away-rates 1 true refl (record { setup = refl; step = refl; never = refl })
     by-both true q true e true w z v = rw (e, w) (away-rates 8 (pathless o) refl (short-says o os room out h e))
     by-both true q true e false w true v = rw (e, w, v) (away-rates 8 (pathless o) refl (short-says o os room out h e))
     by-both true q true e false w false v =
@@ -280,7 +282,7 @@ module _ (t : Tuner) (es : List Entry) (s : Sequence t es) (r : Ranged t) where
   -- a value is no refusal
   value-says : (k : Call) (next : Tuner) (room : List ℕ) (value : ℕ) → result k t ≡ called next room 0 (Done value)
       → Told (numberOf (result k t .answer)) false (stops (result k t .answer))
-  value-says k next room value is = rw is (record { setup = refl; step = refl })
+  value-says k next room value is = rw is (record { setup = refl; step = refl; never = refl })
 
   -- a call at rest that is done, and the bytes of the record that it leaves
   rest-row : (o : tuner.Order) (os room : List ℕ) (next : Tuner) (value : ℕ) → tuner.courseOf o t ≡ Still next (Done value)
@@ -304,7 +306,7 @@ module _ (t : Tuner) (es : List Entry) (s : Sequence t es) (r : Ranged t) where
       go : (b : Bool)
           → Passed t (call (Tuned TableTold) os room) (cond b 8 0) false
           (left (replyOf (cond b (given (Refused 8) out) (given (Done 0) (sets out 0 (wordBytes (map pos steps)))) .answer) 0) room (tunerBytes t))
-      go true = away refl (record { setup = refl; step = refl }) refl refl
+      go true = away refl (record { setup = refl; step = refl; never = refl }) refl refl
       go false = rest-row TableTold os room t 0 refl
 
   notch-row : (on : Bool) (os room : List ℕ) → Passed t (call (Tuned (Notch on)) os room) 0 false (byGiven (changedInto (Notch on) (tunerBytes t) (tunerBytes t)) room)
@@ -331,8 +333,8 @@ module _ (t : Tuner) (es : List Entry) (s : Sequence t es) (r : Ranged t) where
       → Told (numberOf (leftBy true (tunerPart (cond b (Still u (Done 0)) (Still v (Refused 4)))) os (t .chip) t room .answer)) false
       (stops (leftBy true (tunerPart (cond b (Still u (Done 0)) (Still v (Refused 4)))) os (t .chip) t room .answer))
   unfolding leftBy
-  still-says true u v os room = record { setup = refl; step = refl }
-  still-says false u v os room = record { setup = refl; step = refl }
+  still-says true u v os room = record { setup = refl; step = refl; never = refl }
+  still-says false u v os room = record { setup = refl; step = refl; never = refl }
 
   correct-row : (ppm : ℤ) (driver os room out : List ℕ)
       → Passed t (call (Correction ppm (driverOf driver .driver)) os room) (turned (Correct ppm driver) out t) (amiss (Correct ppm driver)) (byCorrects (correctOver ppm (tunerBytes t) driver) room)
@@ -363,7 +365,7 @@ module _ (t : Tuner) (es : List Entry) (s : Sequence t es) (r : Ranged t) where
       go : (b : Bool) → driverOf driver .ok ≡ b
           → Passed t k (cond b 0 1) (not b || false)
           (byCorrects (cond b (correctsMade (correctionCall ppm t d) (tunerBytes t) driver) (corrects (replyOf (Refused 1) 0) (tunerBytes t) driver)) room)
-      go false e = away refl (record { setup = refl; step = refl }) refl refl
+      go false e = away refl (record { setup = refl; step = refl; never = refl }) refl refl
       go true e =
           let good : (sound t && soundDriver d) ≡ true = rw (given-sound, driver-sound driver e) in
           let is : result k t ≡ leftBy true (rowOf (Correction ppm d) t) os (t .chip) t room =

@@ -108,6 +108,9 @@ ones = record { none = refl; frequency = refl; rate = refl; correction = refl; r
 pub elevens : Bare (λ n. eqb n 11)
 elevens = record { none = refl; frequency = refl; rate = refl; correction = refl; room = refl; outcomes = refl; replies = refl; ratio = refl; table = refl }
 
+pub fives : Bare (λ n. eqb n 5)
+fives = record { none = refl; frequency = refl; rate = refl; correction = refl; room = refl; outcomes = refl; replies = refl; ratio = refl; table = refl }
+
 -- a program whose first step is taken
 abbrev pub starts : List Step → Bool
 starts [] = false

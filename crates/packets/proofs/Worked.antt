@@ -3,12 +3,13 @@
 -- Assumes nothing.
 use Prim.Native.Nat.{ℕ}
 use mathlib.Core.Path.{_≡_, refl}
+use mathlib.Core.Bool.{true, false}
 use mathlib.Core.List.{List, [], _∷_}
 use lib.Seq.{sets}
 use Rattle.wire.specs.Bytes.{leBytes}
 use Rattle.transcript.specs.declared.Entry.{Entry}
 use Rattle.transcript.specs.Entries.{zeros8}
-use Rattle.packets.specs.Packets.{became, wIndexOf, packets, packetsOf, setup, wValueOf}
+use Rattle.packets.specs.Packets.{became, expands, wIndexOf, packets, packetsOf, setup, wValueOf}
 
 abbrev made : ℕ → ℕ → ℕ → ℕ → ℕ → List ℕ → Entry
 made kind outcome target n address bytes =
@@ -23,6 +24,12 @@ page-write = refl
 pub failed-write : packetsOf (made 4 1 1 1 0x15 (0x05 ∷ [])) ≡ 0x40 ∷ 0x00 ∷ 0x20 ∷ 0x15 ∷ 0x11 ∷ 0x00 ∷ 0x01 ∷ 0x00 ∷ 0x05 ∷ []
 unfolding packetsOf packets became setup wValueOf wIndexOf leBytes
 failed-write = refl
+
+-- kind 5, 16 bits high byte first: 0x0123 to page 1, registers 0x9f and 0xa0
+pub page-write-16 : packetsOf (made 5 0 1 2 0x9f (0x01 ∷ 0x23 ∷ []))
+    ≡ 0x40 ∷ 0x00 ∷ 0x20 ∷ 0x9f ∷ 0x11 ∷ 0x00 ∷ 0x02 ∷ 0x00 ∷ 0x01 ∷ 0x23 ∷ 0xc0 ∷ 0x00 ∷ 0x20 ∷ 0x01 ∷ 0x0a ∷ 0x00 ∷ 0x01 ∷ 0x00 ∷ []
+unfolding packetsOf packets became setup wValueOf wIndexOf leBytes
+page-write-16 = refl
 
 -- the repeater opens and closes; a wait
 pub opens : packetsOf (made 1 0 0 1 0 (1 ∷ []))
@@ -47,6 +54,10 @@ pub i2c-read : packetsOf (made 3 0 0x74 3 0 (1 ∷ 2 ∷ 3 ∷ [])) ≡ 0xc0 ∷
 unfolding packetsOf packets became setup wValueOf wIndexOf leBytes
 i2c-read = refl
 
+pub block-write-8 : packetsOf (made 6 0 2 1 0x3000 (0xe8 ∷ [])) ≡ 0x40 ∷ 0x00 ∷ 0x00 ∷ 0x30 ∷ 0x10 ∷ 0x02 ∷ 0x01 ∷ 0x00 ∷ 0xe8 ∷ []
+unfolding packetsOf packets became setup wValueOf wIndexOf leBytes
+block-write-8 = refl
+
 pub block-write : packetsOf (made 7 0 1 2 0x2158 (0x02 ∷ 0x00 ∷ [])) ≡ 0x40 ∷ 0x00 ∷ 0x58 ∷ 0x21 ∷ 0x10 ∷ 0x01 ∷ 0x02 ∷ 0x00 ∷ 0x02 ∷ 0x00 ∷ []
 unfolding packetsOf packets became setup wValueOf wIndexOf leBytes
 block-write = refl
@@ -54,3 +65,24 @@ block-write = refl
 pub block-read : packetsOf (made 8 0 2 1 0x3001 (0x20 ∷ [])) ≡ 0xc0 ∷ 0x00 ∷ 0x01 ∷ 0x30 ∷ 0x00 ∷ 0x02 ∷ 0x01 ∷ 0x00 ∷ []
 unfolding packetsOf packets became setup wValueOf wIndexOf leBytes
 block-read = refl
+
+-- "new 15 expansion (demod register above 0xff, page above 15, or block 0 or 6 ..)", each at its border
+pub page-fifteen : expands (made 4 0 15 1 0xff (0x05 ∷ [])) ≡ true
+unfolding expands
+page-fifteen = refl
+
+pub page-sixteen : expands (made 4 0 16 1 0xff (0x05 ∷ [])) ≡ false
+unfolding expands
+page-sixteen = refl
+
+pub register-256 : expands (made 5 0 1 2 0x100 (0x01 ∷ 0x23 ∷ [])) ≡ false
+unfolding expands
+register-256 = refl
+
+pub block-zero : expands (made 6 0 0 1 0x3000 (0xe8 ∷ [])) ≡ false
+unfolding expands
+block-zero = refl
+
+pub block-six : expands (made 8 0 6 1 0x3000 []) ≡ false
+unfolding expands
+block-six = refl

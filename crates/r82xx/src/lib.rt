@@ -434,7 +434,7 @@ impl Tuner {
     }
 
     pub fn set_frequency(
-        self,
+        mut self,
         hz: u64,
         outcomes: &[u8],
         replies: &[u8],

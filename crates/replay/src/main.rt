@@ -2,13 +2,14 @@
 // Document 01: "differential runs use that, beside a Rust harness recording calls."
 // To add a call: one function in its group's file, which reads the arguments and the given parts off the case (layout), calls the port, and ends in
 // `compare::agrees` (memory is lent: arrays of 0xa5, of the case's lengths) or `compare::valued` (answers by value); and one arm of `judge`.
-// What has no arm is not there yet. Same is proved to mean that all that came back agrees with the case: specs/Agreement, Agrees and Valued.
+// What has no arm is not there yet. Beside that each case's section is parted from itself and from an empty one (parted). Same is proved to mean that all that came back agrees with the case: specs/Agreement, Agrees and Valued.
 mod compare;
 mod drivers;
 mod filter;
 mod handed;
 mod layout;
 mod leaves;
+mod parted;
 mod report;
 mod steps;
 mod tuners;
@@ -69,7 +70,7 @@ fn step(list: u64, i: u64, tally: &mut [u64; 192]) -> bool {
         return false;
     }
     let call = layout::one(c, layout::CALL);
-    let v = judge(c);
+    let v = parted::also(c, judge(c));
     report::count(list, i, call, v, tally);
     true
 }

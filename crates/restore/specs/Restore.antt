@@ -1,7 +1,7 @@
 -- Restore lists. Document 02, #110: "a list of I2C writes that names each register not doubtful at the end once, with its byte, in ascending runs of
 -- at most seven registers, and names no doubtful one".
 -- Assumes nothing.
-use Prim.Native.Nat.{ℕ, zero, suc, _+_, _≤_}
+use Prim.Native.Nat.{ℕ, zero, suc, _+_, _≤_, _<_}
 use mathlib.Core.Path.{_≡_}
 use mathlib.Core.Bool.{Bool, true, false, cond, not, _&&_}
 use mathlib.Core.List.{List, [], _∷_, map}
@@ -90,6 +90,11 @@ runsWith r (w ∷ ws) = cond (inRun r w) (w ∷ runsWith r ws) (runsWith r ws)
 abbrev pub Short : List Run → Type 0
 Short [] = Unit {0}
 Short (w ∷ ws) = (w .size ≤ 7) × Short ws
+
+-- "in ascending runs of at most seven registers": each begins where the one before it has ended, or later
+abbrev pub Ascending : ℕ → List Run → Type 0
+Ascending i [] = Unit {0}
+Ascending i (w ∷ ws) = (i ≤ w .first) × (0 < w .size) × (w .size ≤ 7) × Ascending (w .first + w .size) ws
 
 pub record Exactly (sure : ℕ → Bool) (ws : List Run) : Type 0 where
   pub short : Short ws

@@ -33,7 +33,7 @@ use Rattle.sequences.specs.Sequences.{Sequence}
 use Rattle.sequences.specs.Sequences.Sequence.{next, between}
 use Rattle.sequences.proofs.Most.{most-aside, most-entries}
 use Rattle.sequences.proofs.Views.{row-few}
-use Rattle.rounds.specs.Driven.{Knows, Rounds, Continued, ended}
+use Rattle.rounds.specs.Driven.{Kept, Knows, Rounds, Continued, Touched, ended}
 use Rattle.rounds.specs.Driven.Rounds.{begun, round}
 use Rattle.rounds.specs.Scripts.{Agree, Ask, By, Fills, InOrder, Same, Script, made, orderWith, otherWith, stepAt, takes, took}
 use Rattle.rounds.specs.Scripts.Ask.{On, Beside}
@@ -298,16 +298,6 @@ module _ (t : Tuner) (es : List Entry) (q : Sequence t es) (os rs : List ℕ) (d
       (between t es q (aside (otherWith (s .replies) o) (s .outcomes) (s .room)) g)
 
 -- ---- a host that died while it drove a receiver
-
--- what it had kept: a script with what was known, and failed for all the rest
-pub record Kept (a : Ask) (os rs : List ℕ) (s : Script) : Type 0 where
-  pub known : Knows a os rs s
-  pub vain : (j : ℕ) → length os ≤ j → j < 64 → eqb (getD (s .outcomes) j 0) 0 ≡ false
-
--- the step that it was at was tried or not, and landed in any part: what the step does not name is as it was
-abbrev pub Touched : ℕ → List Entry → Regs → Regs → Type 0
-Touched address [] mid now = (r : ℕ) → now r ≡ mid r
-Touched address (e ∷ es) mid now = (r : ℕ) → names address e r ≡ false → now r ≡ mid r
 
 module _ (address : ℕ) where
   bare-write : (x : Entry) (r : ℕ) → isRead (x .kind) ≡ false → names address (bare x) r ≡ names address x r

@@ -1,16 +1,17 @@
 -- A receiver driven in rounds. include/pasetone.h: "call with what is known so far (done and 0 for the rest), take the first step that was not taken yet, put its
 -- outcome and what it read into the script, call again with the same record."
 -- Assumes nothing.
-use Prim.Native.Nat.{ℕ}
+use Prim.Native.Nat.{ℕ, _≤_, _<_}
 use mathlib.Core.Path.{_≡_}
-use mathlib.Core.Bool.{_&&_, _||_, cond, true}
+use mathlib.Core.Bool.{_&&_, _||_, cond, true, false}
 use mathlib.Core.List.{List, [], _∷_, _++_}
 use lib.Dec.{eqb}
-use lib.ListN.{length, take}
+use lib.ListN.{getD, length, take}
 use lib.Seq.{sets}
 use Rattle.transcript.specs.declared.Entry.{Entry}
 use Rattle.transcript.specs.Entries.{zeros8}
 use Rattle.transcript.specs.Table.{isRead}
+use Rattle.attempts.specs.Attempts.{Regs, names}
 use Rattle.chip.specs.Entries.{flagOf}
 use Rattle.chip.specs.Steps.{every}
 use Rattle.sequences.specs.Calls.{isByte}
@@ -35,7 +36,8 @@ ended e o bs =
       bytes = cond (isRead (e .kind)) (sets zeros8 0 bs) (e .bytes);
     }
 
--- rounds of a call: the outcomes and the replies known after them, and what was done on the receiver, in order. The receiver is any: nothing is said of the outcome o and of the bytes bs but that a read that is done gives n of them, and any other step none
+-- rounds of a call: the outcomes and the replies known after them, and what was done on the receiver, in order. The receiver is any: nothing is said of the
+-- outcome o and of the bytes bs but that a read that is done gives n of them, and any other step none
 pub data Rounds (a : Ask) : List ℕ → List ℕ → List Entry → Type 0 where
   begun : Rounds a [] [] []
   round : (os rs : List ℕ) (es : List Entry) → Rounds a os rs es → (s : Script) → Knows a os rs s
@@ -47,3 +49,15 @@ pub data Rounds (a : Ask) : List ℕ → List ℕ → List Entry → Type 0 wher
 pub record Continued (a : Ask) (os rs : List ℕ) (es : List Entry) (s : Script) : Type 0 where
   pub entries : take (length os) (made a s) ≡ es
   pub replies : took es ≡ length rs
+
+-- ---- a host that dies while it drives a receiver
+
+-- what it had kept: a script with what was known, and failed for all the rest
+pub record Kept (a : Ask) (os rs : List ℕ) (s : Script) : Type 0 where
+  pub known : Knows a os rs s
+  pub vain : (j : ℕ) → length os ≤ j → j < 64 → eqb (getD (s .outcomes) j 0) 0 ≡ false
+
+-- the step that it was at was tried or not, and landed in any part: what the step does not name is as it was
+abbrev pub Touched : ℕ → List Entry → Regs → Regs → Type 0
+Touched address [] mid now = (r : ℕ) → now r ≡ mid r
+Touched address (e ∷ es) mid now = (r : ℕ) → names address e r ≡ false → now r ≡ mid r

@@ -15,5 +15,7 @@ pub mod Station
 pub mod Since
 pub mod Worked
 pub mod Tried
+pub mod Ten
+pub mod Anew
 pub mod Tunings
 pub mod Listed

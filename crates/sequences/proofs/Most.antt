@@ -2,7 +2,7 @@
 -- Assumes nothing.
 use Prim.Native.Nat.{ℕ, _+_, _*_, _≤_}
 use mathlib.Core.Path.{_≡_, refl, sym, ap, subst, _∙_}
-use mathlib.Core.Bool.{Bool, true}
+use mathlib.Core.Bool.{Bool, true, _&&_}
 use mathlib.Core.List.{List, [], _∷_, _++_}
 use native.Mathlib.Omega.{arith}
 use borrow.Author.Tests.{eq-eqb}
@@ -12,12 +12,18 @@ use lib.ListN.{length, replicate}
 use Rattle.board.specs.declared.PathRead.{PathRead}
 use Rattle.board.specs.declared.PathRead.the-variants as path-read
 use Rattle.board.specs.declared.Board.the-variants.{Generic}
+use Rattle.board.specs.declared.Path.the-variants.{Hf, Vhf, Uhf}
+use Rattle.board.specs.declared.Plan as board
+use Rattle.board.specs.declared.Route.{Route}
+use Rattle.board.specs.declared.Route.the-variants.{By, Direct}
+use Rattle.bands.specs.declared.Planned.{Planned}
+use Rattle.boards.specs.Hops.{hopKept, hopRefusal, hopResult, hopSteps}
 use Rattle.board.specs.Numbers.{pathOf}
 use Rattle.chip.specs.declared.Answer.{Answer}
 use Rattle.chip.specs.declared.Answer.the-variants.{Refused}
 use Rattle.chip.specs.declared.Chip.{Chip}
 use Rattle.chip.specs.declared.Progress.the-variants.{Going}
-use Rattle.chip.specs.Calls.{Called, answerOf, callEntries, callOf, tooShort, performed}
+use Rattle.chip.specs.Calls.{Called, answerOf, callEntries, callOf, tooShort, performed, refusalWith}
 use Rattle.chip.specs.Steps.{Step, Trace, run, step, trace}
 use Rattle.pll.specs.declared.Kind.{Kind}
 use Rattle.pll.specs.declared.Kind.the-variants.{R820T, R828D}
@@ -36,7 +42,9 @@ use Rattle.r82xx.specs.Record.{freshTuner, sound}
 use Rattle.r82xx.specs.Calls.{hzRefusal, planFor, refusalOf}
 use Rattle.r82xx.specs.Orders.{bracket, gainRow, lockKept, pathRow, resultOf, tuneOf}
 use Rattle.r82xx.specs.Orders.Order.{Initialize, Reload, Bandwidth, IfFreq, Gain, GainIndex, InputPath, Tune}
-use Rattle.driver.specs.Record.{driver, xtalBy}
+use Rattle.driver.specs.declared.Driver.{Driver}
+use Rattle.driver.specs.Calls.{Both, both}
+use Rattle.driver.specs.Record.{driver, soundDriver, xtalBy}
 use Rattle.chip.specs.Courses.{Course, askedBy, leftBy, stepsOf}
 use Rattle.chip.specs.Courses.Course.{Still, Taken}
 use Rattle.sequences.specs.Calls.{Call, Order, asked, call, entries, most, rowOf, soundFor}
@@ -191,3 +199,38 @@ refused-in-the-pll t hz rs os room e p =
       ap (λ (c : Called Tuner). c .answer) is ∙ ap (answerOf (Refused 2)) (none-failed (t .chip .address) hz (t .kind) (t .notch) rs os (t .chip)),
       ap (λ (c : Called Tuner). c .count) is ∙ thirteen (t .chip .address) hz (t .kind) (t .notch) rs os (t .chip),
     )
+
+-- ---- a board-level tune whose plan the PLL refuses: the same 13, and the board path's ten before them where it is taken
+
+abbrev pub lateCount : Kind → Route → ℕ
+lateCount R820T route = 13
+lateCount R828D Direct = 13
+lateCount R828D (By path) = 23
+
+module _ (address : ℕ) (rs os : List ℕ) (c : Chip) where
+  abbrev late : Kind → board.Plan → Trace
+  late kind p = trace (replicate 23 0 ++ os) (hopSteps kind address p pll-variants.Refused rs) c
+
+  hop-late : (kind : Kind) (p : board.Plan) (route : Route) → p .path ≡ route → (length (late kind p .log) ≡ lateCount kind route) × (late kind p .progress ≡ Going)
+  unfolding trace run step innerSteps outputSteps bitSteps accessStep
+  hop-late R820T p route e = (refl, refl)
+  hop-late R828D p Direct e = rw e (refl, refl)
+  hop-late R828D p (By Hf) e = rw e (refl, refl)
+  hop-late R828D p (By Vhf) e = rw e (refl, refl)
+  hop-late R828D p (By Uhf) e = rw e (refl, refl)
+
+pub hop-refused-in-the-pll : (t : Tuner) (hz : ℕ) (table rs : List ℕ) (d : Driver) (os room : List ℕ)
+    → refusalWith (sound t && soundDriver d) (hopRefusal (planBy table hz) (t .ifreq)) 64 38 (length room) (length (replicate 23 0 ++ os)) (length rs) ≡ 0
+    → planFor t (planBy table hz .plan .hz) ≡ pll-variants.Refused
+    → (hopResult (planBy table hz) hz rs (replicate 23 0 ++ os) t d room .answer ≡ Refused 2)
+    × (hopResult (planBy table hz) hz rs (replicate 23 0 ++ os) t d room .count ≡ lateCount (t .kind) (planBy table hz .plan .path))
+unfolding hopResult leftBy
+hop-refused-in-the-pll t hz table rs d os room e p =
+    let at : Planned = planBy table hz in
+    let outcomes : List ℕ = replicate 23 0 ++ os in
+    let by : Pll → Called Both = (λ plan.
+    callOf (refusalWith (sound t && soundDriver d) (hopRefusal at (t .ifreq)) 64 38 (length room) (length outcomes) (length rs)) (tuneAnswer plan hz) outcomes
+    (hopSteps (t .kind) (t .chip .address) (at .plan) plan rs) (t .chip) (hopKept t d (at .plan) (tuneAnswer plan hz) hz) (both t d) room) in
+    let is : by (planFor t (at .plan .hz)) ≡ _ = ap by p ∙ progress-on _ _ _ _ _ _ _ _ e in
+    let n = hop-late (t .chip .address) rs os (t .chip) (t .kind) (at .plan) (at .plan .path) refl in
+    (ap (λ (x : Called Both). x .answer) is ∙ ap (answerOf (Refused 2)) (n .1), ap (λ (x : Called Both). x .count) is ∙ n .0)

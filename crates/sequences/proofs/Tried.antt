@@ -18,7 +18,20 @@ use Rattle.chip.specs.declared.LockTries.{LockTries}
 use Rattle.chip.specs.declared.Update.{Update}
 use Rattle.chip.specs.declared.Progress.{Progress}
 use Rattle.chip.specs.declared.Progress.the-variants.{Going, Refused11}
-use Rattle.chip.specs.Calls.{answerOf, callEntries, callOf, called, tooShort, lockedIn, performed, lockTriesIn, triesIn}
+use Rattle.bands.specs.declared.Planned.{Planned}
+use Rattle.bands.specs.Tables.{planBy}
+use Rattle.board.specs.declared.Plan as board
+use Rattle.board.specs.declared.Path.the-variants.{Hf, Vhf, Uhf}
+use Rattle.board.specs.declared.Route.{Route}
+use Rattle.board.specs.declared.Route.the-variants.{By, Direct}
+use Rattle.boards.specs.Hops.{hopKept, hopLockTries, hopRefusal, hopResult, hopSteps, pathPart, pathReplies}
+use Rattle.demod.specs.Programs.{ddcSteps}
+use Rattle.device.specs.Accesses.{accessStep}
+use Rattle.device.specs.Gpio.{bitSteps, outputSteps}
+use Rattle.driver.specs.declared.Driver.{Driver}
+use Rattle.driver.specs.Calls.{both}
+use Rattle.driver.specs.Record.{soundDriver}
+use Rattle.chip.specs.Calls.{answerOf, callEntries, callOf, called, tooShort, lockedIn, performed, lockTriesIn, refusalWith, triesIn}
 use Rattle.chip.specs.Chips.{pair}
 use Rattle.chip.specs.Courses.{leftBy}
 use Rattle.chip.specs.Entries.{flagOf, isTry, lockBit, pointer, readEntry, lockTries, noTries, wait}
@@ -28,7 +41,7 @@ use Rattle.chip.specs.Steps.Step.{Open, Close, Send, Mask, Plain}
 use Rattle.chip.proofs.Laws.{active, run-app}
 use Rattle.chip.proofs.Taken.{untried}
 use Rattle.pll.specs.declared.Kind.{Kind}
-use Rattle.pll.specs.declared.Kind.the-variants.{R828D}
+use Rattle.pll.specs.declared.Kind.the-variants.{R820T, R828D}
 use Rattle.pll.specs.declared.Plan.{Plan}
 use Rattle.pll.specs.declared.Pll.{Pll}
 use Rattle.pll.specs.declared.Pll.the-variants as pll-variants
@@ -45,16 +58,22 @@ use Rattle.r82xx.specs.declared.Tuner.{Tuner}
 use Rattle.r82xx.specs.Calls.{hzRefusal, planFor, refusalOf}
 use Rattle.r82xx.specs.Orders.{lockKept, resultOf, lockTriesOf, tuneOf}
 use Rattle.r82xx.specs.Orders.Order.{Tune}
-use Rattle.r82xx.specs.Record.{freshTuner}
+use Rattle.r82xx.specs.Record.{freshTuner, sound}
 use Rattle.history.proofs.Runs.{run-keeps, stopped-run}
 use Rattle.sequences.specs.Calls.{call, entries}
-use Rattle.sequences.specs.Calls.Order.{Tuned}
+use Rattle.sequences.specs.Calls.Order.{BoardTune, Tuned}
 use Rattle.sequences.specs.Waited.{waitedFrom}
 
 -- "Tries equal the three-byte reads in the transcript that were done": of the very entries that the reader finds in the room
 pub told-by-entries : (hz : ℕ) (rs os room : List ℕ) (t : Tuner) → lockTriesOf (Tune hz rs) os t room ≡ lockTriesIn (entries (call (Tuned (Tune hz rs)) os room) t)
 unfolding lockTriesOf
 told-by-entries hz rs os room t = refl
+
+-- and so of a board-level tune's (#113)
+pub board-told-by-entries : (hz : ℕ) (table rs os room : List ℕ) (d : Driver) (t : Tuner)
+    → hopLockTries (planBy table hz) hz rs os t d room ≡ lockTriesIn (entries (call (BoardTune hz table rs d) os room) t)
+unfolding hopLockTries
+board-told-by-entries hz table rs os room d t = refl
 
 -- ---- a refusal tells of no try
 
@@ -64,8 +83,14 @@ pub refused-before : (hz : ℕ) (rs os room : List ℕ) (t : Tuner) → (refusal
 unfolding lockTriesOf
 refused-before hz rs os room t h = sym (untried _ os _ (t .chip) h)
 
+pub board-refused-before : (hz : ℕ) (table rs os room : List ℕ) (d : Driver) (t : Tuner)
+    → (refusalWith (sound t && soundDriver d) (hopRefusal (planBy table hz) (t .ifreq)) 64 38 (length room) (length os) (length rs) ≡ 0 → ⊥)
+    → hopLockTries (planBy table hz) hz rs os t d room ≡ noTries
+unfolding hopLockTries
+board-refused-before hz table rs os room d t h = sym (untried _ os _ (t .chip) h)
+
 -- a step whose entry is no try, however it goes
-abbrev quiet : Step → Bool
+abbrev pub quiet : Step → Bool
 quiet Open = true
 quiet Close = true
 quiet (Send n bytes) = true
@@ -78,7 +103,7 @@ no-three false true c h = absurd (false≢true h)
 no-three true false c h = refl
 no-three false false c h = refl
 
-no-try : (s : Step) (c : Chip) (ok : Bool) → quiet s ≡ true → isTry (emit s c ok) ≡ false
+pub no-try : (s : Step) (c : Chip) (ok : Bool) → quiet s ≡ true → isTry (emit s c ok) ≡ false
 no-try Open c ok h = refl
 no-try Close c ok h = refl
 no-try (Send n bytes) c ok h = refl
@@ -86,12 +111,12 @@ no-try (Mask r v m) c ok h = refl
 no-try (Plain e) c ok h = no-three (eqb (e .kind) 3) (eqb (e .n) 3) (eqb (flagOf ok) 0) h
 
 -- what one entry more says
-tries-next : (es : List Entry) (e : Entry) → triesIn (es ++ (e ∷ [])) ≡ triesIn es + cond (isTry e) 1 0
+pub tries-next : (es : List Entry) (e : Entry) → triesIn (es ++ (e ∷ [])) ≡ triesIn es + cond (isTry e) 1 0
 unfolding triesIn
 tries-next [] e = omega arith
 tries-next (x ∷ es) e = let ih = tries-next es e in omega (arith, ih)
 
-locked-next : (es : List Entry) (e : Entry) → lockedIn (es ++ (e ∷ [])) ≡ (lockedIn es || (isTry e && lockBit e))
+pub locked-next : (es : List Entry) (e : Entry) → lockedIn (es ++ (e ∷ [])) ≡ (lockedIn es || (isTry e && lockBit e))
 unfolding lockedIn
 locked-next [] e = or-false (isTry e && lockBit e)
 locked-next (x ∷ es) e =
@@ -117,7 +142,7 @@ module _ (os : List ℕ) where
   quiet-trace ss c h = quiet-run ss (line c [] 0 Going false) h
 
 -- without a plan there is no waiting, only the mux's writes behind an open repeater
-mux-writes : (address hz : ℕ) (kind : Kind) (notch : Bool) (rs : List ℕ) → every quiet (tuneSteps address kind notch pll-variants.Refused hz rs) ≡ true
+pub mux-writes : (address hz : ℕ) (kind : Kind) (notch : Bool) (rs : List ℕ) → every quiet (tuneSteps address kind notch pll-variants.Refused hz rs) ≡ true
 unfolding every innerSteps
 mux-writes address hz kind notch rs = refl
 
@@ -136,6 +161,35 @@ refused-in-the-pll-untried hz rs os room t p =
     ap (λ (q : Pll). lockTriesIn (callEntries number os (tuneOf t q hz rs) (t .chip))) p
     ∙ none-said number os (tuneOf t pll-variants.Refused hz rs) (t .chip) (mux-writes (t .chip .address) hz (t .kind) (t .notch) rs)
 
+-- the board's path and the DDC byte have no try, and without a plan there is no waiting between them
+pub quiet-path : (kind : Kind) (route : Route) (rs : List ℕ) → every quiet (pathPart kind route rs) ≡ true
+unfolding every outputSteps bitSteps accessStep
+quiet-path R820T route rs = refl
+quiet-path R828D Direct rs = refl
+quiet-path R828D (By Hf) rs = refl
+quiet-path R828D (By Vhf) rs = refl
+quiet-path R828D (By Uhf) rs = refl
+
+pub quiet-ddc : (inverted : Bool) → every quiet (ddcSteps inverted) ≡ true
+unfolding every ddcSteps
+quiet-ddc inverted = refl
+
+pub quiet-hop : (kind : Kind) (address : ℕ) (plan : board.Plan) (rs : List ℕ) → every quiet (hopSteps kind address plan pll-variants.Refused rs) ≡ true
+unfolding every
+quiet-hop kind address plan rs =
+    let left : List ℕ = drop (pathReplies kind (plan .path)) rs in
+    every-app quiet (pathPart kind (plan .path) rs) (tuneSteps address kind (plan .notch) pll-variants.Refused (plan .hz) left ++ []) (quiet-path kind (plan .path) rs)
+    (every-app quiet (tuneSteps address kind (plan .notch) pll-variants.Refused (plan .hz) left) [] (mux-writes address (plan .hz) kind (plan .notch) left) refl)
+
+pub board-refused-in-the-pll-untried : (hz : ℕ) (table rs os room : List ℕ) (d : Driver) (t : Tuner) → planFor t (planBy table hz .plan .hz) ≡ pll-variants.Refused
+    → hopLockTries (planBy table hz) hz rs os t d room ≡ noTries
+unfolding hopLockTries
+board-refused-in-the-pll-untried hz table rs os room d t p =
+    let at : Planned = planBy table hz in
+    let number : ℕ = refusalWith (sound t && soundDriver d) (hopRefusal at (t .ifreq)) 64 38 (length room) (length os) (length rs) in
+    ap (λ (q : Pll). lockTriesIn (callEntries number os (hopSteps (t .kind) (t .chip .address) (at .plan) q rs) (t .chip))) p
+    ∙ none-said number os (hopSteps (t .kind) (t .chip .address) (at .plan) pll-variants.Refused rs) (t .chip) (quiet-hop (t .kind) (t .chip .address) (at .plan) rs)
+
 -- ---- where no step failed: the tries by the replies
 
 -- the third byte of a try's entry is its third reply
@@ -145,7 +199,7 @@ third-of (a ∷ []) = refl
 third-of (a ∷ b ∷ []) = refl
 third-of (a ∷ b ∷ d ∷ ds) = refl
 
-reply-bit : (rs : List ℕ) (i : ℕ) → lockedBy (getD (replyBytes rs (5 + 3 * i) 3) 2 0) ≡ locksAt rs i
+pub reply-bit : (rs : List ℕ) (i : ℕ) → lockedBy (getD (replyBytes rs (5 + 3 * i) 3) 2 0) ≡ locksAt rs i
 unfolding replyBytes
 reply-bit rs i =
     let place : (5 + 3 * i) + 2 ≡ 7 + 3 * i = omega arith in
@@ -156,12 +210,12 @@ done-by : (ok : Bool) (k : ℕ) → progressOf ok k ≡ Going → ok ≡ true
 done-by true k h = refl
 done-by false k h = absurd (false≢true (ap goes h))
 
-quiet-updates : (us : List Update) → every quiet (updates us) ≡ true
+pub quiet-updates : (us : List Update) → every quiet (updates us) ≡ true
 unfolding every
 quiet-updates [] = refl
 quiet-updates (u ∷ us) = quiet-updates us
 
-quiet-after : (i : ℕ) → every quiet (afterTry i) ≡ true
+pub quiet-after : (i : ℕ) → every quiet (afterTry i) ≡ true
 unfolding every
 quiet-after i = every-app quiet (updates (again i)) (Plain (wait 1) ∷ []) (quiet-updates (again i)) refl
 
@@ -227,17 +281,17 @@ module _ (os : List ℕ) where
     tries-said (suc left) i t h e =
         turn-said i (triesFrom address rs left (i + 1)) t (locksAt rs i) (waitedFrom rs left (i + 1)) refl e (λ u g q. tries-said left (i + 1) u g q) h
 
--- a whole tuning by its plan
-planned-said : (os rs : List ℕ) (hz : ℕ) (t : Tuner) (p : Plan) → trace os (tuneOf t (pll-variants.Planned p) hz rs) (t .chip) .progress ≡ Going
-    → lockTriesIn (trace os (tuneOf t (pll-variants.Planned p) hz rs) (t .chip) .log) ≡ waitedFrom rs 10 0
-unfolding trace run every innerSteps triesIn lockedIn
-planned-said os rs hz t p h =
-    let address : ℕ = t .chip .address in
-    let mux : List Step = updates (muxUpdates (t .notch) (rangeOf hz) ++ pllUpdates p) in
+-- a whole tuning by its plan, from a trace without a try
+tune-said : (os : List ℕ) (address : ℕ) (kind : Kind) (notch : Bool) (p : Plan) (hz : ℕ) (rs : List ℕ) (start : Trace)
+    → run inList os (tuneSteps address kind notch (pll-variants.Planned p) hz rs) start .progress ≡ Going → lockTriesIn (start .log) ≡ noTries
+    → lockTriesIn (run inList os (tuneSteps address kind notch (pll-variants.Planned p) hz rs) start .log) ≡ waitedFrom rs 10 0
+unfolding run every innerSteps
+tune-said os address kind notch p hz rs start h e =
+    let mux : List Step = updates (muxUpdates notch (rangeOf hz) ++ pllUpdates p) in
     let status : List Step = statusSteps address rs in
-    let fix : List Step = updates (repairUpdates (t .kind) (p .number) (getD rs 4 0)) in
+    let fix : List Step = updates (repairUpdates kind (p .number) (getD rs 4 0)) in
     let tries : List Step = triesFrom address rs 10 0 in
-    let opened : Trace = step inList os Open (line (t .chip) [] 0 Going false) in
+    let opened : Trace = step inList os Open start in
     let written : Trace = run inList os mux opened in
     let probed : Trace = run inList os status written in
     let repaired : Trace = run inList os fix probed in
@@ -250,10 +304,16 @@ planned-said os rs hz t p h =
     ap (λ (u : Trace). lockTriesIn (u .log)) split
     ∙ quiet-run os (Close ∷ []) waited refl
     ∙ tries-said os address rs 10 0 repaired ended
-    (quiet-run os fix probed (quiet-updates (repairUpdates (t .kind) (p .number) (getD rs 4 0)))
+    (quiet-run os fix probed (quiet-updates (repairUpdates kind (p .number) (getD rs 4 0)))
     ∙ quiet-run os status written refl
-    ∙ quiet-run os mux opened (quiet-updates (muxUpdates (t .notch) (rangeOf hz) ++ pllUpdates p))
-    ∙ quiet-run os (Open ∷ []) (line (t .chip) [] 0 Going false) refl)
+    ∙ quiet-run os mux opened (quiet-updates (muxUpdates notch (rangeOf hz) ++ pllUpdates p))
+    ∙ quiet-run os (Open ∷ []) start refl
+    ∙ e)
+
+planned-said : (os rs : List ℕ) (hz : ℕ) (t : Tuner) (p : Plan) → trace os (tuneOf t (pll-variants.Planned p) hz rs) (t .chip) .progress ≡ Going
+    → lockTriesIn (trace os (tuneOf t (pll-variants.Planned p) hz rs) (t .chip) .log) ≡ waitedFrom rs 10 0
+unfolding trace triesIn lockedIn
+planned-said os rs hz t p h = tune-said os (t .chip .address) (t .kind) (t .notch) p hz rs (line (t .chip) [] 0 Going false) h refl
 
 abbrev isDone : Answer → Bool
 isDone (Done value) = true
@@ -284,6 +344,54 @@ told-when-done hz value rs os room t h = go (eqb number 0) (ap isDone h)
     go : (b : Bool) → isDone (cond b (performed (tuneAnswer (planFor t hz) hz) (lockKept t) room tr) (called t room 0 (Refused number)) .answer) ≡ true
         → lockTriesIn (cond b (tr .log) []) ≡ waitedFrom rs 10 0
     go true e = by-plan os rs hz t (planFor t hz) e
+    go false e = absurd (false≢true e)
+
+-- a board-level tune's waiting takes the replies that the board's path left
+hop-said : (os rs : List ℕ) (at : board.Plan) (t : Tuner) (p : Plan) → trace os (hopSteps (t .kind) (t .chip .address) at (pll-variants.Planned p) rs) (t .chip) .progress ≡ Going
+    → lockTriesIn (trace os (hopSteps (t .kind) (t .chip .address) at (pll-variants.Planned p) rs) (t .chip) .log)
+    ≡ waitedFrom (drop (pathReplies (t .kind) (at .path)) rs) 10 0
+unfolding trace triesIn lockedIn
+hop-said os rs at t p h =
+    let left : List ℕ = drop (pathReplies (t .kind) (at .path)) rs in
+    let pre : List Step = pathPart (t .kind) (at .path) rs in
+    let ss : List Step = tuneSteps (t .chip .address) (t .kind) (at .notch) (pll-variants.Planned p) (at .hz) left in
+    let post : List Step = ddcSteps (at .inverted) in
+    let u : Trace = run inList os pre (line (t .chip) [] 0 Going false) in
+    let v : Trace = run inList os ss u in
+    let split = run-app inList os pre (ss ++ post) (line (t .chip) [] 0 Going false) ∙ run-app inList os ss post u in
+    let ended : v .progress ≡ Going = going-back os post v (ap (λ (w : Trace). w .progress) (sym split) ∙ h) in
+    ap (λ (w : Trace). lockTriesIn (w .log)) split
+    ∙ quiet-run os post v (quiet-ddc (at .inverted))
+    ∙ tune-said os (t .chip .address) (t .kind) (at .notch) p (at .hz) left u ended (quiet-run os pre (line (t .chip) [] 0 Going false) (quiet-path (t .kind) (at .path) rs))
+
+hop-by : (os rs : List ℕ) (hz : ℕ) (at : board.Plan) (t : Tuner) (plan : Pll)
+    → isDone (answerOf (tuneAnswer plan hz) (trace os (hopSteps (t .kind) (t .chip .address) at plan rs) (t .chip) .progress)) ≡ true
+    → lockTriesIn (trace os (hopSteps (t .kind) (t .chip .address) at plan rs) (t .chip) .log) ≡ waitedFrom (drop (pathReplies (t .kind) (at .path)) rs) 10 0
+hop-by os rs hz at t pll-variants.Refused h =
+    absurd (false≢true (progress-on (Refused 2) (trace os (hopSteps (t .kind) (t .chip .address) at pll-variants.Refused rs) (t .chip) .progress) h .1))
+hop-by os rs hz at t (pll-variants.Planned p) h =
+    hop-said os rs at t p (progress-on (Done hz) (trace os (hopSteps (t .kind) (t .chip .address) at (pll-variants.Planned p) rs) (t .chip) .progress) h .0)
+
+pub board-told-when-done : (hz value : ℕ) (table rs os room : List ℕ) (d : Driver) (t : Tuner) → hopResult (planBy table hz) hz rs os t d room .answer ≡ Done value
+    → hopLockTries (planBy table hz) hz rs os t d room ≡ waitedFrom (drop (pathReplies (t .kind) (planBy table hz .plan .path)) rs) 10 0
+unfolding hopResult leftBy callOf hopLockTries
+board-told-when-done hz value table rs os room d t h = go (eqb number 0) (ap isDone h)
+  where
+    at : Planned
+    at = planBy table hz
+
+    number : ℕ
+    number = refusalWith (sound t && soundDriver d) (hopRefusal at (t .ifreq)) 64 38 (length room) (length os) (length rs)
+
+    by : Pll
+    by = planFor t (at .plan .hz)
+
+    tr : Trace
+    tr = trace os (hopSteps (t .kind) (t .chip .address) (at .plan) by rs) (t .chip)
+
+    go : (b : Bool) → isDone (cond b (performed (tuneAnswer by hz) (hopKept t d (at .plan) (tuneAnswer by hz) hz) room tr) (called (both t d) room 0 (Refused number)) .answer) ≡ true
+        → lockTriesIn (cond b (tr .log) []) ≡ waitedFrom (drop (pathReplies (t .kind) (at .plan .path)) rs) 10 0
+    go true e = hop-by os rs hz (at .plan) t by e
     go false e = absurd (false≢true e)
 
 -- ---- worked out, on a fresh R828D at 100,000,000 Hz: entries 21 and 22 are the first try, 25 and 26 the second, 28 and 29 the third

@@ -4,3 +4,4 @@ pub mod Exact
 pub mod Editions
 pub mod Moves
 pub mod Newer
+pub mod Worked

@@ -1,8 +1,7 @@
 -- Document 01, "PLL": "Status bytes have their bits reversed." A byte is b7 b6 .. b0; reversed it is b0 b1 .. b7.
 -- Assumes nothing.
 use mathlib.Core.Bool.{Bool, not}
-use mathlib.Core.List.{List, [], _∷_}
-use Prim.Native.Nat.{ℕ, zero, suc, _+_, _*_, _/_, _%_}
+use Prim.Native.Nat.{ℕ, _+_, _*_, _/_, _%_}
 use lib.Bits.{bitAnd}
 use lib.Dec.{eqb}
 
@@ -17,15 +16,6 @@ reversed b =
     + b / 32 % 2 * 4
     + b / 64 % 2 * 2
     + b / 128 % 2
-
--- Document 02, #102: "a table of 256 reversed bytes": n bytes from b on, reversed, and n rows of sixteen from b on
-unfoldable pub rowFrom : ℕ → ℕ → List ℕ
-rowFrom b zero = []
-rowFrom b (suc n) = reversed b ∷ rowFrom (suc b) n
-
-unfoldable pub sheetFrom : ℕ → ℕ → List (List ℕ)
-sheetFrom b zero = []
-sheetFrom b (suc n) = rowFrom b 16 ∷ sheetFrom (b + 16) n
 
 -- the lock's bit of a status byte, whose bits are reversed
 abbrev pub lockedBy : ℕ → Bool

@@ -24,6 +24,11 @@ abbrev pub mostFor : ℕ → ℕ
 mostFor operation =
     cond (eqb operation 1) 18446744073709551615 (cond (eqb operation 4) 255 (cond (eqb operation 7) 0 4294967295))
 
+-- how many of the eight an operation uses; above them stand "unused high bytes", which are zero exactly where the argument is no more than `mostFor`
+-- (proofs/Unused.antt)
+abbrev pub widthFor : ℕ → ℕ
+widthFor operation = cond (eqb operation 1) 8 (cond (eqb operation 4) 1 (cond (eqb operation 7) 0 4))
+
 -- "new 14 command, for an unknown operation or nonzero unused bytes"
 abbrev pub isKnown : ℕ → ℕ → Bool
 isKnown operation argument = (leb 1 operation && leb operation 7) && leb argument (mostFor operation)
