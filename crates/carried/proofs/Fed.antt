@@ -53,7 +53,7 @@ use Rattle.carried.specs.Exported.{Exported, Left, Lent, amiss, byAfter,
 use Rattle.carried.specs.Exported.Exported.{Own, Rate as RateOf, Correct}
 use Rattle.carried.specs.Fed.{Completes, Makes, fedEntries, plainFed}
 use Rattle.carried.specs.Fed.Makes.{tunes, rates, gains, steps, narrows, corrects, reloads}
-use Rattle.carried.proofs.Demand.{behind, cut-uncut, index-told, long, readable, refused-one, reload-done}
+use Rattle.carried.proofs.Demand.{behind, cut-uncut, index-told, long, never-five, readable, refused-one, reload-done}
 use Rattle.carried.proofs.Passed.{few}
 
 run-none : (x : Command) (table rs os d b room : List ℕ) → isUnknown x ≡ false → driverOf d .ok ≡ false → runOver x table rs os d b room ≡ notRun 1 d b room
@@ -267,6 +267,35 @@ module _ (b : List ℕ) (es : List Entry) (c : Carried b es) (table rs os d room
       go (inl none) z e = subst (λ (h : Hops). Goes es (leftOver h)) (sym (run-unknown x table rs os d b room none)) stays
       go (inr made) true e = made-goes e x (made .0) (made .1)
       go (inr made) false e = subst (λ (h : Hops). Goes es (leftOver h)) (sym (run-none x table rs os d b room (made-known table rs d x (made .0) (made .1)) e)) stays
+
+  -- no command is refused 5
+  run-never-five : (x : Command) → eqb (runOver x table rs os d b room .answer .refusal) 5 ≡ false
+  run-never-five x = go (makes-or-none table rs d x) (driverOf d .ok) refl
+    where
+      go : (isUnknown x ≡ true) ⊎ ((e : Exported) × Makes table rs d x e) → (z : Bool) → driverOf d .ok ≡ z → eqb (runOver x table rs os d b room .answer .refusal) 5 ≡ false
+      go (inl none) z e = ap (λ (h : Hops). eqb (h .answer .refusal) 5) (run-unknown x table rs os d b room none)
+      go (inr made) true e =
+          subst (λ (l : Left). eqb (l .reply .refusal) 5 ≡ false) (run-is-call e x (made .0) (made .1)) (never-five b es c (lent (made .0) os room b) (made-typed e x (made .0) (made .1) .0))
+      go (inr made) false e = ap (λ (h : Hops). eqb (h .answer .refusal) 5) (run-none x table rs os d b room (made-known table rs d x (made .0) (made .1)) e)
+
+  pub fed-never-five : (chunk stream : List ℕ) → eqb (feedOver table chunk rs os stream d b room .answer .refusal) 5 ≡ false
+  unfolding feedOver
+  fed-never-five chunk stream = go (isStream stream) (eqb (length (gathered (pendingOf stream) chunk)) 9)
+    where
+      bytes : List ℕ
+      bytes = gathered (pendingOf stream) chunk
+
+      used : ℕ
+      used = usedBy (pendingOf stream) chunk
+
+      go : (z y : Bool)
+          → eqb
+          (cond z (cond y (completedBy used (runOver (commandOf bytes) table rs os d b room)) (waitingBy used bytes d b room)) (feeds (fedOf (noCommand (Refused 1)) 0 0 0) stream d b room) .answer .refusal)
+          5
+          ≡ false
+      go true true = run-never-five (commandOf bytes)
+      go true false = refl
+      go false y = refl
 
   -- any chunk, on any bytes of a stream: one more call, or none
   pub fed-carried : (chunk stream : List ℕ) → Carried (feedOver table chunk rs os stream d b room .tuner) (es ++ fedEntries (feedOver table chunk rs os stream d b room))

@@ -186,7 +186,7 @@ module _ {R : Type 0} (P : R → Type 0) (old : R) (f : P old) (c : Chip) (s : B
 -- a record in its ranges, and an argument that is not refused: then no call is refused 1, and 11 is a step's failing
 module _ (test : ℕ → Bool) (bare : Bare test) where
   -- what was lent too short is refused by 8, 9 or 10
-  lent-number : (n m room os rs : ℕ) → test (tooShort n m room os rs) ≡ false
+  pub lent-number : (n m room os rs : ℕ) → test (tooShort n m room os rs) ≡ false
   unfolding tooShort
   lent-number n m room os rs = go (ltb room (16 * n + 8)) (ltb os n) (ltb rs m)
     where
@@ -396,7 +396,7 @@ module _ (test : ℕ → Bool) (bare : Bare test) where
   hz-test true = bare .frequency
   hz-test false = bare .none
 
-  rate-test : (rate xtal : ℕ) → test (rateNumber rate xtal) ≡ false
+  pub rate-test : (rate xtal : ℕ) → test (rateNumber rate xtal) ≡ false
   unfolding rateNumber
   rate-test rate xtal = go (eqb rate 0) (eqb xtal 0) (ratioHolds (ratioOf rate xtal))
     where
