@@ -43,7 +43,7 @@
  * (1 to 4, 6 and 7; 13 after 3 and 4, 15 after 12); lent slices too short: room, and the slices for records and bytes that come back (8), outcomes (9), replies
  * (10); then the steps (11, or 2 in the PLL of a tuning). Settings on file are refused by their edition (16), then for the rest (17), then for an IF that a move
  * cannot say (18), then 8. A malformed table of bands is refused (19) behind a record that is none (1), before a rate (3, 13) and before a frequency that it
- * has no plan for (2), then 8. Refused before any step: value, index and count are 0, and every lent byte is as it was, but for the stream bytes of `feed`, which
+ * has no plan for (2), then 8. A register in doubt by which the oscillator stands is refused (20) behind 1 and 19, before 2. Refused before any step: value, index and count are 0, and every lent byte is as it was, but for the stream bytes of `feed`, which
  * a refused command has left. Refused by a step: value 0, and the section and the next records are written, since the steps taken stand. `pasetone_stands` tells
  * the two apart.
  */
@@ -57,7 +57,7 @@
  * The version of this header, as `pasetone_version` answers that of the archive: major * 65536 + minor * 256 + patch. CHANGELOG.md says what a host
  * has to change from one to the next. Every other place of the tree that names the version is held to this line by docs/check-version.
  */
-#define PASETONE_VERSION 0x060100 /* 6.1.0 */
+#define PASETONE_VERSION 0x060200 /* 6.2.0 */
 
 /*
  * Stands at each slice that a call writes: none of its bytes may be another slice's of the same call. No call can look for itself, but compilers warn of some
@@ -99,13 +99,15 @@ extern "C" {
 #define PASETONE_SETTINGS 17    /* bytes that do not end in settings of that edition, or a kind, board or gain index that settings do not have */
 #define PASETONE_NOT_EXPRESSIBLE 18 /* settings of edition 2 whose IF edition 1 cannot say */
 #define PASETONE_TABLE 19       /* bytes that are no well-formed table of bands */
+#define PASETONE_DOUBTFUL 20    /* the oscillator stands by a register that is doubtful: 0x10, 0x12, 0x14, 0x15 or 0x16 */
 
-/* A refusal's word; "unknown" above 19. 5 has the word of the call that is gone, for a host that still meets an older archive. */
+/* A refusal's word; "unknown" above 20. 5 has the word of the call that is gone, for a host that still meets an older archive. */
 static inline const char *pasetone_refusal_word(uint32_t refusal)
 {
     static const char *const words[] = {
         "done",    "setup",   "frequency", "rate",    "correction", "register",  "pin",     "coefficient", "room",            "outcomes",
         "replies", "step",    "section",   "ratio",   "command",    "expansion", "edition", "settings",    "not expressible", "table",
+        "doubtful",
     };
     return refusal < sizeof words / sizeof words[0] ? words[refusal] : "unknown";
 }
@@ -407,6 +409,17 @@ pasetone_reply pasetone_get_gain(const uint8_t *tuner, size_t tuner_len);
 /* Value: the IF in Hz. Refuses 1. */
 pasetone_reply pasetone_get_if_freq(const uint8_t *tuner, size_t tuner_len);
 
+/*
+ * Where the oscillator stands: by the five bytes last sent to registers 0x10, 0x12, 0x14, 0x15 and 0x16 and the record's corrected reference R, by no call
+ * that was asked. Value: 2R(65,536 * N + S) / (65,536 * m) in Hz, cut; m is 2^(1 + 0x10 / 32), N is 13 + 4 * (0x14 mod 64) + 0x14 / 64, S is 256 * 0x16 + 0x15,
+ * or 0 where bit 3 of 0x12 is set. After a tuning to hz that was done and asked for no repair of the divider it is within 25 kHz / m of hz + IF, where m
+ * is 32 (hz + IF from 55,312,500 to 110,624,999) within 782 Hz. Tried at every Hz of the FM band with an IF of 2,300,000: 86 Hz below to 38 Hz above at a reference
+ * of 28,800,000 Hz exactly. A correction costs: the plan takes R / 1000 cut, so with -1 ppm it was up to 287 Hz above. It cannot know whether the PLL has locked,
+ * whether the chip was switched off since, and what the crystal does. Refuses 1, 20 (one of the five registers is doubtful: then it may stand elsewhere).
+ * Before a register was sent it is doubtful.
+ */
+pasetone_reply pasetone_oscillator(const uint8_t *tuner, size_t tuner_len);
+
 /* The 29 gain steps in tenths of a dB, i32 each, into `out` (116 bytes). Value 0. Refuses 1, 8. */
 pasetone_reply pasetone_get_gain_table(const uint8_t *tuner, size_t tuner_len, uint8_t *PASETONE_RESTRICT out, size_t out_len);
 
@@ -417,6 +430,18 @@ pasetone_reply pasetone_apply_notch(uint8_t *PASETONE_RESTRICT tuner, size_t tun
 
 /* Value: the driver's corrected reference in Hz. Refuses 1. */
 pasetone_reply pasetone_corrected_xtal_hz(const uint8_t *driver, size_t driver_len);
+
+/*
+ * The frequency in the middle of a recording: the oscillator, as `pasetone_oscillator`, less the tuner record's IF, less the shift of the band of `table` that
+ * holds the driver's frequency. That is the one given at its making or by the last `tune_board` that was done; two bands can lead to one oscillator, so it alone
+ * does not tell the band. An inverted band is answered in the same way: its spectrum is mirrored around the centre, which does not move. Held against the
+ * frequency asked for, it tells whether the receiver stands where it should; what the oscillator is off, it is off. It cannot know the demodulator: the
+ * IF is the tuner record's, and where a rate was cut the demodulator may be told another. Give the table that the tunings were made with; after `set_frequency`,
+ * which leaves the driver's frequency, the band is that of the `tune_board` before. Value: Hz. Refuses 1 (either record), 19, 20, 2 (the table has
+ * no plan for the driver's frequency: in no band, or shifted below 0 or past 64 bits; or the centre itself is below 0 or past 64 bits).
+ */
+pasetone_reply pasetone_centre(const uint8_t *driver, size_t driver_len, const uint8_t *tuner, size_t tuner_len, const uint8_t *table,
+                               size_t table_len);
 
 /*
  * The correction, of tuner and driver at once: each one's reference is nominal + nominal * ppm / 1,000,000 of its own nominal, the quotient cut toward

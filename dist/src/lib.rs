@@ -259,9 +259,11 @@ unsafe extern "C" {
     pub fn pasetone_reload(tuner: Bytes, t: usize, outcomes: Bytes, o: usize, room: BytesMut, r: usize, next: BytesMut, n: usize) -> Reply;
     pub fn pasetone_get_gain(tuner: Bytes, t: usize) -> Reply;
     pub fn pasetone_get_if_freq(tuner: Bytes, t: usize) -> Reply;
+    pub fn pasetone_oscillator(tuner: Bytes, t: usize) -> Reply;
     pub fn pasetone_get_gain_table(tuner: Bytes, t: usize, out: BytesMut, n: usize) -> Reply;
     pub fn pasetone_apply_notch(tuner: BytesMut, t: usize, on: u8) -> Reply;
     pub fn pasetone_corrected_xtal_hz(driver: Bytes, d: usize) -> Reply;
+    pub fn pasetone_centre(driver: Bytes, d: usize, tuner: Bytes, t: usize, table: Bytes, b: usize) -> Reply;
     pub fn pasetone_set_ppm(tuner: BytesMut, t: usize, driver: BytesMut, d: usize, ppm: i32) -> Reply;
     pub fn pasetone_set_sample_rate(
         driver: Bytes,

@@ -161,7 +161,7 @@ void make_table(struct attempt *a)
     default:
         break;
     }
-    if (a->call->way == RATING || a->call->way == FEEDING) {
+    if (a->call->way == RATING || a->call->way == FEEDING || a->call->way == CENTRING) {
         return;
     }
     /* what a tuner reaches, so that a board's tuning is often taken; else at an end of a band, or anywhere */

@@ -119,6 +119,8 @@ RUN(run_path, pasetone_set_input_path(S(TUNER), a->arg[0], S(OUTCOMES), S(ROOM),
 RUN(run_reload, pasetone_reload(S(TUNER), S(OUTCOMES), S(ROOM), S(NEXT)))
 RUN(run_get_gain, pasetone_get_gain(S(TUNER)))
 RUN(run_get_if, pasetone_get_if_freq(S(TUNER)))
+RUN(run_oscillator, pasetone_oscillator(S(TUNER)))
+RUN(run_centre, pasetone_centre(S(DRIVER), S(TUNER), S(INPUT)))
 RUN(run_table, pasetone_get_gain_table(S(TUNER), S(OUT)))
 RUN(run_ppm, pasetone_set_ppm(S(TUNER), S(DRIVER), (int32_t)(uint32_t)a->arg[0]))
 RUN(run_notch, pasetone_apply_notch(S(TUNER), (uint8_t)a->arg[0]))
@@ -237,6 +239,13 @@ static uint32_t measured_args(const struct attempt *a)
 }
 
 ARGUMENT(hop_args, hop_model(a))
+ARGUMENT(oscillator_args, oscillator_args_model(a))
+
+static uint32_t centre_args(const struct attempt *a)
+{
+    uint64_t centre;
+    return centre_model(a, &centre);
+}
 
 /* "19 after 1", then the rate's own */
 static uint32_t rate_args(const struct attempt *a)
@@ -266,7 +275,15 @@ VALUE(gain_set, number_at(a->at[NEXT] + PASETONE_TUNER_GAIN, 4))
 VALUE(gain_held, number_at(a->before[TUNER] + PASETONE_TUNER_GAIN, 4))
 VALUE(if_held, number_at(a->before[TUNER] + PASETONE_TUNER_IF, 8))
 VALUE(xtal_value, driver_xtal(a->before[DRIVER]))
+VALUE(oscillator_value, oscillator_model(a))
 VALUE(plan_value, a->arg[1] + (a->arg[0] == 1 && a->arg[1] < 28800000 ? 28800000 : 0))
+
+static uint64_t centre_value(const struct attempt *a)
+{
+    uint64_t centre;
+    centre_model(a, &centre);
+    return centre;
+}
 
 static uint64_t rest_value(const struct attempt *a)
 {
@@ -347,9 +364,11 @@ const struct call calls[] = {
     {"reload", COMMON, STEPS, 9, 0, 0, "1 8 9 11", run_reload, any, nothing},
     {"get_gain", COMMON, HAS(TUNER), 0, 0, 0, "1", run_get_gain, any, gain_held},
     {"get_if_freq", COMMON, HAS(TUNER), 0, 0, 0, "1", run_get_if, any, if_held},
+    {"oscillator", STANDING, HAS(TUNER), 0, 0, 0, "1 20", run_oscillator, oscillator_args, oscillator_value},
     {"get_gain_table", COMMON, HAS(TUNER) | HAS(OUT), 0, 0, 116, "1 8", run_table, any, nothing},
     {"apply_notch", NOTCH, HAS(TUNER), 0, 0, 0, "1", run_notch, any, nothing},
     {"corrected_xtal_hz", COMMON, HAS(DRIVER), 0, 0, 0, "1", run_xtal, any, xtal_value},
+    {"centre", CENTRING, HAS(DRIVER) | HAS(TUNER) | HAS(INPUT), 0, 0, 0, "1 19 20 2", run_centre, centre_args, centre_value},
     {"set_ppm", PPM, HAS(TUNER) | HAS(DRIVER), 0, 0, 0, "1 4", run_ppm, ppm_args, nothing},
     {"set_sample_rate", RATING, STEPS | HAS(DRIVER) | HAS(INPUT) | HAS(NEXT_DRIVER), 17, 0, 0, "1 19 3 13 8 9 11", run_rate, rate_args, nothing},
     {"tune_board", HOPPING, STEPS | HAS(DRIVER) | HAS(INPUT) | HAS(REPLIES) | HAS(NEXT_DRIVER), 64, 38, 0, "1 19 2 8 9 10 11", run_hop, hop_args, asked},

@@ -27,8 +27,8 @@
 
 #include "hostile.h"
 
-/* The refusal numbers are 0 to 19; one place more is for any other, which no function lists. */
-#define NUMBERS 20
+/* The refusal numbers are 0 to 20; one place more is for any other, which no function lists. */
+#define NUMBERS 21
 
 static struct attempt now;
 static uint8_t *first[SLOTS]; /* what the slices held after a call, for its repetition */

@@ -31,6 +31,8 @@ enum way {
     SETTINGS_MOVE,  /* writes the image at the end of INPUT in the other edition into OUT */
     BANDS,     /* plans by the table in INPUT */
     BUILT_IN,  /* answers a board's table */
+    STANDING,  /* tells where the oscillator stands */
+    CENTRING,  /* and the recording's centre, by the table in INPUT */
     RATING,    /* plans the driver's frequency by the table in INPUT */
     FEEDING,   /* runs the command that CHUNK completes on records that it changes where they lie; the table is in INPUT */
     HOPPING,   /* a tuning by the table in INPUT; may be refused 2 by the PLL */
@@ -91,6 +93,12 @@ void memory_open(struct attempt *a);
 void place(struct attempt *a, enum memory how);
 const char *canaries(const struct attempt *a);
 void release(struct attempt *a);
+
+/* centre.c: 0 or 20; the oscillator in Hz; 0, 19, 20 or 2 with the centre */
+uint32_t oscillator_args_model(const struct attempt *a);
+uint64_t oscillator_model(const struct attempt *a);
+uint32_t centre_model(const struct attempt *a, uint64_t *centre);
+void make_standing(struct attempt *a);
 
 /* model.c: the rules that are judged by, written down from document 01 */
 uint64_t number_at(const uint8_t *bytes, unsigned width);

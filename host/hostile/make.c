@@ -178,7 +178,8 @@ static void make_input(struct attempt *a)
         make_sections(a);
         return;
     }
-    if (a->call->way == BANDS || a->call->way == RATING || a->call->way == HOPPING || a->call->way == FEEDING) {
+    if (a->call->way == BANDS || a->call->way == RATING || a->call->way == HOPPING || a->call->way == FEEDING ||
+        a->call->way == CENTRING) {
         make_table(a);
         return;
     }
@@ -275,6 +276,9 @@ void make_attempt(struct attempt *a, const struct call *call)
             a->n[slot] = make_length(needed(a, (enum slot)slot), enough || below(3) > 0);
             random_bytes(a->before[slot], a->n[slot]);
         }
+    }
+    if (call->way == STANDING || call->way == CENTRING) {
+        make_standing(a);
     }
     if (call->slots & HAS(OUTCOMES)) {
         make_outcomes(a->before[OUTCOMES], a->n[OUTCOMES]);

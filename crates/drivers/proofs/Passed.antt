@@ -16,6 +16,7 @@ use Rattle.chip.specs.Calls.{Called, called}
 use Rattle.chip.specs.Entries.{noTries}
 use Rattle.chip.proofs.Laws.{and-left, and-right}
 use Rattle.wire.specs.Parts.{partsFrom}
+use Rattle.centre.specs.Centre.{centreOf}
 use Rattle.driver.specs.declared.Driver.{Driver}
 use Rattle.board.specs.declared.PathRead.{PathRead}
 use Rattle.board.specs.Numbers.{pathOf}
@@ -33,7 +34,7 @@ use Rattle.reply.specs.declared.TuneReply.{TuneReply}
 use Rattle.reply.specs.Replies.{replyOf, tunedOf}
 use Rattle.tuners.specs.Over.{nextOf}
 use Rattle.tuners.proofs.Passed.{none-refused, not-refused, refused}
-use Rattle.drivers.specs.Drivers.{Rates, bothReady, correctOver, corrects, correctsMade, hops, hopsBy, overBoth, rates, ratesMade, ratesRefused, lockTriesBoth}
+use Rattle.drivers.specs.Drivers.{Rates, bothReady, centreOver, correctOver, corrects, correctsMade, hops, hopsBy, overBoth, rates, ratesMade, ratesRefused, lockTriesBoth}
 
 -- either slice too short, or neither
 module _ (driver tuner : ℕ) where
@@ -146,6 +147,19 @@ module _ (ppm : ℤ) (t d : List ℕ) (tr : TunerRead) (dr : DriverRead) (is-tun
       (λ i. corrects (by-reply i) (by-tuner i) (by-driver i))
       ∙ ap (λ (x : Called Both). correctsMade x t d) (e ∙ (λ i. correctionCall ppm (is-tuner i .tuner) (is-driver i .driver)))
       ∙ rw (sym read-is ∙ h)
+
+-- the recording's centre
+module _ (table d t : List ℕ) (dr : DriverRead) (tr : TunerRead) (is-driver : dr ≡ driverOf d) (is-tuner : tr ≡ tunerOf t) where
+  both-read : (dr .ok && tr .ok) ≡ (driverOf d .ok && tunerOf t .ok)
+  both-read = λ i. is-driver i .ok && is-tuner i .ok
+
+  pub no-centre : (dr .ok && tr .ok) ≡ false → Refused 1 ≡ centreOver table d t
+  unfolding centreOver
+  no-centre h = rw (sym both-read ∙ h)
+
+  pub centred : (dr .ok && tr .ok) ≡ true → (a : Answer) → a ≡ centreOf table (dr .driver) (tr .tuner) → a ≡ centreOver table d t
+  unfolding centreOver
+  centred h a e = e ∙ (λ i. centreOf table (is-driver i .driver) (is-tuner i .tuner)) ∙ rw (sym both-read ∙ h)
 
 -- the board's path
 pub board-path-argued : (rs : List ℕ) (t : Tuner) (path : ℕ) → pathRefusal path ≡ argumentOf (boardRow (pathOf path) rs t)

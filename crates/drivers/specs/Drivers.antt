@@ -11,6 +11,7 @@ use Rattle.chip.specs.declared.Answer.{Answer}
 use Rattle.chip.specs.declared.Answer.the-variants.{Refused}
 use Rattle.chip.specs.Calls.{Called}
 use Rattle.bands.specs.Tables.{planBy}
+use Rattle.centre.specs.Centre.{centreOf}
 use Rattle.boards.specs.Hops.{hopRefusal, hopResult, hopLockTries}
 use Rattle.chip.specs.declared.LockTries.{LockTries}
 use Rattle.chip.specs.Courses.{argumentOf}
@@ -34,6 +35,10 @@ freshInto board nominal ppm frequency rate out =
 
 abbrev pub xtalOver : List ℕ → Answer
 xtalOver b = ofRecord (driverOf b .ok) (driverOf b .driver) (λ d. xtalAnswer (xtalOf d)) (Refused 1)
+
+-- the recording's centre: 1 for either record, then 19, 20 and 2
+unfoldable pub centreOver : List ℕ → List ℕ → List ℕ → Answer
+centreOver table d t = cond (driverOf d .ok && tunerOf t .ok) (centreOf table (driverOf d .driver) (tunerOf t .tuner)) (Refused 1)
 
 -- what a rate leaves: its answer, the room, the slices for both next records
 pub record Rates : Type 0 where

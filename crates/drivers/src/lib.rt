@@ -11,7 +11,7 @@ ghost use Rattle.records.specs.Tuners.{tunerBytes};
 ghost use Rattle.chip.specs.Entries.{lockTries};
 ghost use Rattle.reply.specs.Replies.{replyOf, tunedOf};
 ghost use Rattle.tuners.specs.Over.{after, nextOf, overTuner};
-ghost use Rattle.drivers.specs.Drivers.{bothReady, correctOver, corrects, freshInto, hopOver, hops, rateOver, rates, xtalOver};
+ghost use Rattle.drivers.specs.Drivers.{bothReady, centreOver, correctOver, corrects, freshInto, hopOver, hops, rateOver, rates, xtalOver};
 use boards::Hopped;
 use chip::Answer;
 use driver::Driver;
@@ -52,6 +52,19 @@ pub fn corrected_xtal_hz(driver: &[u8]) -> Answer
     }
     let given = read.driver;
     given.corrected_xtal_hz()
+}
+
+// The recording's centre, which writes neither record: 1 for either, then 19, 20 and 2.
+pub fn centre(driver: &[u8], tuner: &[u8], table: &[u8]) -> Answer
+    ensures { λ r. ⌜ r ≡ centreOver (now (table .entry)) (now (driver .entry)) (now (tuner .entry)) ⌝ }
+{
+    let d = records::decode_driver(driver);
+    let t = records::decode_tuner(tuner);
+    let whole = d.ok & t.ok;
+    if !whole {
+        return Answer::Refused(chip::SETUP);
+    }
+    centre::centre(d.driver, t.tuner, table)
 }
 
 // Both records first, then the argument's number, 0 for none, then the two slices that the next ones go to.

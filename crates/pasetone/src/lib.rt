@@ -15,7 +15,7 @@ ghost use Rattle.device.specs.Gpio.Order.{Output, Bit};
 ghost use Rattle.board.specs.Numbers.{pathOf};
 ghost use Rattle.driver.specs.Calls.{boardRow};
 ghost use Rattle.drivers.specs.Drivers as driver;
-ghost use Rattle.drivers.specs.Drivers.{correctOver, corrects, hopOver, hops, rateOver, rates, xtalOver};
+ghost use Rattle.drivers.specs.Drivers.{centreOver, correctOver, corrects, hopOver, hops, rateOver, rates, xtalOver};
 ghost use Rattle.expansion.specs.Expansion.{expandInto, readInto};
 ghost use Rattle.r82xx.specs.Orders.{courseOf};
 ghost use Rattle.r82xx.specs.Orders.Order.{Initialize, Reload, Bandwidth, IfFreq, Gain, GainIndex, InputPath, Tune, Notch, GainTold, IfTold};
@@ -27,7 +27,7 @@ ghost use Rattle.settings.specs.Reading.{movedTo1, movedTo2, readOf1, readOf2, 
 ghost use Rattle.transcript.specs.Sections.{sectionOf};
 ghost use Rattle.tuners.specs.Over.{after, overTuner, overTuning, tunedTo};
 ghost use Rattle.tuners.specs.Still as tuner;
-ghost use Rattle.tuners.specs.Still.{answerOver, changedInto, tableOver};
+ghost use Rattle.tuners.specs.Still.{answerOver, changedInto, oscillatorOver, tableOver};
 ghost use Rattle.pasetone.specs.Results.{outResult, outResultOf, roomResult, roomResultOf, yes};
 use commands::FeedReply;
 use parting::Place;
@@ -39,12 +39,12 @@ use settings::Reply2;
 use settings::Settings;
 use settings::Settings2;
 
-// 6.1.0: the major number times 65,536, the minor times 256, the patch.
+// 6.2.0: the major number times 65,536, the minor times 256, the patch.
 #[no_mangle]
 pub extern "C" fn pasetone_version() -> u32
-    ensures { λ r. ⌜ r ≡ 393472 ⌝ }
+    ensures { λ r. ⌜ r ≡ 393728 ⌝ }
 {
-    0x0006_0100
+    0x0006_0200
 }
 
 // The tuner: src/tuners/r82xx.rs.
@@ -183,6 +183,15 @@ pub extern "C" fn pasetone_get_if_freq(tuner: &[u8]) -> Reply
     reply::numbers(answer, 0)
 }
 
+// Ours: where the oscillator stands by the record's registers, in whole Hz.
+#[no_mangle]
+pub extern "C" fn pasetone_oscillator(tuner: &[u8]) -> Reply
+    ensures { λ r. ⌜ r ≡ replyOf (oscillatorOver (now (tuner .entry))) 0 ⌝ }
+{
+    let answer = tuners::oscillator(tuner);
+    reply::numbers(answer, 0)
+}
+
 #[no_mangle]
 pub extern "C" fn pasetone_get_gain_table(tuner: &[u8], out: &mut [u8]) -> Reply
     ensures { λ r. ⌜ outResult r (now (out .exit)) ≡ outResultOf (tableOver (now (tuner .entry)) (now (out .entry))) ⌝ }
@@ -221,6 +230,15 @@ pub extern "C" fn pasetone_corrected_xtal_hz(driver: &[u8]) -> Reply
     ensures { λ r. ⌜ r ≡ replyOf (xtalOver (now (driver .entry))) 0 ⌝ }
 {
     let answer = drivers::corrected_xtal_hz(driver);
+    reply::numbers(answer, 0)
+}
+
+// Ours: the recording's centre by both records and a table.
+#[no_mangle]
+pub extern "C" fn pasetone_centre(driver: &[u8], tuner: &[u8], table: &[u8]) -> Reply
+    ensures { λ r. ⌜ r ≡ replyOf (centreOver (now (table .entry)) (now (driver .entry)) (now (tuner .entry))) 0 ⌝ }
+{
+    let answer = drivers::centre(driver, tuner, table);
     reply::numbers(answer, 0)
 }
 

@@ -12,6 +12,7 @@ use Rattle.r82xx.specs.declared.Tuner.{Tuner}
 use Rattle.r82xx.specs.Orders.{Order, quietly}
 use Rattle.r82xx.specs.Record.{madeOf}
 use Rattle.records.specs.Tuners.{tunerBytes, tunerOf}
+use Rattle.station.specs.Station.{oscillatorOf}
 
 -- what is made of the record that bytes are read as, or what is returned where they are not valid; for any kind of record, since crate drivers uses it for its own
 unfoldable pub ofRecord : {R A : Type 0} → Bool → R → (R → A) → A → A
@@ -34,6 +35,10 @@ changedInto o b out =
 -- its answer alone
 abbrev pub answerOver : Order → List ℕ → Answer
 answerOver o b = ofRecord (tunerOf b .ok) (tunerOf b .tuner) (λ t. quietly o t .answer) (Refused 1)
+
+-- where the oscillator stands by the record; 20 after 1
+abbrev pub oscillatorOver : List ℕ → Answer
+oscillatorOver b = ofRecord (tunerOf b .ok) (tunerOf b .tuner) oscillatorOf (Refused 1)
 
 -- the gain table's bytes
 abbrev pub tableOver : List ℕ → List ℕ → Given

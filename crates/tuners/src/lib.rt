@@ -12,7 +12,7 @@ ghost use Rattle.records.specs.Tuners.{tunerBytes};
 ghost use Rattle.reply.specs.Replies.{replyOf};
 ghost use Rattle.chip.specs.declared.Answer.the-variants.{Refused};
 ghost use Rattle.tuners.specs.Over.{after, isWritten, nextOf, overTuner, overTuning, pathRefusal, readyOf, tunedTo};
-ghost use Rattle.tuners.specs.Still.{answerOver, changedInto, freshInto, tableOver};
+ghost use Rattle.tuners.specs.Still.{answerOver, changedInto, freshInto, oscillatorOver, tableOver};
 use chip::Answer;
 use r82xx::Tuner;
 use r82xx::TunerResult;
@@ -280,6 +280,18 @@ pub fn get_if_freq(tuner: &[u8]) -> Answer
     }
     let given = read.tuner;
     given.get_if_freq()
+}
+
+// Where the oscillator stands by the record's registers. Of no file of the Rust.
+pub fn oscillator(tuner: &[u8]) -> Answer
+    ensures { λ r. ⌜ r ≡ oscillatorOver (now (tuner .entry)) ⌝ }
+{
+    let held = records::decode_tuner(tuner);
+    if !held.ok {
+        return Answer::Refused(chip::SETUP);
+    }
+    let given = held.tuner;
+    station::oscillator(given)
 }
 
 pub fn get_gain_table(tuner: &[u8], out: &mut [u8]) -> Answer

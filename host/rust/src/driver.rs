@@ -124,6 +124,31 @@ impl Driver {
         unsafe { raw::pasetone_corrected_xtal_hz(self.record.as_ptr(), self.record.len()) }.value as u32
     }
 
+    /// The frequency in the middle of a recording, in Hz: [`Tuner::oscillator`] less the tuner's IF, less the shift of the table's band that holds this driver's
+    /// frequency. Give the table that the tunings were made with. An inverted band is answered in the same way: its spectrum is mirrored around the centre,
+    /// which does not move. Of the demodulator it knows nothing: where a rate was cut, that may be told another IF than the tuner's record has.
+    ///
+    /// ```
+    /// use pasetone::{Board, Driver, Script, Tuner, TunerKind};
+    ///
+    /// let mut tuner = Tuner::new(TunerKind::R828d, 0x74, 28_800_000)?;
+    /// let mut driver = Driver::new(Board::V4, 28_800_000, 0, 0, 0)?;
+    /// let table = Board::V4.table();
+    /// driver.tune_board(&mut tuner, &table, 7_000_000, &Script::all_done()).result?;
+    /// assert_eq!(driver.centre(&tuner, &table), Ok(CENTRE));
+    /// # Ok::<(), pasetone::Error>(())
+    /// ```
+    ///
+    /// # Errors
+    ///
+    /// - [`Error::Doubtful`] (20): one of the registers that the oscillator stands by is doubtful.
+    /// - [`Error::Frequency`] (2): the table has no plan for this driver's frequency, or the centre is below 0 or past 64 bits.
+    pub fn centre(&self, tuner: &Tuner, table: &Table) -> Result<u64, Error> {
+        let (d, t, b) = (&self.record, tuner.as_bytes(), table.as_bytes());
+        // SAFETY: see raw.rs.
+        unsafe { raw::pasetone_centre(d.as_ptr(), d.len(), t.as_ptr(), t.len(), b.as_ptr(), b.len()) }.result()
+    }
+
     /// The sample rate, on tuner and demodulator: 17 outcomes. Updates both records whenever it took steps: the tuner's IF changes before the
     /// first, the driver's rate and true rate when all are done. An IF of 0 stays 0. The spectrum follows the table's plan for the driver's frequency, and is
     /// not inverted where the table has none; [`Board::table`] is that of a built-in board. It moves the IF and tunes nothing: tune after it.

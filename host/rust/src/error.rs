@@ -45,6 +45,8 @@ pub enum Error {
     NotExpressible,
     /// 19: bands that are no well-formed table.
     Table,
+    /// 20: the oscillator stands by a register that is doubtful.
+    Doubtful,
     /// A number that this crate has no word for: the library is of another version. Of the one that it is built with it is never met.
     Other {
         /// The number.
@@ -75,6 +77,7 @@ impl Error {
             17 => Error::Settings,
             18 => Error::NotExpressible,
             19 => Error::Table,
+            20 => Error::Doubtful,
             number => Error::Other { number },
         })
     }
@@ -100,6 +103,7 @@ impl Error {
             Error::Settings => 17,
             Error::NotExpressible => 18,
             Error::Table => 19,
+            Error::Doubtful => 20,
             Error::Other { number } => number,
         }
     }
@@ -125,6 +129,7 @@ impl Error {
             Error::Settings => "settings",
             Error::NotExpressible => "not expressible",
             Error::Table => "table",
+            Error::Doubtful => "doubtful",
             Error::Other { .. } => "unknown",
         }
     }
@@ -168,6 +173,9 @@ impl Error {
             Error::Table => {
                 "the bands are no table: give at most 16, each with a first Hz not above its last and above the last of the band before, flags of 0 or 1 and a path up to 3"
             }
+            Error::Doubtful => {
+                "the oscillator stands by a register that is doubtful, so nothing is told of it: reload the tuner, then make the call that was cut again until it is done"
+            }
             Error::Other { .. } => "the library gives a number that this crate has no word for: build both from one tree",
         }
     }
@@ -196,7 +204,7 @@ mod tests {
         assert_eq!(Error::of(0, 7), None);
         for number in (1..300).chain([u32::MAX]) {
             let error = Error::of(number, 7).expect("a refusal");
-            assert_eq!((error.number(), matches!(error, Error::Other { .. })), (number, number == 5 || number > 19));
+            assert_eq!((error.number(), matches!(error, Error::Other { .. })), (number, number == 5 || number > 20));
         }
         assert_eq!(Error::of(11, 7), Some(Error::Step { index: 7 }));
     }

@@ -79,6 +79,15 @@ impl Receiver {
         self.driver.set_ppm(&mut self.tuner, ppm)
     }
 
+    /// [`Driver::centre`], by this table.
+    ///
+    /// # Errors
+    ///
+    /// As there.
+    pub fn centre(&self) -> Result<u64, Error> {
+        self.driver.centre(&self.tuner, &self.table)
+    }
+
     /// [`Driver::set_sample_rate`], by this table.
     ///
     /// # Errors

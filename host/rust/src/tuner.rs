@@ -292,6 +292,35 @@ impl Tuner {
         unsafe { raw::pasetone_get_if_freq(self.record.as_ptr(), self.record.len()) }.value
     }
 
+    /// Where the oscillator stands in Hz, cut to a whole number: by the bytes last sent to registers 0x10, 0x12, 0x14, 0x15 and 0x16 and the corrected
+    /// reference, whatever was asked. After a tuning to hz that was done and asked for no repair of the divider it is within 25 kHz / m of hz + IF (m is 32 from
+    /// 55,312,500 to 110,624,999: 782 Hz). A correction costs: the plan takes a thousandth of the reference cut to whole kHz, so with -1 ppm it was up to 287 Hz
+    /// above in the FM band, where it was 86 below to 38 above without.
+    /// [`Driver::centre`](crate::Driver::centre) is the frequency in the middle of a recording.
+    ///
+    /// ```
+    /// use pasetone::{Error, Script, Tuner, TunerKind};
+    ///
+    /// let mut tuner = Tuner::new(TunerKind::R820t, 0x34, 28_800_000)?;
+    /// tuner.initialize(&Script::all_done()).result?;
+    /// tuner.set_frequency(102_300_000, &Script::all_done()).result?;
+    /// assert_eq!(tuner.oscillator(), Ok(OSCILLATOR));
+    /// // Cut at its step 23, the next one leaves a register in doubt; a reload alone settles that, and stands beside both stations.
+    /// tuner.set_frequency(107_500_000, &Script::all_done().failing(CUT)?);
+    /// assert_eq!(tuner.oscillator(), Err(Error::Doubtful));
+    /// tuner.reload(&Script::all_done()).result?;
+    /// assert_eq!(tuner.oscillator(), Ok(BESIDE));
+    /// # Ok::<(), Error>(())
+    /// ```
+    ///
+    /// # Errors
+    ///
+    /// - [`Error::Doubtful`] (20): one of the five registers is doubtful, so that it may stand elsewhere.
+    pub fn oscillator(&self) -> Result<u64, Error> {
+        // SAFETY: see raw.rs.
+        unsafe { raw::pasetone_oscillator(self.record.as_ptr(), self.record.len()) }.result()
+    }
+
     /// The 29 gain steps in tenths of a dB.
     pub fn gain_table(&self) -> [i32; 29] {
         let mut bytes = [0; 116];

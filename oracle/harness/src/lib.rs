@@ -16,6 +16,7 @@ pub mod requests;
 pub mod restore;
 pub mod run;
 pub mod speed;
+pub mod standing;
 pub mod steps;
 pub mod tables;
 pub mod tally;
