@@ -4,7 +4,7 @@
 use crate::files::{self, Sink, Source, is_standard, shown};
 use crate::out::{End, Out};
 use crate::record::{self, Records};
-use crate::{entries, feed, held, help, hop, packets, parting, plan, reload, restore, settings, show, table, worksheet};
+use crate::{entries, feed, held, help, hop, packets, parting, plan, reload, restore, settings, show, table, whereabouts, worksheet};
 use std::ffi::{OsStr, OsString};
 use std::os::unix::ffi::OsStrExt;
 
@@ -43,6 +43,15 @@ pub const COMMANDS: &[Command] = &[
         run: reload::run,
     },
     Command {
+        name: "where",
+        operands: "RECORD",
+        about: "which station a kept record stands on",
+        more: whereabouts::MORE,
+        example: "where record",
+        options: whereabouts::OPTIONS,
+        run: whereabouts::run,
+    },
+    Command {
         name: "feed",
         operands: "FILE",
         about: "the commands of a serial line, one by one",
@@ -66,7 +75,7 @@ pub const COMMANDS: &[Command] = &[
         about: "what a chip holds behind sections",
         more: held::MORE,
         example: "held sections --address 0x74",
-        options: &[Key::Chip, Key::Json, Key::Quiet],
+        options: &[Key::Chip, Key::Reference, Key::Json, Key::Quiet],
         run: held::run,
     },
     Command {

@@ -9,8 +9,12 @@ use crate::numbers;
 use crate::out::{End, Out};
 use crate::registers::runs;
 use crate::sections::{ENTRY, Part, TRAILER, Walk};
-use pasetone::{Entry, EntryKind, Error, Transcript, Tuner};
+use pasetone::{Entry, EntryKind, Error, Transcript, Tuner, TunerKind};
 use std::collections::{BTreeMap, BTreeSet};
+
+/// Where a tuner's record has its shadow and its marks (include/pasetone.h).
+const SHADOW: usize = 2;
+const DOUBTFUL: usize = 51;
 
 /// All of it is sections.
 pub struct Day {
@@ -152,6 +156,19 @@ impl Chip {
         self.registers.iter().filter(|(_, held)| is(held)).map(|(register, _)| *register).collect()
     }
 
+    /// The oscillator by what the chip holds, at a corrected reference: the library's own answer, of a record that says the same of its registers.
+    pub fn oscillator(&self, reference: u32) -> Option<u64> {
+        let mut bytes = *Tuner::new(TunerKind::R828d, self.address, reference).ok()?.as_bytes();
+        for (at, (_, held)) in self.registers.iter().enumerate() {
+            let (byte, doubtful) = match held {
+                Held::Sure(byte, _) => (*byte, 0),
+                Held::Failed(..) | Held::Never => (0, 1),
+            };
+            (bytes[SHADOW + at], bytes[DOUBTFUL + at]) = (byte, doubtful);
+        }
+        Tuner::from_bytes(&bytes).ok()?.oscillator().ok()
+    }
+
     /// The exit status where a register is doubtful; a line too where nothing is printed.
     pub fn tell_doubt(&self, given: &Given, out: &mut Out) {
         let doubtful = self.those(|held| !matches!(held, Held::Sure(..)));
@@ -195,7 +212,7 @@ impl Chip {
 #[cfg(test)]
 mod tests {
     use super::*;
-    use pasetone::{Script, TunerKind};
+    use pasetone::Script;
 
     /// What the sections say is what the record says, whatever failed: every step of an initialisation and of a tuning behind it fails once.
     #[test]
@@ -213,6 +230,7 @@ mod tests {
                     assert_eq!(tuner.shadow(register), Some(byte));
                 }
             }
+            assert_eq!(day.chip(0x74).unwrap().oscillator(28_800_000), tuner.oscillator().ok());
             assert!(day.chip(0x34).unwrap().registers.iter().all(|(_, held)| matches!(held, Held::Never)));
         }
     }

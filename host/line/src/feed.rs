@@ -14,6 +14,7 @@ use crate::rows::{self, hex};
 use crate::run::{Call, Made, Start};
 use crate::script::{self, Endless};
 use crate::standing::Standing;
+use crate::station::Station;
 use crate::{advice, hop, json, numbers};
 use pasetone::{Board, Command, Driver, EntryKind, Error, Fed, Stream, Tuner};
 
@@ -289,7 +290,7 @@ impl Line<'_> {
         }
         // Of a line that brought nothing there is nothing to say.
         if self.count.all() > 0 {
-            Standing::of(&self.records).tell(&self.way_back(), out);
+            Standing::of(&self.records, Some(&self.place.table)).tell(&self.way_back(), out);
         }
         self.files.end(&self.sections, Some(&self.records), out);
     }
@@ -313,6 +314,7 @@ impl Line<'_> {
         report::note(self.script.unreached(), out);
         let (rate, truly, gain, ppm) = (driver.rate(), driver.true_rate(), tuner.gain(), driver.ppm());
         out.line(&format!("record: rate {rate} (true rate {truly}), gain {gain:.1} dB, correction {ppm} ppm"));
+        out.line(&format!("station: {}", Station::of(&self.records, Some(&self.place.table)).line()));
         out.line("");
         rows::registers(tuner, out);
     }
@@ -320,7 +322,7 @@ impl Line<'_> {
     fn json(&self, pending: usize, out: &mut Out) {
         let Records { tuner, driver, owed } = &self.records;
         out.line(if self.count.all() == 0 { "]," } else { "\n]," });
-        out.line(&json::members(&[
+        let mut fields = vec![
             ("done", self.count.done.to_string()),
             ("refused", self.count.refused.to_string()),
             ("stopped", self.count.stopped.to_string()),
@@ -334,7 +336,9 @@ impl Line<'_> {
             ("owed", json::array(owed.calls().iter().map(|call| json::string(call)))),
             ("station_known", owed.is_station_known().to_string()),
             ("registers", report::registers_json(tuner)),
-        ]));
+        ];
+        fields.extend(Station::of(&self.records, Some(&self.place.table)).json());
+        out.line(&json::members(&fields));
         out.line("}");
     }
 }

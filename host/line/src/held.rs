@@ -2,6 +2,7 @@
 use crate::command::{Given, Key};
 use crate::day::{self, Chip, Held};
 use crate::json;
+use crate::numbers;
 use crate::out::Out;
 use crate::registers::purpose;
 
@@ -10,10 +11,13 @@ pub const MORE: &[&str] = &[
     "standard input. A register is sure if its last write was done: the chip holds that byte. It is",
     "DOUBTFUL if its last write failed, or if none of the sections writes it. Steps are counted from 0",
     "over all files. Where a section is damaged nothing is said, and the exit status is 1; where a",
-    "register is doubtful it is 5.",
+    "register is doubtful it is 5. The oscillator is told by five of them and --reference, which is the",
+    "corrected one: sections do not name it.",
 ];
 
 pub fn run(given: &Given, out: &mut Out) {
+    let reference = given.value(Key::Reference, out, |text| u32::try_from(numbers::hertz(text)?).ok().filter(|hz| *hz > 0));
+    let reference = reference.unwrap_or(28_800_000);
     let Some((day, chip)) = day::of("held", given, out) else { return };
     let doubtful = chip.registers.len() - chip.sure().len();
     chip.tell_doubt(given, out);
@@ -22,7 +26,8 @@ pub fn run(given: &Given, out: &mut Out) {
     }
     if given.has(Key::Json) {
         let mut fields = Vec::from(day.json(&chip));
-        fields.extend([("doubtful", doubtful.to_string()), ("registers", chip.registers_json())]);
+        fields.extend([("doubtful", doubtful.to_string()), ("oscillator", json::maybe(chip.oscillator(reference)))]);
+        fields.push(("registers", chip.registers_json()));
         out.line(&json::document(&fields));
         return;
     }
@@ -32,6 +37,10 @@ pub fn run(given: &Given, out: &mut Out) {
     rows(&chip, out);
     out.line("");
     out.line(&format!("held: {} of {} registers are sure, {doubtful} doubtful", chip.sure().len(), chip.registers.len()));
+    out.line(&match chip.oscillator(reference) {
+        Some(hz) => format!("oscillator: {hz} Hz by 0x10, 0x12, 0x14, 0x15 and 0x16, with a reference of {reference} Hz"),
+        None => String::from("oscillator: unknown, since a register that it stands by is doubtful"),
+    });
     if let Some(note) = chip.note() {
         out.line(&note);
     }

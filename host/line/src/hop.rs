@@ -79,7 +79,7 @@ pub fn run(given: &Given, out: &mut Out) {
     } else if !given.has(Key::Quiet) {
         report.table(out);
     }
-    report::ended(&report.run, &report.told, &again, given.has(Key::Quiet), out);
+    report::ended(&report.run, &report.told, Some(&report.place.table), &again, given.has(Key::Quiet), out);
     report.run.keep(files, out);
 }
 

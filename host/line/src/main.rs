@@ -36,7 +36,9 @@ mod sections;
 mod settings;
 mod show;
 mod standing;
+mod station;
 mod table;
+mod whereabouts;
 mod worksheet;
 
 use command::Asked;

@@ -48,6 +48,8 @@ pub struct Owed {
     pub moved: Option<Moved>,
     /// The board is by a table, which the record does not name.
     pub table: bool,
+    /// The last tuning was the tuner's own: no band has shifted its frequency.
+    pub plain: bool,
     /// The frequency that was last asked for; 0 where none was.
     pub hz: u64,
 }
@@ -87,8 +89,14 @@ impl Owed {
             Job::If(hz) => (self.if_hz, self.tune) = (Some(hz), true),
             Job::DemodIf(_) => (self.if_hz, self.tune) = (None, true),
             Job::Bandwidth(_) => self.bandwidth = None,
-            Job::Tune(hz) => (self.tune, self.board, self.hz, self.moved) = (false, false, hz, moved(sent)),
-            Job::TunerTune(hz) => (self.tune, self.hz, self.moved) = (false, hz, moved(sent)),
+            Job::Tune(hz) => {
+                (self.tune, self.board, self.plain) = (false, false, false);
+                (self.hz, self.moved) = (hz, moved(sent));
+            }
+            Job::TunerTune(hz) => {
+                (self.tune, self.plain) = (false, true);
+                (self.hz, self.moved) = (hz, moved(sent));
+            }
             // The next tuning goes by the reference.
             Job::Correction => self.tune = true,
             // It sends what was sent: what a cut call has left is as it was.
@@ -106,8 +114,8 @@ impl Owed {
             Job::Gain(gain) => self.gain = Some(gain),
             Job::If(hz) | Job::DemodIf(hz) => (self.if_hz, self.tune) = (Some(hz), true),
             Job::Bandwidth(hz) => self.bandwidth = Some(hz),
-            Job::Tune(hz) => (self.tune, self.board, self.hz) = (true, true, hz),
-            Job::TunerTune(hz) => (self.tune, self.hz) = (true, hz),
+            Job::Tune(hz) => (self.tune, self.board, self.plain, self.hz) = (true, true, false, hz),
+            Job::TunerTune(hz) => (self.tune, self.plain, self.hz) = (true, true, hz),
             Job::Correction | Job::Reload => {}
         }
     }
@@ -185,7 +193,7 @@ impl Owed {
         };
         let mut bytes = [0; Owed::SIZE];
         bytes[0] = flags.iter().enumerate().map(|(bit, flag)| u8::from(*flag) << bit).sum();
-        (bytes[1], bytes[2]) = (moved, kind);
+        (bytes[1], bytes[2], bytes[3]) = (moved, kind, self.plain.into());
         bytes[4..8].copy_from_slice(&self.rate.unwrap_or(0).to_le_bytes());
         bytes[8..12].copy_from_slice(&gain.to_le_bytes());
         bytes[12..16].copy_from_slice(&self.if_hz.unwrap_or(0).to_le_bytes());
@@ -217,6 +225,7 @@ impl Owed {
             board: has(6),
             moved,
             table: has(7),
+            plain: bytes[3] == 1,
             hz: u64::from_le_bytes(std::array::from_fn(|k| bytes[20 + k])),
         };
         (owed.bytes() == *bytes).then_some(owed)
@@ -269,7 +278,7 @@ mod tests {
             assert_eq!(Owed::read(&owed.bytes()), Some(owed));
         }
         // A value without its flag, a gain or a move that is none, a byte that is used by nothing.
-        for (at, byte) in [(4, 1), (8, 1), (12, 1), (16, 1), (1, 3), (2, 1), (3, 1)] {
+        for (at, byte) in [(4, 1), (8, 1), (12, 1), (16, 1), (1, 3), (2, 1), (3, 2)] {
             let mut bytes = Owed::default().bytes();
             bytes[at] = byte;
             assert_eq!(Owed::read(&bytes), None, "{at}");

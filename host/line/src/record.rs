@@ -13,7 +13,7 @@ pub struct Records {
 
 pub const SIZE: usize = Tuner::SIZE + Driver::SIZE + Owed::SIZE;
 
-/// What was kept before 6.2.0, which says nothing of calls that were cut; before 4.0.0; and before 3.0.0.
+/// What was kept before 7.0.0, which says nothing of calls that were cut; before 4.0.0; and before 3.0.0.
 const OLD: [usize; 3] = [107, 134, 126];
 
 /// How much of a file tells whether it is a kept record.

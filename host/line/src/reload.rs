@@ -1,6 +1,7 @@
 //! `reload`: the first half of the way back after a step that failed. It sends a kept record's shadow again, every register of it; the call that was cut is
 //! then made again.
 use crate::answer::{self, Wish};
+use crate::boards::Place;
 use crate::command::{Given, Key};
 use crate::files::{self, called, is_standard};
 use crate::out::Out;
@@ -16,32 +17,39 @@ pub const MORE: &[&str] = &[
     "may stand beside its station, and of demodulator and board's input nothing is sent at all. Make the",
     "call that was cut again, until it is done; the line that reload ends with has it. It talks to no",
     "receiver: outcomes stand in for one. The record's file stays as it is; --keep writes the next",
-    "record, and may name the same file.",
+    "record, and may name the same file. A record does not name a table: give --table again.",
 ];
 
-pub const OPTIONS: &[Key] = &[Key::Fail, Key::Outcomes, Key::Keep, Key::Section, Key::Append, Key::Json, Key::Quiet];
+pub const OPTIONS: &[Key] = &[Key::Table, Key::Fail, Key::Outcomes, Key::Keep, Key::Section, Key::Append, Key::Json, Key::Quiet];
 
 pub fn run(given: &Given, out: &mut Out) {
     let fail = script::fail(given, out);
     given.names_other_files(out);
-    if given.operands.iter().any(|name| is_standard(name)) && given.word(Key::Outcomes).is_some_and(is_standard) {
-        out.mistake("standard input can be read once: give - to the record or to --outcomes");
+    let read = [Key::Outcomes, Key::Table];
+    if given.operands.iter().any(|name| is_standard(name)) && read.iter().any(|key| given.word(*key).is_some_and(is_standard)) {
+        out.mistake("standard input can be read once: give - to the record or to an option");
     }
+    given.reads_once(&read, out);
     let records = kept(given, out);
     let outcomes = script::outcomes(given, fail, out);
-    let Some(records) = records.filter(|_| !out.is_mistaken()) else { return };
+    let Some(records) = records else { return };
+    let place = Place::given(given, records.driver.board(), out);
+    if out.is_mistaken() {
+        return;
+    }
     let files = given.kept_files(out);
     let (false, [name]) = (out.is_mistaken(), given.operands.as_slice()) else { return };
-    let (before, table) = (records.tuner.clone(), records.driver.board().table());
+    let before = records.tuner.clone();
+    let table = given.has(Key::Table).then_some(&place.table);
     let run = Run::reload(records, outcomes);
     let kept = given.word(Key::Keep).unwrap_or(name);
     let again = run.records.as_ref().map_or_else(String::new, |records| advice::reload_again(kept, given, records));
-    let wish = Wish { hz: 0, rate: 0, table: &table, again: again.clone() };
+    let wish = Wish { hz: 0, rate: 0, table: &place.table, again: again.clone() };
     let told = answer::of(&run, &wish);
     let unreached = fail.filter(|step| run.steps <= *step);
     if given.has(Key::Json) {
         let mut fields = vec![("receiver", receiver_json(&before))];
-        fields.extend(report::run_json(&run, &told, unreached));
+        fields.extend(report::run_json(&run, &told, unreached, table));
         fields.extend([(
             "registers",
             run.records.as_ref().map_or_else(|| String::from("[]"), |records| report::registers_json(&records.tuner)),
@@ -49,9 +57,9 @@ pub fn run(given: &Given, out: &mut Out) {
         out.line(&json::document(&fields));
     } else if !given.has(Key::Quiet) {
         out.line(&head(&before));
-        report::table(&run, &told, unreached, out);
+        report::table(&run, &told, unreached, table, out);
     }
-    report::ended(&run, &told, &again, given.has(Key::Quiet), out);
+    report::ended(&run, &told, table, &again, given.has(Key::Quiet), out);
     run.keep(files, out);
 }
 

@@ -5,8 +5,9 @@ use crate::names::{self, Gain, gain_step};
 use crate::out::{End, Out};
 use crate::run::{Asked, Call, Made, Run, Start};
 use crate::standing::Standing;
+use crate::station::Station;
 use crate::{json, rows};
-use pasetone::{Plan, Tuner, TunerKind};
+use pasetone::{Plan, Table, Tuner, TunerKind};
 
 /// What the first lines tell of the receiver, before any call.
 pub struct Head {
@@ -80,7 +81,7 @@ impl Report {
         for line in self.head_lines() {
             out.line(&line);
         }
-        table(&self.run, &self.told, self.unreached, out);
+        table(&self.run, &self.told, self.unreached, Some(&self.place.table), out);
     }
 
     fn head_lines(&self) -> [String; 3] {
@@ -117,7 +118,7 @@ impl Report {
             ("asked", self.asked_json()),
             ("plan", json::maybe(self.plan.as_ref().map(plan_json))),
         ];
-        fields.extend(run_json(&self.run, &self.told, self.unreached));
+        fields.extend(run_json(&self.run, &self.told, self.unreached, Some(&self.place.table)));
         fields.extend([
             ("rate", json::maybe(records.map(|records| records.driver.rate()))),
             ("true_rate", json::maybe(records.map(|records| records.driver.true_rate()))),
@@ -145,7 +146,7 @@ impl Report {
 }
 
 /// The steps, the answer and the registers of a run.
-pub fn table(run: &Run, told: &Told, unreached: Option<usize>, out: &mut Out) {
+pub fn table(run: &Run, told: &Told, unreached: Option<usize>, board: Option<&Table>, out: &mut Out) {
     out.line("");
     rows::head(out);
     for made in &run.made {
@@ -153,6 +154,9 @@ pub fn table(run: &Run, told: &Told, unreached: Option<usize>, out: &mut Out) {
     }
     out.line("");
     told.lines(out);
+    if let Some(records) = &run.records {
+        out.line(&format!("station: {}", Station::of(records, board).line()));
+    }
     note(unreached, out);
     if let Some(records) = &run.records {
         out.line("");
@@ -168,9 +172,9 @@ pub fn note(unreached: Option<usize>, out: &mut Out) {
 }
 
 /// What runs tell alike.
-pub fn run_json(run: &Run, told: &Told, unreached: Option<usize>) -> [(&'static str, String); 7] {
+pub fn run_json(run: &Run, told: &Told, unreached: Option<usize>, table: Option<&Table>) -> Vec<(&'static str, String)> {
     let records = run.records.as_ref();
-    [
+    let mut fields = vec![
         ("calls", json::lines(run.made.iter().map(made_json))),
         ("answer", told.json(run.made.last().map(|made| made.call))),
         ("steps", run.steps.to_string()),
@@ -180,23 +184,25 @@ pub fn run_json(run: &Run, told: &Told, unreached: Option<usize>) -> [(&'static 
             records.map_or_else(|| String::from("[]"), |records| json::array(records.owed.calls().iter().map(|call| json::string(call)))),
         ),
         ("station_known", records.is_some_and(|records| records.owed.is_station_known()).to_string()),
-        ("status", how(run, told).status().to_string()),
-    ]
+        ("status", how(run, told, table).status().to_string()),
+    ];
+    fields.extend(records.into_iter().flat_map(|records| Station::of(records, table).json()));
+    fields
 }
 
 /// How a run ends: by its answer, and where that is done by how it leaves the receiver.
-fn how(run: &Run, told: &Told) -> End {
-    told.end().max(run.records.as_ref().filter(|_| told.number == 0).map_or(End::Done, |records| Standing::of(records).end()))
+fn how(run: &Run, told: &Told, table: Option<&Table>) -> End {
+    told.end().max(run.records.as_ref().filter(|_| told.number == 0).map_or(End::Done, |records| Standing::of(records, table).end()))
 }
 
 /// The end of every run: the answer in one line where nothing else was printed, and how the receiver stands where it was done.
-pub fn ended(run: &Run, told: &Told, again: &str, quiet: bool, out: &mut Out) {
+pub fn ended(run: &Run, told: &Told, table: Option<&Table>, again: &str, quiet: bool, out: &mut Out) {
     if told.number > 0 && quiet {
         out.tell(told.end(), &told.in_one_line());
     }
     out.ends(told.end());
     if let Some(records) = run.records.as_ref().filter(|_| told.number == 0) {
-        Standing::of(records).tell(again, out);
+        Standing::of(records, table).tell(again, out);
     }
 }
 

@@ -4,14 +4,18 @@ use crate::filed::{File, span};
 use crate::json;
 use crate::names::counted;
 use crate::out::{End, Out};
+use crate::record::{self, Records};
 use crate::rows::{self, hex};
 use crate::sections::{Damage, ENTRY, Flaw, Part, TRAILER, Walk};
+use crate::whereabouts;
 use pasetone::Transcript;
+use std::ffi::OsStr;
 
 pub const MORE: &[&str] = &[
     "A file holds sections end to end, as --section of hop writes them, and has any size; - is",
     "standard input, to 1 GiB. A damaged section is told by its number and bytes, with those of its",
     "entries that are whole; sections behind it keep their own numbers, and the exit status is 1.",
+    "A kept record is shown as `where` tells it.",
 ];
 
 pub fn run(given: &Given, out: &mut Out) {
@@ -23,7 +27,10 @@ pub fn run(given: &Given, out: &mut Out) {
     for name in &given.operands {
         match File::read(name) {
             Ok(file) => {
-                file.show(given, shown_before, out);
+                match record::read(&file.bytes) {
+                    Ok(records) => file.show_record(name, &records, given, shown_before, out),
+                    Err(_) => file.show(given, shown_before, out),
+                }
                 shown_before += 1;
             }
             Err(why) => out.mistake(&format!("show {why}")),
@@ -44,6 +51,21 @@ struct Count {
 }
 
 impl File {
+    /// A kept record: no file of sections has so many bytes.
+    fn show_record(&self, name: &OsStr, records: &Records, given: &Given, before: usize, out: &mut Out) {
+        if given.has(Key::Json) {
+            let mut fields = vec![("file", json::string(&self.name))];
+            fields.extend(whereabouts::fields(records, None));
+            out.text(&format!("{}{}", if before == 0 { "[\n" } else { ",\n" }, json::object(&fields)));
+        } else if !given.has(Key::Quiet) {
+            if given.operands.len() > 1 {
+                out.line(&format!("{}{}:", if before > 0 { "\n" } else { "" }, self.name));
+            }
+            whereabouts::lines(records, None, out);
+        }
+        whereabouts::tell(name, given, records, None, out);
+    }
+
     fn show(&self, given: &Given, before: usize, out: &mut Out) {
         let walk = Walk::of(&self.bytes);
         let mut count = Count::default();

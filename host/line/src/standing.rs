@@ -3,7 +3,8 @@
 use crate::out::{End, Out};
 use crate::record::Records;
 use crate::registers::runs;
-use pasetone::Tuner;
+use crate::station::Station;
+use pasetone::{Table, Tuner};
 
 pub struct Standing {
     /// Each with the exit status that it leads to.
@@ -11,12 +12,16 @@ pub struct Standing {
 }
 
 impl Standing {
-    pub fn of(records: &Records) -> Standing {
+    /// By the board's table, as [`Station::of`].
+    pub fn of(records: &Records, table: Option<&Table>) -> Standing {
         let Records { tuner, owed, .. } = records;
         let doubtful: Vec<u8> = tuner.doubtful().collect();
         let all = Tuner::registers().count();
         let registers = (!doubtful.is_empty()).then(|| format!("{} of {all} registers doubtful: {}", doubtful.len(), runs(&doubtful)));
-        let doubt: Vec<String> = owed.words().into_iter().chain(registers).collect();
+        // What is owed says why it is not known, where that is why.
+        let station = Station::of(records, table);
+        let beside = station.beside().filter(|_| station.is_known() || owed.words().is_none());
+        let doubt: Vec<String> = owed.words().into_iter().chain(beside).chain(registers).collect();
         let mut lines = Vec::new();
         if !doubt.is_empty() {
             lines.push((End::Doubtful, format!("DOUBTFUL: {}", doubt.join("; "))));
