@@ -438,7 +438,7 @@ pasetone_reply pasetone_corrected_xtal_hz(const uint8_t *driver, size_t driver_l
  * frequency asked for, it tells whether the receiver stands where it should; what the oscillator is off, it is off. It cannot know the demodulator: the
  * IF is the tuner record's, and where a rate was cut the demodulator may be told another. Give the table that the tunings were made with; after `set_frequency`,
  * which leaves the driver's frequency, the band is that of the `tune_board` before. Value: Hz. Refuses 1 (either record), 19, 20, 2 (the table has
- * no plan for the driver's frequency: in no band, or shifted below 0 or past 64 bits; or the centre itself is below 0 or past 64 bits).
+ * no plan for the driver's frequency: in no band, or shifted below 0 or past 64 bits; or the centre itself is below 0).
  */
 pasetone_reply pasetone_centre(const uint8_t *driver, size_t driver_len, const uint8_t *tuner, size_t tuner_len, const uint8_t *table,
                                size_t table_len);

@@ -134,15 +134,17 @@ impl Driver {
     /// let mut tuner = Tuner::new(TunerKind::R828d, 0x74, 28_800_000)?;
     /// let mut driver = Driver::new(Board::V4, 28_800_000, 0, 0, 0)?;
     /// let table = Board::V4.table();
-    /// driver.tune_board(&mut tuner, &table, 7_000_000, &Script::all_done()).result?;
-    /// assert_eq!(driver.centre(&tuner, &table), Ok(CENTRE));
+    /// // Behind three replies of GPIO, the fifth byte of the status asks for no repair of the divider.
+    /// driver.tune_board(&mut tuner, &table, 7_000_000, &Script::all_done().replying(7, 0x08)?).result?;
+    /// // The V4 takes 7 MHz up by 28.8 MHz; with the IF the tuner was asked for 38,100,000 Hz.
+    /// assert_eq!((tuner.oscillator(), driver.centre(&tuner, &table)), (Ok(38_100_009), Ok(7_000_009)));
     /// # Ok::<(), pasetone::Error>(())
     /// ```
     ///
     /// # Errors
     ///
     /// - [`Error::Doubtful`] (20): one of the registers that the oscillator stands by is doubtful.
-    /// - [`Error::Frequency`] (2): the table has no plan for this driver's frequency, or the centre is below 0 or past 64 bits.
+    /// - [`Error::Frequency`] (2): the table has no plan for this driver's frequency, or the centre is below 0.
     pub fn centre(&self, tuner: &Tuner, table: &Table) -> Result<u64, Error> {
         let (d, t, b) = (&self.record, tuner.as_bytes(), table.as_bytes());
         // SAFETY: see raw.rs.
