@@ -126,7 +126,9 @@ impl Driver {
 
     /// The frequency in the middle of a recording, in Hz: [`Tuner::oscillator`] less the tuner's IF, less the shift of the table's band that holds this driver's
     /// frequency. Give the table that the tunings were made with. An inverted band is answered in the same way: its spectrum is mirrored around the centre,
-    /// which does not move. Of the demodulator it knows nothing: where a rate was cut, that may be told another IF than the tuner's record has.
+    /// which does not move. Hold it against the frequency that was asked for, and not against [`Driver::frequency`], which stays where a tuning is cut. It
+    /// speaks of the oscillator alone: of the board's input and the demodulator it knows nothing, and where a rate was cut that may be told another IF than the
+    /// tuner's record has. So a call that was cut is made again until it is done, whatever this says.
     ///
     /// ```
     /// use pasetone::{Board, Driver, Script, Tuner, TunerKind};
