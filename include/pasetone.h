@@ -434,11 +434,12 @@ pasetone_reply pasetone_corrected_xtal_hz(const uint8_t *driver, size_t driver_l
 /*
  * The frequency in the middle of a recording: the oscillator, as `pasetone_oscillator`, less the tuner record's IF, less the shift of the band of `table` that
  * holds the driver's frequency. That is the one given at its making or by the last `tune_board` that was done; two bands can lead to one oscillator, so it alone
- * does not tell the band. An inverted band is answered in the same way: its spectrum is mirrored around the centre, which does not move. Held against the
- * frequency asked for, it tells whether the receiver stands where it should; what the oscillator is off, it is off. It cannot know the demodulator: the
- * IF is the tuner record's, and where a rate was cut the demodulator may be told another. Give the table that the tunings were made with; after `set_frequency`,
- * which leaves the driver's frequency, the band is that of the `tune_board` before. Value: Hz. Refuses 1 (either record), 19, 20, 2 (the table has
- * no plan for the driver's frequency: in no band, or shifted below 0 or past 64 bits; or the centre itself is below 0 or past 64 bits).
+ * does not tell the band. An inverted band is answered in the same way: its spectrum is mirrored around the centre, which does not move. Hold it against the
+ * frequency that was asked for, and not against the driver's, which stays where a tuning is cut: then it tells whether the oscillator stands where it should,
+ * as far off as the oscillator is. It does not tell whether the board's input and the demodulator do: a call that was cut is made again until it is done,
+ * whatever this says. It cannot know the demodulator: the IF is the tuner record's, and where a rate was cut the demodulator may be told another. Give the
+ * table that the tunings were made with; after `set_frequency`, which leaves the driver's frequency, the band is that of the `tune_board` before. Value: Hz. Refuses 1 (either record), 19, 20, 2 (the table has
+ * no plan for the driver's frequency: in no band, or shifted below 0 or past 64 bits; or the centre itself is below 0).
  */
 pasetone_reply pasetone_centre(const uint8_t *driver, size_t driver_len, const uint8_t *tuner, size_t tuner_len, const uint8_t *table,
                                size_t table_len);

@@ -299,6 +299,39 @@ static void check_correction(void)
     same_bytes("the refused driver record", next_driver, kept_driver, sizeof kept_driver);
 }
 
+/* Where the oscillator stands, by registers that are set here by hand, and the middle of a recording. 7 MHz on a V4: m 64, N 42, S 21,846; 28.8 MHz are taken back. */
+static void check_standing(void)
+{
+    static const uint8_t five[5][2] = {{0x10, 0xa0}, {0x12, 0x00}, {0x14, 0x47}, {0x15, 0x56}, {0x16, 0x55}}; /* 42 is 13 + 4 * 7 + 1 */
+    static const uint8_t none[1] = {0};
+    uint8_t at[PASETONE_TUNER_SIZE], of[PASETONE_DRIVER_SIZE];
+    unsigned i;
+    refused("a fresh record stands nowhere", pasetone_oscillator(TUNER), PASETONE_DOUBTFUL);
+    memcpy(at, tuner, sizeof at);
+    for (i = 0; i < 5; i++) {
+        at[PASETONE_TUNER_SHADOW + five[i][0] - PASETONE_FIRST_REGISTER] = five[i][1];
+        refused("doubt until the fifth", pasetone_oscillator(at, sizeof at), PASETONE_DOUBTFUL);
+        at[PASETONE_TUNER_DOUBTFUL + five[i][0] - PASETONE_FIRST_REGISTER] = 0;
+    }
+    done("38.1 MHz", pasetone_oscillator(at, sizeof at), 38100009, 0);
+    refused("a short record", pasetone_oscillator(at, sizeof at - 1), PASETONE_SETUP);
+    done("a driver at 7 MHz", pasetone_driver_new(PASETONE_V4, 28800000, 0, 7000000, 0, of, sizeof of), 0, 0);
+    done("its centre", pasetone_centre(of, sizeof of, at, sizeof at, TABLE), 7000009, 0);
+    done("at 102.3 MHz nothing is taken back", pasetone_centre(DRIVER, at, sizeof at, TABLE), 35800009, 0);
+    at[PASETONE_TUNER_SHADOW + 0x12 - PASETONE_FIRST_REGISTER] = 0x08;
+    done("the fraction off", pasetone_oscillator(at, sizeof at), 37800000, 0);
+    at[PASETONE_TUNER_SHADOW + 0x10 - PASETONE_FIRST_REGISTER] = 0xe0;
+    done("m 256", pasetone_oscillator(at, sizeof at), 9450000, 0);
+    refused("a centre below 0", pasetone_centre(of, sizeof of, at, sizeof at, TABLE), PASETONE_FREQUENCY);
+    refused("no band", pasetone_centre(of, sizeof of, at, sizeof at, none, 0), PASETONE_FREQUENCY);
+    at[PASETONE_TUNER_DOUBTFUL + 0x15 - PASETONE_FIRST_REGISTER] = 1;
+    refused("doubt before that", pasetone_centre(of, sizeof of, at, sizeof at, none, 0), PASETONE_DOUBTFUL);
+    refused("the table before doubt", pasetone_centre(of, sizeof of, at, sizeof at, none, 1), PASETONE_TABLE);
+    refused("the tuner's record before the table", pasetone_centre(of, sizeof of, at, sizeof at - 1, none, 1), PASETONE_SETUP);
+    refused("and the driver's", pasetone_centre(of, sizeof of - 1, at, sizeof at, none, 1), PASETONE_SETUP);
+    same("its word", strcmp(pasetone_refusal_word(PASETONE_DOUBTFUL), "doubtful") == 0 && strcmp(pasetone_refusal_word(21), "unknown") == 0, 1);
+}
+
 /* The board's tuning: its longest run, its records, and which refusal stands first. */
 static void check_board_tune(void)
 {
@@ -337,6 +370,7 @@ static void check_driver(void)
 {
     done("V4's table", pasetone_board_table(PASETONE_V4, TABLE), sizeof v4, 0);
     check_board_tune();
+    check_standing();
     refused("rate 0, no table", pasetone_set_sample_rate(DRIVER, TUNER, v4, 1, 0, OUTCOMES, ROOM, next_driver, 0, NEXT), PASETONE_TABLE);
     done("sample rate", pasetone_set_sample_rate(DRIVER, TUNER, TABLE, 3200000, OUTCOMES, ROOM, next_driver, sizeof next_driver, NEXT), 0, 17);
     done("its IF", pasetone_get_if_freq(NEXT), 3570000, 0);

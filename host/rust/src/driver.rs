@@ -126,7 +126,9 @@ impl Driver {
 
     /// The frequency in the middle of a recording, in Hz: [`Tuner::oscillator`] less the tuner's IF, less the shift of the table's band that holds this driver's
     /// frequency. Give the table that the tunings were made with. An inverted band is answered in the same way: its spectrum is mirrored around the centre,
-    /// which does not move. Of the demodulator it knows nothing: where a rate was cut, that may be told another IF than the tuner's record has.
+    /// which does not move. Hold it against the frequency that was asked for, and not against [`Driver::frequency`], which stays where a tuning is cut. It
+    /// speaks of the oscillator alone: of the board's input and the demodulator it knows nothing, and where a rate was cut that may be told another IF than the
+    /// tuner's record has. So a call that was cut is made again until it is done, whatever this says.
     ///
     /// ```
     /// use pasetone::{Board, Driver, Script, Tuner, TunerKind};
@@ -134,15 +136,17 @@ impl Driver {
     /// let mut tuner = Tuner::new(TunerKind::R828d, 0x74, 28_800_000)?;
     /// let mut driver = Driver::new(Board::V4, 28_800_000, 0, 0, 0)?;
     /// let table = Board::V4.table();
-    /// driver.tune_board(&mut tuner, &table, 7_000_000, &Script::all_done()).result?;
-    /// assert_eq!(driver.centre(&tuner, &table), Ok(CENTRE));
+    /// // Behind three replies of GPIO, the fifth byte of the status asks for no repair of the divider.
+    /// driver.tune_board(&mut tuner, &table, 7_000_000, &Script::all_done().replying(7, 0x08)?).result?;
+    /// // The V4 takes 7 MHz up by 28.8 MHz; with the IF the tuner was asked for 38,100,000 Hz.
+    /// assert_eq!((tuner.oscillator(), driver.centre(&tuner, &table)), (Ok(38_100_009), Ok(7_000_009)));
     /// # Ok::<(), pasetone::Error>(())
     /// ```
     ///
     /// # Errors
     ///
     /// - [`Error::Doubtful`] (20): one of the registers that the oscillator stands by is doubtful.
-    /// - [`Error::Frequency`] (2): the table has no plan for this driver's frequency, or the centre is below 0 or past 64 bits.
+    /// - [`Error::Frequency`] (2): the table has no plan for this driver's frequency, or the centre is below 0.
     pub fn centre(&self, tuner: &Tuner, table: &Table) -> Result<u64, Error> {
         let (d, t, b) = (&self.record, tuner.as_bytes(), table.as_bytes());
         // SAFETY: see raw.rs.

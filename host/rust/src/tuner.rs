@@ -301,15 +301,19 @@ impl Tuner {
     /// ```
     /// use pasetone::{Error, Script, Tuner, TunerKind};
     ///
+    /// // The fifth byte of the status asks for no repair of the divider.
+    /// let steady = Script::all_done().replying(4, 0x04)?;
     /// let mut tuner = Tuner::new(TunerKind::R820t, 0x34, 28_800_000)?;
-    /// tuner.initialize(&Script::all_done()).result?;
-    /// tuner.set_frequency(102_300_000, &Script::all_done()).result?;
-    /// assert_eq!(tuner.oscillator(), Ok(OSCILLATOR));
-    /// // Cut at its step 23, the next one leaves a register in doubt; a reload alone settles that, and stands beside both stations.
-    /// tuner.set_frequency(107_500_000, &Script::all_done().failing(CUT)?);
     /// assert_eq!(tuner.oscillator(), Err(Error::Doubtful));
-    /// tuner.reload(&Script::all_done()).result?;
-    /// assert_eq!(tuner.oscillator(), Ok(BESIDE));
+    /// tuner.set_frequency(102_300_000, &steady).result?;
+    /// assert_eq!((tuner.if_freq(), tuner.oscillator()), (2_300_000, Ok(104_600_006)));
+    /// // The next tuning is cut. A reload alone clears the doubt, and leaves the tuner beside both stations; the same call again does not.
+    /// let cut = tuner.set_frequency(107_500_000, &steady.clone().failing(13)?);
+    /// assert_eq!((cut.result, tuner.oscillator()), (Err(Error::Step { index: 13 }), Err(Error::Doubtful)));
+    /// tuner.reload(&steady).result?;
+    /// assert_eq!(tuner.oscillator(), Ok(110_000_006));
+    /// tuner.set_frequency(107_500_000, &steady).result?;
+    /// assert_eq!(tuner.oscillator(), Ok(109_800_000));
     /// # Ok::<(), Error>(())
     /// ```
     ///

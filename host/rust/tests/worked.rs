@@ -602,3 +602,24 @@ fn two_nights() {
     assert_eq!(parting(&one[1..], &one).map(|part| part.len()), Err(Error::Section));
     assert_eq!(parting(&one, &[]).map(|part| part.len()), Err(Error::Section));
 }
+
+/// Both bands of a V4 lead to one oscillator. A hop that is cut at its last step leaves the driver's frequency, by whose band the centre is told: held against the frequency asked for it is beside it.
+#[test]
+fn the_centre_goes_by_the_drivers_band() {
+    let (table, steady) = (Board::V4.table(), Script::all_done().replying(7, 0x08).unwrap());
+    let mut tuner = Tuner::new(TunerKind::R828d, 0x74, 28_800_000).unwrap();
+    let mut driver = Driver::new(Board::V4, 28_800_000, 0, 0, 0).unwrap();
+    assert_eq!((tuner.oscillator(), driver.centre(&tuner, &table)), (Err(Error::Doubtful), Err(Error::Doubtful)));
+    let done = driver.tune_board(&mut tuner, &table, 35_800_000, &steady);
+    assert_eq!((done.result, tuner.oscillator(), driver.centre(&tuner, &table)), (Ok(35_800_000), Ok(38_100_009), Ok(35_800_009)));
+    let last = done.transcript.len() - 1;
+    let cut = driver.tune_board(&mut tuner, &table, 7_000_000, &steady.clone().failing(last).unwrap());
+    assert_eq!(cut.result, Err(Error::Step { index: last }));
+    assert_eq!((driver.frequency(), tuner.oscillator(), driver.centre(&tuner, &table)), (35_800_000, Ok(38_100_009), Ok(35_800_009)));
+    assert_eq!(driver.tune_board(&mut tuner, &table, 7_000_000, &steady).result, Ok(7_000_000));
+    assert_eq!((tuner.oscillator(), driver.centre(&tuner, &table)), (Ok(38_100_009), Ok(7_000_009)));
+    assert_eq!(driver.centre(&tuner, &Table::new(&[]).unwrap()), Err(Error::Frequency));
+    // The correction moves the oscillator that the bytes stand for.
+    driver.set_ppm(&mut tuner, -1).unwrap();
+    assert_eq!(tuner.oscillator(), Ok(38_099_972));
+}

@@ -20,7 +20,7 @@ use std::hint::black_box;
 
 type Met = BTreeMap<&'static str, u64>;
 
-const MUST: [&str; 19] = [
+const MUST: [&str; 18] = [
     "oscillator: done",
     "oscillator: done, the fraction switched off over an S",
     "oscillator: done, m above 64",
@@ -36,7 +36,6 @@ const MUST: [&str; 19] = [
     "centre: 20",
     "centre: 2, no plan",
     "centre: 2, below 0",
-    "centre: 2, past 64 bits",
     "chain: on its station",
     "chain: repaired",
     "chain: beside the station after a cut tuning and a reload, told",
@@ -140,7 +139,14 @@ fn met_of(tuner: &Tuner, told: Result<u64, u32>, note: &mut dyn FnMut(&'static s
     }
 }
 
-fn met_centre(frequency: u64, tuner: &Tuner, table: &[u8], lo: Result<u64, u32>, told: Result<u64, u32>, note: &mut dyn FnMut(&'static str)) {
+fn met_centre(
+    frequency: u64,
+    tuner: &Tuner,
+    table: &[u8],
+    lo: Result<u64, u32>,
+    told: Result<u64, u32>,
+    note: &mut dyn FnMut(&'static str),
+) {
     let planned = tables::plan(table, frequency);
     match told {
         Err(1) => note("centre: 1"),
@@ -148,8 +154,8 @@ fn met_centre(frequency: u64, tuner: &Tuner, table: &[u8], lo: Result<u64, u32>,
         Err(20) => note("centre: 20"),
         Err(_) => match planned {
             Err(_) => note("centre: 2, no plan"),
-            Ok((tuned, _)) if tuned >= frequency || lo.is_ok_and(|lo| lo < tuner.intermediate) => note("centre: 2, below 0"),
-            Ok(_) => note("centre: 2, past 64 bits"),
+            // Past 64 bits none is: a shift downward is at most 2^63, an oscillator below 2^41.
+            Ok(_) => note("centre: 2, below 0"),
         },
         Ok(_) => {
             let (tuned, rest) = planned.expect("it has a plan");
@@ -179,11 +185,10 @@ fn drawn(spoil: u64, dice: &mut Dice, tally: &mut Tally, met: &mut Met) {
     if dice.yes() {
         driver.frequency = frequency(&table, dice);
     }
-    // An IF and a frequency with which the centre is about an end of what a u64 holds.
+    // An IF with which the centre is about 0.
     if let (Ok(lo), Ok((tuned, _)), 0) = (document::of_record(&tuner.bytes()), tables::plan(&table, driver.frequency), dice.below(4)) {
         let sum = i128::from(lo) - i128::from(tuned) + i128::from(driver.frequency);
-        let end = if dice.yes() { 0 } else { i128::from(u64::MAX) };
-        let near = sum - end + i128::from(dice.below(5)) - 2;
+        let near = sum + i128::from(dice.below(5)) - 2;
         tuner.intermediate = u64::try_from(near).unwrap_or(tuner.intermediate);
     }
     let (mut bytes, mut second) = (tuner.bytes(), driver.bytes());
@@ -225,8 +230,8 @@ fn divider(lo: u64) -> u64 {
     (1..=6).map(|doublings| 1 << doublings).find(|m| (1_770_000_000..3_600_000_000).contains(&(lo * m))).expect("a done tuning has one")
 }
 
-/// A done tuning to `lo`: the VCO is 24,999 Hz below lo·m at most and 17,998 above; m is the plan's where the status asks for no repair.
-fn on_station(lo: u64, tuner: &Tuner, section: &[u8], tally: &mut Tally, note: &mut dyn FnMut(&'static str)) {
+/// A done tuning to `lo`: the VCO is 24,999 Hz below lo·m at most and 17,998 above; m is the plan's where the status asks for no repair. Then how far off it may be.
+fn on_station(lo: u64, tuner: &Tuner, section: &[u8], tally: &mut Tally) -> Option<u64> {
     let byte = |register: usize| tuner.shadow[register - FIRST];
     let m = divider(lo);
     let vco = i128::from(document::oscillator(tuner.corrected, |register| if register == 0x10 { 0 } else { byte(register) })) * 2;
@@ -235,14 +240,11 @@ fn on_station(lo: u64, tuner: &Tuner, section: &[u8], tally: &mut Tally, note: &
     tally.that(vco + 2 + 24_999 >= aim && vco <= aim + 17_998, || format!("a VCO of {vco} for {aim}, {:02x?}", tuner.bytes()));
     let status = section.chunks_exact(16).find(|e| e[0] == 3 && e[3] == 5).expect("a done tuning reads the status")[12].reverse_bits();
     let (fine, reference) = (status >> 4 & 3, if tuner.kind == 1 { 1 } else { 2 });
-    if fine == reference {
-        note("chain: on its station");
-        let told = document::oscillator(tuner.corrected, byte);
-        let off = told.abs_diff(lo);
-        tally.that(off <= 25_000 / m + 1, || format!("{off} Hz off at m {m}: {told} for {lo}"));
-    } else {
-        note("chain: repaired");
-    }
+    (fine == reference).then(|| {
+        let (told, bound) = (document::oscillator(tuner.corrected, byte), 25_000 / m + 1);
+        tally.that(told.abs_diff(lo) <= bound, || format!("{told} for {lo} at m {m}"));
+        bound
+    })
 }
 
 /// Calls of the port on one receiver; after each, both calls beside both writings.
@@ -280,7 +282,7 @@ fn chain(spoil: u64, dice: &mut Dice, tally: &mut Tally, met: &mut Met) {
         let tuner = Tuner::read(&receiver.tuner).expect("a record");
         let told = oscillator(&receiver.tuner, spoil, dice, tally);
         tally.same(told, sent.oscillator(tuner.corrected), || format!("the oscillator of what was sent, call {call}"));
-        centre(&receiver.driver, &receiver.tuner, &table, spoil, dice, tally);
+        let middle = centre(&receiver.driver, &receiver.tuner, &table, spoil, dice, tally);
         let aim = match call {
             3 => Some(given.case.a),
             42 => tables::plan(&table, given.case.a).ok().map(|(tuned, _)| tuned),
@@ -288,7 +290,16 @@ fn chain(spoil: u64, dice: &mut Dice, tally: &mut Tally, met: &mut Met) {
         };
         match (aim, found.reply.refusal) {
             (Some(aim), 0) => {
-                on_station(aim + tuner.intermediate, &tuner, &section, tally, &mut note);
+                match on_station(aim + tuner.intermediate, &tuner, &section, tally) {
+                    None => note("chain: repaired"),
+                    Some(bound) => {
+                        note("chain: on its station");
+                        // Of the board's tuning, the middle of the recording is the frequency that was asked for; of the lowest it may be below 0.
+                        let hz = given.case.a;
+                        let near = middle.map_or(hz < bound, |middle| middle.abs_diff(hz) <= bound) || call == 3;
+                        tally.that(near, || format!("{middle:?} is the middle after a done tuning to {}", given.case.a));
+                    }
+                }
                 cut = None;
             }
             (Some(aim), 11) => cut = Some(aim + tuner.intermediate),
