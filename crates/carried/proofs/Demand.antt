@@ -271,16 +271,16 @@ flag-none true e = absurd (omega arith)
 flag-none false e = refl
 
 module _ (b : List ℕ) (es : List Entry) (c : Carried b es) where
-  abbrev t : Tuner
+  abbrev pub t : Tuner
   t = behind b es c .tuner
 
-  is : b ≡ tunerBytes t
+  pub is : b ≡ tunerBytes t
   is = behind b es c .bytes
 
-  ranges : Ranged t
+  pub ranges : Ranged t
   ranges = behind b es c .ranges
 
-  calls : Sequence t es
+  pub calls : Sequence t es
   calls = behind b es c .sequence
 
   -- the bytes that a host holds are a record's: no call on them is refused 1 for its tuner's record
@@ -290,7 +290,7 @@ module _ (b : List ℕ) (es : List Entry) (c : Carried b es) where
   pub long : length b ≡ 78
   long = ap length is ∙ image-long t ranges
 
-  address : getD b 1 0 ≡ t .chip .address
+  pub address : getD b 1 0 ≡ t .chip .address
   address = ap (λ (d : List ℕ). getD d 1 0) is ∙ address-byte t ranges
 
   mark : (i : ℕ) → i < 27 → getD b (51 + i) 1 ≡ flagByte (getD (t .chip .doubtful) i true)
@@ -345,13 +345,13 @@ module _ (b : List ℕ) (es : List Entry) (c : Carried b es) where
   -- ---- one call more, on the bytes at the end
 
   module _ (k : Lent) (h : typed (k .exported) ≡ true) where
-    abbrev inner : Call
+    abbrev pub inner : Call
     inner = call (orderOf (k .exported)) (k .outcomes) (k .room)
 
-    abbrev number : ℕ
+    abbrev pub number : ℕ
     number = turned (k .exported) (k .next) t
 
-    pass : Passed t inner number (amiss (k .exported)) (leaves k b)
+    pub pass : Passed t inner number (amiss (k .exported)) (leaves k b)
     pass =
         subst (λ (d : List ℕ). Passed t inner number (amiss (k .exported)) (leaves k d)) (sym is)
         (passed t es calls ranges (k .exported) (k .outcomes) (k .room) (k .next) h)
@@ -494,7 +494,7 @@ module _ (b : List ℕ) (es : List Entry) (c : Carried b es) where
           )
 
   -- of a call that is answered 0: so is the call behind it, and the host reads its entries
-  answered : (k : Lent) (h : typed (k .exported) ≡ true) → leaves k b .reply .refusal ≡ 0
+  pub answered : (k : Lent) (h : typed (k .exported) ≡ true) → leaves k b .reply .refusal ≡ 0
       → (before now : Regs) → Played (getD b 1 0) (es ++ entriesOf k b) before now
       → (numberOf (result (inner k h) t .answer) ≡ 0) × Played (t .chip .address) (es ++ entries (inner k h) t) before now
   answered k h e before now played = go (pass k h)
@@ -509,10 +509,10 @@ module _ (b : List ℕ) (es : List Entry) (c : Carried b es) where
           )
 
   -- the record that the bytes are
-  abbrev u : Tuner
+  abbrev pub u : Tuner
   u = tunerOf b .tuner
 
-  same-tuner : t ≡ u
+  pub same-tuner : t ≡ u
   same-tuner = sym (ap (λ (l : List ℕ). tunerOf l .tuner) is ∙ ap (λ (r : TunerRead). r .tuner) (read-written t ranges))
 
   -- ---- #101: what the two tunings tell of their tries

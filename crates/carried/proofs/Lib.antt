@@ -2,6 +2,7 @@ pub mod Steady
 pub mod Ranges
 pub mod Passed
 pub mod Demand
+pub mod Stations
 pub mod Driven
 pub mod Fed
 pub mod Worked

@@ -1,3 +1,5 @@
 pub mod Oscillator
+pub mod Repaired
 pub mod Rests
+pub mod Sharp
 pub mod Worked

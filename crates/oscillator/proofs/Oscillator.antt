@@ -98,8 +98,10 @@ near-made vco m number r h taken fits =
     let S : ℕ = sumOf k f .sum in
     let N : ℕ = wholeOf vco r in
     let is : S ≡ bitsOf 16 k 2 (sumStart f) = omega (arith, sum-is 16 0 k 2 (sumStart f) refl refl) in
-    let lower : 65_536 * takenOf 16 k 2 (sumStart f) ≤ 2 * k * S = subst (λ (x : ℕ). 65_536 * takenOf 16 k 2 (sumStart f) ≤ 2 * k * x) (sym is) (low 16 0 k 2 (sumStart f) refl refl) in
-    let upper : 2 * k * S ≤ 65_536 * (takenOf 16 k 2 (sumStart f) + 16) = subst (λ (x : ℕ). 2 * k * x ≤ 65_536 * (takenOf 16 k 2 (sumStart f) + 16)) (sym is) (high 16 0 k 2 (sumStart f) refl refl) in
+    let lower : 65_536 * takenOf 16 k 2 (sumStart f) ≤ 2 * k * S =
+    subst (λ (x : ℕ). 65_536 * takenOf 16 k 2 (sumStart f) ≤ 2 * k * x) (sym is) (low 16 0 k 2 (sumStart f) refl refl) in
+    let upper : 2 * k * S ≤ 65_536 * (takenOf 16 k 2 (sumStart f) + 16) =
+    subst (λ (x : ℕ). 2 * k * x ≤ 65_536 * (takenOf 16 k 2 (sumStart f) + 16)) (sym is) (high 16 0 k 2 (sumStart f) refl refl) in
     let part : 2 * r * N ≤ vco = mul-div-le vco (2 * r) in
     let thousand : 1000 * k ≤ r = omega arith in
     let rest-of : r ≤ 1000 * k + 999 = omega arith in
@@ -118,7 +120,8 @@ near kind lo r p is =
     go : Known kind lo r p → Near lo r (madeOf (lo * p .m) (p .m) (p .number) r)
     go w =
         let q : Plan = madeOf (lo * p .m) (p .m) (p .number) r in
-        let taken : takenOf 16 (r / 1000) 2 (sumStart (q .fraction)) + q .rest ≡ q .fraction = subst (λ (x : Plan). takenOf 16 (r / 1000) 2 (sumStart (x .fraction)) + x .rest ≡ x .fraction) (w .made) (w .taken) in
+        let taken : takenOf 16 (r / 1000) 2 (sumStart (q .fraction)) + q .rest ≡ q .fraction =
+        subst (λ (x : Plan). takenOf 16 (r / 1000) 2 (sumStart (x .fraction)) + x .rest ≡ x .fraction) (w .made) (w .taken) in
         let fits : q .sum < 2 ^ 16 = subst (λ (x : Plan). x .sum < 2 ^ 16) (w .made) (w .sum) in
         let both = near-made (lo * p .m) (p .m) (p .number) r (w .reference) taken fits in
         record { below = both .0; above = both .1 }
@@ -146,7 +149,8 @@ rest-24 kind lo r p is =
     let f : Found lo (p .m) (p .number) = found lo (p .m) (p .number) (w .divider) in
     let thirteen : 13 ≤ wholeOf vco r = subst (λ (x : Plan). 13 ≤ x .n) (w .made) (w .least) in
     let small : r < 138_461_539 = reference-most vco r (f .high) thirteen in
-    let left : sumOf (r / 1000) (fractionOf vco r) .rest ≤ 2 * (r / 1000) / 32_768 + 16 = rest-most (r / 1000) (fractionOf vco r) (fraction-most vco r (w .reference)) in
+    let left : sumOf (r / 1000) (fractionOf vco r) .rest ≤ 2 * (r / 1000) / 32_768 + 16 =
+    rest-most (r / 1000) (fractionOf vco r) (fraction-most vco r (w .reference)) in
     subst (λ (x : Plan). x .rest ≤ 24) (sym (w .made)) (omega (arith, left, small))
 
 -- the divider is a power of two, and its number says which
@@ -186,7 +190,7 @@ module _ (kind : Kind) (lo r : ℕ) (p : Plan) (is : planOf kind lo r ≡ Planne
   abbrev w : Known kind lo r p
   w = known kind lo r p is
 
-  divider-says : dividerIn reg ≡ p .m
+  pub divider-says : dividerIn reg ≡ p .m
   divider-says = ap (λ (x : ℕ). 2 ^ suc x) (says .divided) ∙ sym (divider-power lo (p .m) (p .number) (w .divider))
 
   whole-says : wholeIn reg ≡ p .n
@@ -199,7 +203,7 @@ module _ (kind : Kind) (lo r : ℕ) (p : Plan) (is : planOf kind lo r ≡ Planne
       go true f = sym (no-sum kind lo r p is (f refl))
       go false f = omega (arith, says .low, says .high)
 
-  vco-says : vcoIn r reg ≡ 2 * r * (65_536 * p .n + p .sum)
+  pub vco-says : vcoIn r reg ≡ 2 * r * (65_536 * p .n + p .sum)
   vco-says = (λ i. 2 * r * (65_536 * whole-says i + sum-says i))
 
   pub within : Within lo r reg
@@ -212,7 +216,8 @@ module _ (kind : Kind) (lo r : ℕ) (p : Plan) (is : planOf kind lo r ≡ Planne
       }
 
 -- the same in whole Hz: at most 24,999 / m, and the one that is cut off, below; at most 17,998 / m above
-pub whole-hz : (lo r : ℕ) (reg : Bytes) → Within lo r reg → (lo * dividerIn reg < (hzIn r reg + 1) * dividerIn reg + 24_999) × (hzIn r reg * dividerIn reg ≤ lo * dividerIn reg + 17_998)
+pub whole-hz : (lo r : ℕ) (reg : Bytes) → Within lo r reg
+    → (lo * dividerIn reg < (hzIn r reg + 1) * dividerIn reg + 24_999) × (hzIn r reg * dividerIn reg ≤ lo * dividerIn reg + 17_998)
 whole-hz lo r reg w =
     let m : ℕ = dividerIn reg in
     let some : 0 < 65_536 * m = omega (arith, pow-pos (suc (reg 0x10 / 32))) in
@@ -243,7 +248,8 @@ module _ (r : ℕ) (a b : Bytes) (same : (i : ℕ) → standsBy i ≡ true → a
 pub each-five : (P : ℕ → Type 0) → P 0x10 → P 0x12 → P 0x14 → P 0x15 → P 0x16 → (r : ℕ) → standsBy r ≡ true → P r
 each-five P a b c d e r h = go (eqb r 0x10) refl (eqb r 0x12) refl (eqb r 0x14) refl (eqb r 0x15) refl (eqb r 0x16) refl
   where
-    go : (v : Bool) → eqb r 0x10 ≡ v → (u : Bool) → eqb r 0x12 ≡ u → (x : Bool) → eqb r 0x14 ≡ x → (y : Bool) → eqb r 0x15 ≡ y → (z : Bool) → eqb r 0x16 ≡ z → P r
+    go : (v : Bool) → eqb r 0x10 ≡ v → (u : Bool) → eqb r 0x12 ≡ u → (x : Bool) → eqb r 0x14 ≡ x → (y : Bool) → eqb r 0x15 ≡ y → (z : Bool) → eqb r 0x16 ≡ z
+        → P r
     go true i u j x k y l z m = subst P (sym (eqb-true r 0x10 i)) a
     go false i true j x k y l z m = subst P (sym (eqb-true r 0x12 j)) b
     go false i false j true k y l z m = subst P (sym (eqb-true r 0x14 k)) c

@@ -47,7 +47,8 @@ turn-going k n s e h = go (takesTurn k n s)
     go false = e
 
 -- turns up to n = 32,768
-turns-leave : (t i k n : ℕ) (s : Sum) → n ≡ 2 * 2 ^ i → t + i ≡ 15 → s .stopped ≡ false → s .rest ≤ 2 * k / 2 ^ i + (i + 1) → turnsOf t k n s .rest ≤ 2 * k / 32_768 + 16
+turns-leave : (t i k n : ℕ) (s : Sum) → n ≡ 2 * 2 ^ i → t + i ≡ 15 → s .stopped ≡ false → s .rest ≤ 2 * k / 2 ^ i + (i + 1)
+    → turnsOf t k n s .rest ≤ 2 * k / 32_768 + 16
 unfolding turnsOf
 turns-leave zero i k n s e l o r =
     let fifteen : i ≡ 15 = omega arith in

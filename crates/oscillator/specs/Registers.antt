@@ -1,6 +1,7 @@
 -- Where the oscillator stands, by the bytes of five of the tuner's registers. Of them alone: no plan, no call and no record is asked.
 -- Document 01's rules, "PLL", read backwards: "Divider m: the first of 2, 4, .. 64"; "a = (N-13)/4 ..; s = N - (13 + 4a) ..
--- 0x14 gets a or (s shifted left by 6)"; S is the sum, in 65,536ths of 2R; 0x12 is told whether F is 0.
+-- 0x14 gets a or (s shifted left by 6)"; S is the sum, in 65,536ths of 2R; 0x12 is told whether F is 0. In the Rust it is
+-- `set_pll_raw` of src/tuners/r82xx.rs that writes them: `div_num << 5`, `ni | (si << 6)`, `sdm` and `pw_sdm`.
 -- Assumes nothing.
 use Prim.Native.Nat.{ℕ, suc, _+_, _*_, _/_, _%_, _^_, _≤_}
 use mathlib.Core.Bool.{Bool, _||_, cond}
@@ -22,7 +23,8 @@ dividerIn reg = 2 ^ suc (reg 0x10 / 32)
 abbrev pub wholeIn : Bytes → ℕ
 wholeIn reg = 13 + 4 * (reg 0x14 % 64) + reg 0x14 / 64
 
--- bit 3 of 0x12 switches the fraction off
+-- Bit 3 of 0x12 switches the fraction off. A tuning sets it where F is 0, and then S is 0 too: so it is no matter that the first try
+-- without a lock writes 0x06 there, which clears it again
 abbrev pub off : ℕ → Bool
 off byte = eqb (byte / 8 % 2) 1
 

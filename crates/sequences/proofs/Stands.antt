@@ -1,5 +1,5 @@
--- Where a tuning that is answered done leaves the PLL's registers: N, S and the divider of its plan, the divider one off where it was repaired; and nothing of them
--- in doubt. Assumes nothing.
+-- Where a tuning that is answered done leaves the PLL's registers: N, S and the divider of its plan, the divider one off where it was repaired; and nothing
+-- of them in doubt. Assumes nothing.
 use Prim.Native.Nat.{ℕ, zero, suc, _+_, _-_, _*_, _/_, _%_, _≤_, _<_}
 use mathlib.Core.Path.{_≡_, refl, sym, ap, subst, _∙_}
 use mathlib.Core.Bool.{Bool, true, false, not, cond, _&&_, _||_, false≢true, true≢false}
@@ -78,7 +78,8 @@ module _ (os : List ℕ) where
   spared : (x a : ℕ) (d : Bool) (ss : List Step) (t : Trace) → every (spares x) ss ≡ true → Holds x a d t → Holds x a d (run inList os ss t)
   spared x a d ss t g h = run-keeps os (Holds x a d) (spares x) keeps ss t g h
     where
-      keeps : (s : Step) (u : Trace) → spares x s ≡ true → acts s (u .progress) (u .opened) ≡ true → Holds x a d u → Holds x a d (taken inList os (okFor os (u .count) s) s u)
+      keeps : (s : Step) (u : Trace) → spares x s ≡ true → acts s (u .progress) (u .opened) ≡ true → Holds x a d u
+          → Holds x a d (taken inList os (okFor os (u .count) s) s u)
       keeps Open u q e p = p
       keeps Close u q e p = p
       keeps (Send n bytes) u q e p = absurd (false≢true q)
@@ -139,7 +140,8 @@ module _ (os : List ℕ) where
       by-ok false e = absurd (false≢true (ap goes e))
 
   -- the last write of register 5 + x in a program that went through
-  pub last-write : (before : List Step) (x v m : ℕ) (after : List Step) (t : Trace) → x < 27 → Long t → every plainly before ≡ true → every (spares x) after ≡ true
+  pub last-write : (before : List Step) (x v m : ℕ) (after : List Step) (t : Trace) → x < 27 → Long t → every plainly before ≡ true
+      → every (spares x) after ≡ true
       → run inList os (before ++ (Mask (5 + x) v m ∷ after)) t .progress ≡ Going
       → (old : ℕ) × Holds x (maskOf old v m) false (run inList os (before ++ (Mask (5 + x) v m ∷ after)) t)
   unfolding run
@@ -180,7 +182,8 @@ module _ (os : List ℕ) where
         by-ok true k e = refl
         by-ok false k e = absurd (false≢true (ap goes e))
 
-        keeps : (s : Step) (u : Trace) → clears s ≡ true → acts s (u .progress) (u .opened) ≡ true → Steady u → Steady (taken inList os (okFor os (u .count) s) s u)
+        keeps : (s : Step) (u : Trace) → clears s ≡ true → acts s (u .progress) (u .opened) ≡ true → Steady u
+            → Steady (taken inList os (okFor os (u .count) s) s u)
         keeps Open u q e p = (p .0, λ z. p .1 (by-going (u .progress) e))
         keeps Close u q e p = p
         keeps (Send n bytes) u q e p = absurd (false≢true q)
@@ -332,7 +335,8 @@ module _ (os : List ℕ) (address : ℕ) (kind : Kind) (notch : Bool) (p : Plan)
     pub low-there : Holds os 16 (p .sum % 256) false end
     unfolding run every innerSteps
     low-there =
-        let w = last-write os (open-first ++ (Mask 0x10 (p .number * 32) 0xe0 ∷ Mask 0x14 (p .setting) 0xff ∷ Mask 0x16 (p .sum / 256) 0xff ∷ [])) 16 (p .sum % 256) 0xff
+        let w =
+        last-write os (open-first ++ (Mask 0x10 (p .number * 32) 0xe0 ∷ Mask 0x14 (p .setting) 0xff ∷ Mask 0x16 (p .sum / 256) 0xff ∷ [])) 16 (p .sum % 256) 0xff
         (Mask 0x12 (cond (eqb (p .fraction) 0) 0x08 0x00) 0x08 ∷ rest) t (omega arith) long refl
         (tail-passes address kind notch p hz rs (spares 16) (λ e. refl) refl refl (λ v. refl) refl) g in
         (w .1 .0 ∙ whole-byte (w .0) (p .sum % 256) (omega arith), w .1 .1)
@@ -342,7 +346,8 @@ module _ (os : List ℕ) (address : ℕ) (kind : Kind) (notch : Bool) (p : Plan)
     unfolding run every innerSteps
     control-there =
         let v : ℕ = cond (eqb (p .fraction) 0) 0x08 0x00 in
-        let head : List Step = open-first ++ (Mask 0x10 (p .number * 32) 0xe0 ∷ Mask 0x14 (p .setting) 0xff ∷ Mask 0x16 (p .sum / 256) 0xff ∷ Mask 0x15 (p .sum % 256) 0xff ∷ []) in
+        let head : List Step =
+        open-first ++ (Mask 0x10 (p .number * 32) 0xe0 ∷ Mask 0x14 (p .setting) 0xff ∷ Mask 0x16 (p .sum / 256) 0xff ∷ Mask 0x15 (p .sum % 256) 0xff ∷ []) in
         let u : Trace = run inList os (head ++ (Mask 0x12 v 0x08 ∷ [])) t in
         let app : end ≡ run inList os rest u = run-app inList os (head ++ (Mask 0x12 v 0x08 ∷ [])) rest t in
         let going : u .progress ≡ Going = going-before os rest u (ap (λ (z : Trace). z .progress) (sym app) ∙ g) in
@@ -367,14 +372,16 @@ module _ (os : List ℕ) (address : ℕ) (kind : Kind) (notch : Bool) (p : Plan)
 
     late-spares : every (spares 11) (triesFrom address rs 10 0 ++ (Close ∷ [])) ≡ true
     unfolding every
-    late-spares = every-append (spares 11) (triesFrom address rs 10 0) (Close ∷ []) (tries-pass address kind notch p hz rs (spares 11) (λ e. refl) refl refl 10 0) refl
+    late-spares =
+        every-append (spares 11) (triesFrom address rs 10 0) (Close ∷ []) (tries-pass address kind notch p hz rs (spares 11) (λ e. refl) refl refl 10 0) refl
 
     repaired-so : (k : ℕ) → k < 8 → run inList os (with-repair (masked 0x10 (k * 32) 0xe0 ∷ [])) t .progress ≡ Going
         → (getD (run inList os (with-repair (masked 0x10 (k * 32) 0xe0 ∷ [])) t .chip .shadow) 11 0 / 32 ≡ k)
         × (getD (run inList os (with-repair (masked 0x10 (k * 32) 0xe0 ∷ [])) t .chip .doubtful) 11 true ≡ false)
     unfolding run every
     repaired-so k h e =
-        let w = last-write os (open-first ++ (updates (pllUpdates p) ++ statusSteps address rs)) 11 (k * 32) 0xe0 (triesFrom address rs 10 0 ++ (Close ∷ [])) t (omega arith) long refl late-spares e in
+        let w =
+        last-write os (open-first ++ (updates (pllUpdates p) ++ statusSteps address rs)) 11 (k * 32) 0xe0 (triesFrom address rs 10 0 ++ (Close ∷ [])) t (omega arith) long refl late-spares e in
         (ap (λ (y : ℕ). y / 32) (w .1 .0) ∙ high-bits (w .0) k h, w .1 .1)
 
     unrepaired : p .number < 8 → run inList os (with-repair []) t .progress ≡ Going

@@ -1,6 +1,6 @@
--- "A recording filed under the wrong transmitter": a tuning that is answered done, and whose divider was not repaired, has the chip's oscillator at the frequency
--- asked, plus the IF, but for what the PLL's whole numbers leave: 25 kHz divided by m. On a board it is the frequency that the table planned. Said of the
--- registers alone, on every chip on which the entries were played, after any sequence of calls. Assumes nothing.
+-- "A recording filed under the wrong transmitter": a tuning that is answered done, and whose divider was not repaired, has the chip's oscillator at the
+-- frequency asked, plus the IF, but for what the PLL's whole numbers leave: 25 kHz divided by m. On a board it is the frequency that the table planned.
+-- Said of the registers alone, on every chip on which the entries were played, after any sequence of calls. Assumes nothing.
 use Prim.Native.Nat.{ℕ, _+_, _-_, _<_}
 use mathlib.Core.Path.{_≡_, refl, sym, ap, subst, _∙_}
 use mathlib.Core.Bool.{Bool, true, false, cond}
@@ -33,7 +33,8 @@ use Rattle.sequences.proofs.Stands.{repaired}
 use Rattle.sequences.proofs.Tunings.{Kept, hopped-stands, isDone, tuned-stands}
 
 -- no repair: the status says the VCO's band as it should be
-same-number : (address : ℕ) (kind : Kind) (notch : Bool) (p : Plan) (hz : ℕ) (rs : List ℕ) → fineOf (getD rs 4 0) ≡ powerOf kind → repaired address kind notch p hz rs ≡ p .number
+pub same-number : (address : ℕ) (kind : Kind) (notch : Bool) (p : Plan) (hz : ℕ) (rs : List ℕ) → fineOf (getD rs 4 0) ≡ powerOf kind
+    → repaired address kind notch p hz rs ≡ p .number
 unfolding repaired
 same-number address kind notch p hz rs e =
     ap (λ (f : ℕ). cond (ltb (powerOf kind) f) (p .number - 1) (cond (ltb f (powerOf kind)) (p .number + 1) (p .number))) e ∙ go kind
@@ -45,7 +46,8 @@ same-number address kind notch p hz rs e =
 module _ (t : Tuner) (es : List Entry) (s : Sequence t es) where
   pub on-station : (hz : ℕ) (rs os room : List ℕ) → given (Tuned (Tune hz rs)) t ≡ true → isDone (result (call (Tuned (Tune hz rs)) os room) t .answer) ≡ true
       → fineOf (getD rs 4 0) ≡ powerOf (t .kind)
-      → (before now : Regs) → Played (t .chip .address) (es ++ entries (call (Tuned (Tune hz rs)) os room) t) before now → Within (hz + t .ifreq) (t .corrected) now
+      → (before now : Regs) → Played (t .chip .address) (es ++ entries (call (Tuned (Tune hz rs)) os room) t) before now
+      → Within (hz + t .ifreq) (t .corrected) now
   on-station hz rs os room g h fine before now played =
       let w = tuned-stands t es s hz rs os room g h before now played in
       within (t .kind) (hz + t .ifreq) (t .corrected) (w .0) (w .1) now
@@ -67,7 +69,7 @@ module _ (t : Tuner) (es : List Entry) (s : Sequence t es) where
 
 -- a register that is in no doubt holds the byte last attempted: so a frequency that is told is where the chip's oscillator stands
 module _ (t : Tuner) (es : List Entry) (s : Sequence t es) (before now : Regs) (played : Played (t .chip .address) es before now) where
-  holds-five : unsure (t .chip) ≡ false → (r : ℕ) → standsBy r ≡ true → now r ≡ attemptedAt (t .chip) r
+  pub holds-five : unsure (t .chip) ≡ false → (r : ℕ) → standsBy r ≡ true → now r ≡ attemptedAt (t .chip) r
   holds-five h =
       let at : (i : ℕ) → i < 27 → getD (t .chip .doubtful) i true ≡ false → now (5 + i) ≡ getD (t .chip .shadow) i 0 = sure-holds t es s before now played in
       let no : (r : ℕ) → standsBy r ≡ true → doubtfulAt (t .chip) r ≡ false = sure (t .chip) h in
@@ -85,7 +87,8 @@ module _ (t : Tuner) (es : List Entry) (s : Sequence t es) where
       → oscillatorOf (tunerAfter k t) ≡ Done (hzIn (t .corrected) now)
   told-after k g w before now played =
       let u : Tuner = tunerAfter k t in
-      let mine : Played (u .chip .address) (es ++ entries k t) before now = subst (λ (a : ℕ). Played a (es ++ entries k t) before now) (sym (w .address)) played in
+      let mine : Played (u .chip .address) (es ++ entries k t) before now =
+      subst (λ (a : ℕ). Played a (es ++ entries k t) before now) (sym (w .address)) played in
       sym
       (told u (hzIn (t .corrected) now) (w .ranges) (w .sure)
       (ap (λ (r : ℕ). hzIn r now) (sym (w .corrected))

@@ -1,5 +1,5 @@
--- A tuning that is answered done, by itself or on a board, over any sequence of calls: on every chip the PLL's registers say its plan, with the divider one off where
--- it was repaired. Assumes nothing.
+-- A tuning that is answered done, by itself or on a board, over any sequence of calls: on every chip the PLL's registers say its plan, with the divider one
+-- off where it was repaired. Assumes nothing.
 use Prim.Native.Nat.{ℕ, _+_, _*_, _/_, _%_, _≤_, _<_}
 use mathlib.Core.Path.{_≡_, refl, sym, ap, subst, _∙_}
 use mathlib.Core.Bool.{Bool, true, false, cond, _&&_, false≢true}
@@ -68,13 +68,14 @@ isDone (Refused number) = false
 isDone (Stopped index) = false
 
 -- what is known of one
-record Went {R : Type 0} (number : ℕ) (os : List ℕ) (ss : List Step) (c : Chip) (keep : Trace → R) (x : Called R) : Type 0 where
+pub record Went {R : Type 0} (number : ℕ) (os : List ℕ) (ss : List Step) (c : Chip) (keep : Trace → R) (x : Called R) : Type 0 where
   pub taken-up : eqb number 0 ≡ true
   pub going : trace os ss c .progress ≡ Going
   pub left : x .next ≡ keep (trace os ss c)
 
-went : {R : Type 0} (number : ℕ) (whole : Answer) (os : List ℕ) (ss : List Step) (c : Chip) (keep : Trace → R) (old : R) (room : List ℕ)
-    → isDone (callOf number whole os ss c keep old room .answer) ≡ true → (isDone whole ≡ true) × Went number os ss c keep (callOf number whole os ss c keep old room)
+pub went : {R : Type 0} (number : ℕ) (whole : Answer) (os : List ℕ) (ss : List Step) (c : Chip) (keep : Trace → R) (old : R) (room : List ℕ)
+    → isDone (callOf number whole os ss c keep old room .answer) ≡ true
+    → (isDone whole ≡ true) × Went number os ss c keep (callOf number whole os ss c keep old room)
 unfolding callOf
 went {R} number whole os ss c keep old room h = go (eqb number 0) refl
   where
@@ -92,13 +93,14 @@ went {R} number whole os ss c keep old room h = go (eqb number 0) refl
         absurd (false≢true (ap (λ (d : Called R). isDone (d .answer)) (sym same) ∙ h))
 
 -- one that is not refused was given records in their ranges
-accepted : (b : Bool) (argument n m room os rs : ℕ) → eqb (refusalWith b argument n m room os rs) 0 ≡ true → b ≡ true
+pub accepted : (b : Bool) (argument n m room os rs : ℕ) → eqb (refusalWith b argument n m room os rs) 0 ≡ true → b ≡ true
 accepted true argument n m room os rs h = refl
 accepted false argument n m room os rs h = absurd (false≢true h)
 
 -- told as the number 0 it is done
 number-done : {R : Type 0} (number : ℕ) (x : Pll) (hz : ℕ) (os : List ℕ) (ss : List Step) (c : Chip) (keep : Trace → R) (old : R) (room : List ℕ)
-    → numberOf (callOf number (tuneAnswer x hz) os ss c keep old room .answer) ≡ 0 → isDone (callOf number (tuneAnswer x hz) os ss c keep old room .answer) ≡ true
+    → numberOf (callOf number (tuneAnswer x hz) os ss c keep old room .answer) ≡ 0
+    → isDone (callOf number (tuneAnswer x hz) os ss c keep old room .answer) ≡ true
 unfolding callOf
 number-done number x hz os ss c keep old room = go (eqb number 0) refl
   where
@@ -107,7 +109,8 @@ number-done number x hz os ss c keep old room = go (eqb number 0) refl
     by (pll-variants.Planned p) Going e = refl
     by y (Refused11 k) e = absurd (omega arith)
 
-    go : (b : Bool) → eqb number 0 ≡ b → numberOf (cond b (performed (tuneAnswer x hz) keep room (trace os ss c)) (called old room 0 (Refused number)) .answer) ≡ 0
+    go : (b : Bool) → eqb number 0 ≡ b
+        → numberOf (cond b (performed (tuneAnswer x hz) keep room (trace os ss c)) (called old room 0 (Refused number)) .answer) ≡ 0
         → isDone (cond b (performed (tuneAnswer x hz) keep room (trace os ss c)) (called old room 0 (Refused number)) .answer) ≡ true
     go true e h = by x (trace os ss c .progress) h
     go false e h = absurd (eqb-false number 0 e h)
@@ -132,7 +135,8 @@ pub record Kept (t u : Tuner) : Type 0 where
 leaves-sure : (p : Plan) (number : ℕ) (c : Chip) → Leaves p number c → unsure c ≡ false
 leaves-sure p number c w = rw (w .divided .1, w .control .1, w .whole .1, w .low .1, w .high .1)
 
-kept-so : (t u : Tuner) (c : Chip) → sound t ≡ true → u .nominal ≡ t .nominal → u .corrected ≡ t .corrected → u .chip ≡ c → c .address ≡ t .chip .address → unsure c ≡ false → Kept t u
+kept-so : (t u : Tuner) (c : Chip) → sound t ≡ true → u .nominal ≡ t .nominal → u .corrected ≡ t .corrected → u .chip ≡ c → c .address ≡ t .chip .address
+    → unsure c ≡ false → Kept t u
 kept-so t u c a n r h there w =
     record {
       ranges = (λ i. soundBy (n i) (r i)) ∙ a;
@@ -168,7 +172,8 @@ module _ (t : Tuner) (es : List Entry) (s : Sequence t es) where
       → (before now : Regs) → Played (t .chip .address) (es ++ entries k t) before now → Says p number now
   says k g tr same address p number w before now played =
       let there : tunerAfter k t .chip .address ≡ t .chip .address = ap (λ (c : Chip). c .address) same ∙ address in
-      let mine : Played (tunerAfter k t .chip .address) (es ++ entries k t) before now = subst (λ (a : ℕ). Played a (es ++ entries k t) before now) (sym there) played in
+      let mine : Played (tunerAfter k t .chip .address) (es ++ entries k t) before now =
+      subst (λ (a : ℕ). Played a (es ++ entries k t) before now) (sym there) played in
       let holds : (i : ℕ) → i < 27 → getD (tr .chip .doubtful) i true ≡ false → now (5 + i) ≡ getD (tr .chip .shadow) i 0 = (λ i l q.
       sure-holds (tunerAfter k t) (es ++ entries k t) (next t es s k g) before now mine i l (ap (λ (c : Chip). getD (c .doubtful) i true) same ∙ q)
       ∙ ap (λ (c : Chip). getD (c .shadow) i 0) same) in
@@ -202,16 +207,20 @@ module _ (t : Tuner) (es : List Entry) (s : Sequence t es) (hz : ℕ) (rs os roo
           → (p : Plan) × (planFor t hz ≡ pll-variants.Planned p) × Says p (repaired (t .chip .address) (t .kind) (t .notch) p hz rs) now × Kept t (tunerAfter tune t)
       by pll-variants.Refused e =
           let is : result tune t ≡ byPlan t hz os rs room pll-variants.Refused = tune-by-plan t hz os rs room ∙ ap (byPlan t hz os rs room) e in
-          let w = went number (Refused 2) os (tuneOf t pll-variants.Refused hz rs) (t .chip) (lockKept t) t room (ap (λ (d : Called Tuner). isDone (d .answer)) (sym is) ∙ h) in
+          let w =
+          went number (Refused 2) os (tuneOf t pll-variants.Refused hz rs) (t .chip) (lockKept t) t room (ap (λ (d : Called Tuner). isDone (d .answer)) (sym is) ∙ h) in
           absurd (false≢true (w .0))
       by (pll-variants.Planned p) e =
           let is : result tune t ≡ byPlan t hz os rs room (pll-variants.Planned p) = tune-by-plan t hz os rs room ∙ ap (byPlan t hz os rs room) e in
           let ss : List Step = tuneOf t (pll-variants.Planned p) hz rs in
           let w = went number (Done hz) os ss (t .chip) (lockKept t) t room (ap (λ (d : Called Tuner). isDone (d .answer)) (sym is) ∙ h) in
-          let same : tunerAfter tune t .chip ≡ run inList os ss start .chip = ap (λ (d : Called Tuner). d .next .chip) is ∙ ap (λ (u : Tuner). u .chip) (w .1 .left) in
+          let same : tunerAfter tune t .chip ≡ run inList os ss start .chip =
+          ap (λ (d : Called Tuner). d .next .chip) is ∙ ap (λ (u : Tuner). u .chip) (w .1 .left) in
           let kn : Known (t .kind) (hz + t .ifreq) (t .corrected) p = known (t .kind) (hz + t .ifreq) (t .corrected) p e in
-          let leaves = tune-leaves os (t .chip .address) (t .kind) (t .notch) p hz rs start (long-there t es s os) (w .1 .going) (kn .number) (kn .setting) (kn .sum) in
-          let nominal : tunerAfter tune t .nominal ≡ t .nominal = ap (λ (d : Called Tuner). d .next .nominal) is ∙ ap (λ (u : Tuner). u .nominal) (w .1 .left) in
+          let leaves =
+          tune-leaves os (t .chip .address) (t .kind) (t .notch) p hz rs start (long-there t es s os) (w .1 .going) (kn .number) (kn .setting) (kn .sum) in
+          let nominal : tunerAfter tune t .nominal ≡ t .nominal =
+          ap (λ (d : Called Tuner). d .next .nominal) is ∙ ap (λ (u : Tuner). u .nominal) (w .1 .left) in
           let corrected : tunerAfter tune t .corrected ≡ t .corrected = ap (λ (d : Called Tuner). d .next .corrected) is ∙ ap (λ (u : Tuner). u .corrected) (w .1 .left) in (
             p,
             e,
@@ -220,7 +229,8 @@ module _ (t : Tuner) (es : List Entry) (s : Sequence t es) (hz : ℕ) (rs os roo
                 (leaves-sure p _ _ leaves),
           )
 
-pub tune-done : (t : Tuner) (hz : ℕ) (rs os room : List ℕ) → numberOf (result (call (Tuned (Tune hz rs)) os room) t .answer) ≡ 0 → isDone (result (call (Tuned (Tune hz rs)) os room) t .answer) ≡ true
+pub tune-done : (t : Tuner) (hz : ℕ) (rs os room : List ℕ) → numberOf (result (call (Tuned (Tune hz rs)) os room) t .answer) ≡ 0
+    → isDone (result (call (Tuned (Tune hz rs)) os room) t .answer) ≡ true
 unfolding resultOf leftBy
 tune-done t hz rs os room h = number-done _ (planFor t hz) hz os _ (t .chip) (lockKept t) t room h
 
@@ -246,7 +256,8 @@ quiet (Plain e) = true
 quiet-run : (os : List ℕ) (ss : List Step) (u : Trace) → every quiet ss ≡ true → run inList os ss u .chip ≡ u .chip
 quiet-run os ss u g = run-keeps os (λ (w : Trace). w .chip ≡ u .chip) quiet keeps ss u g refl
   where
-    keeps : (s : Step) (w : Trace) → quiet s ≡ true → acts s (w .progress) (w .opened) ≡ true → w .chip ≡ u .chip → taken inList os (okFor os (w .count) s) s w .chip ≡ u .chip
+    keeps : (s : Step) (w : Trace) → quiet s ≡ true → acts s (w .progress) (w .opened) ≡ true → w .chip ≡ u .chip
+        → taken inList os (okFor os (w .count) s) s w .chip ≡ u .chip
     keeps Open w q e p = p
     keeps Close w q e p = p
     keeps (Send n bytes) w q e p = absurd (false≢true q)
@@ -295,7 +306,8 @@ module _ (t : Tuner) (es : List Entry) (s : Sequence t es) (hz : ℕ) (table rs 
           × Says p (repaired (t .chip .address) (t .kind) (at .plan .notch) p (at .plan .hz) left) now × Kept t (tunerAfter hop t)
       by pll-variants.Refused e =
           let is : hopResult at hz rs os t d room ≡ byHop pll-variants.Refused = hop-by-plan ∙ ap byHop e in
-          let w = went number (Refused 2) os (hopSteps (t .kind) (t .chip .address) (at .plan) pll-variants.Refused rs) (t .chip) (hopKept t d (at .plan) (Refused 2) hz) (both t d) room
+          let w =
+          went number (Refused 2) os (hopSteps (t .kind) (t .chip .address) (at .plan) pll-variants.Refused rs) (t .chip) (hopKept t d (at .plan) (Refused 2) hz) (both t d) room
           (ap (λ (x : Called Both). isDone (x .answer)) (sym is) ∙ h) in
           absurd (false≢true (w .0))
       by (pll-variants.Planned p) e =
@@ -304,7 +316,8 @@ module _ (t : Tuner) (es : List Entry) (s : Sequence t es) (hz : ℕ) (table rs 
           let ss : List Step = tuneSteps (t .chip .address) (t .kind) (at .plan .notch) (pll-variants.Planned p) (at .plan .hz) left in
           let post : List Step = ddcSteps (at .plan .inverted) in
           let all : List Step = pre ++ (ss ++ post) in
-          let w = went number (Done hz) os all (t .chip) (hopKept t d (at .plan) (Done hz) hz) (both t d) room (ap (λ (x : Called Both). isDone (x .answer)) (sym is) ∙ h) in
+          let w =
+          went number (Done hz) os all (t .chip) (hopKept t d (at .plan) (Done hz) hz) (both t d) room (ap (λ (x : Called Both). isDone (x .answer)) (sym is) ∙ h) in
           let u : Trace = run inList os pre start in
           let v : Trace = run inList os ss u in
           let app : run inList os all start ≡ run inList os post v = run-app inList os pre (ss ++ post) start ∙ run-app inList os ss post u in
@@ -316,8 +329,10 @@ module _ (t : Tuner) (es : List Entry) (s : Sequence t es) (hz : ℕ) (table rs 
           let long : Long os u = long-run os pre start (path-plain os (t .kind) (at .plan .path) rs) (long-there t es s os) in
           let leaves = tune-leaves os (t .chip .address) (t .kind) (at .plan .notch) p (at .plan .hz) left u long going (kn .number) (kn .setting) (kn .sum) in
           let there = subst (Leaves p _) (sym end) leaves in
-          let nominal : tunerAfter hop t .nominal ≡ t .nominal = ap (λ (x : Called Both). x .next .tuner .nominal) is ∙ ap (λ (b : Both). b .tuner .nominal) (w .1 .left) in
-          let corrected : tunerAfter hop t .corrected ≡ t .corrected = ap (λ (x : Called Both). x .next .tuner .corrected) is ∙ ap (λ (b : Both). b .tuner .corrected) (w .1 .left) in
+          let nominal : tunerAfter hop t .nominal ≡ t .nominal =
+          ap (λ (x : Called Both). x .next .tuner .nominal) is ∙ ap (λ (b : Both). b .tuner .nominal) (w .1 .left) in
+          let corrected : tunerAfter hop t .corrected ≡ t .corrected =
+          ap (λ (x : Called Both). x .next .tuner .corrected) is ∙ ap (λ (b : Both). b .tuner .corrected) (w .1 .left) in
           let ranges : sound t ≡ true = and-left (sound t) (soundDriver d) (accepted (sound t && soundDriver d) (hopRefusal at (t .ifreq)) 64 38 (length room) (length os) (length rs) (w .1 .taken-up)) in (
             p,
             e,
@@ -325,7 +340,9 @@ module _ (t : Tuner) (es : List Entry) (s : Sequence t es) (hz : ℕ) (table rs 
             kept-so t (tunerAfter hop t) (run inList os all start .chip) ranges nominal corrected same (run-address inList os all start) (leaves-sure p _ _ there),
           )
 
-pub hop-done : (t : Tuner) (hz : ℕ) (table rs : List ℕ) (d : Driver) (os room : List ℕ) → numberOf (result (call (BoardTune hz table rs d) os room) t .answer) ≡ 0
+pub hop-done : (t : Tuner) (hz : ℕ) (table rs : List ℕ) (d : Driver) (os room : List ℕ)
+    → numberOf (result (call (BoardTune hz table rs d) os room) t .answer) ≡ 0
     → isDone (result (call (BoardTune hz table rs d) os room) t .answer) ≡ true
 unfolding hopResult leftBy
-hop-done t hz table rs d os room h = number-done _ (planFor t (planBy table hz .plan .hz)) hz os _ (t .chip) (hopKept t d (planBy table hz .plan) _ hz) (both t d) room h
+hop-done t hz table rs d os room h =
+    number-done _ (planFor t (planBy table hz .plan .hz)) hz os _ (t .chip) (hopKept t d (planBy table hz .plan) _ hz) (both t d) room h

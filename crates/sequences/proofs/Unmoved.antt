@@ -1,5 +1,5 @@
--- A call that is no tuning, no initialising and no reload names none of the five registers that the oscillator stands by: whatever its outcomes, the oscillator stays
--- where it was, on every chip and by the record. Assumes nothing.
+-- A call that is no tuning, no initialising and no reload names none of the five registers that the oscillator stands by: whatever its outcomes, the
+-- oscillator stays where it was, on every chip and by the record. Assumes nothing.
 use Prim.Native.Nat.{ℕ, _+_, _-_, _≤_, _<_}
 use mathlib.Core.Path.{_≡_, refl, sym, ap, subst, _∙_}
 use mathlib.Core.Bool.{Bool, true, false, not, cond, _&&_, _||_, false≢true, true≢false}
@@ -92,9 +92,11 @@ module _ (r : ℕ) (five : standsBy r ≡ true) where
           let not-it : standsBy s ≡ false = not-true (standsBy s) (and-right (fine (Mask s v m)) (not (standsBy s)) q) in
           absurd (true≢false (sym five ∙ ap standsBy equal ∙ not-it))
 
-  unnamed-trace : (os : List ℕ) (ss : List Step) (c : Chip) → every (λ (s : Step). fine s && elsewhere s) ss ≡ true → lastIn (c .address) (trace os ss c .log) r ≡ Never
+  unnamed-trace : (os : List ℕ) (ss : List Step) (c : Chip) → every (λ (s : Step). fine s && elsewhere s) ss ≡ true
+      → lastIn (c .address) (trace os ss c .log) r ≡ Never
   unfolding trace any.lastFrom attemptedBy
-  unnamed-trace os ss c g = run-keeps os (λ (u : Trace). (u .chip .address ≡ c .address) × (lastIn (c .address) (u .log) r ≡ Never)) (λ s. fine s && elsewhere s) keeps ss _ g (refl, refl) .1
+  unnamed-trace os ss c g =
+      run-keeps os (λ (u : Trace). (u .chip .address ≡ c .address) × (lastIn (c .address) (u .log) r ≡ Never)) (λ s. fine s && elsewhere s) keeps ss _ g (refl, refl) .1
     where
       address : (s : Step) (u : Trace) (ok : Bool) → taken inList os ok s u .chip .address ≡ u .chip .address
       address Open u ok = refl
@@ -108,7 +110,8 @@ module _ (r : ℕ) (five : standsBy r ≡ true) where
           → (taken inList os (okFor os (u .count) s) s u .chip .address ≡ c .address) × (lastIn (c .address) (taken inList os (okFor os (u .count) s) s u .log) r ≡ Never)
       keeps s u q a p =
           let ok : Bool = okFor os (u .count) s in
-          let none : names (c .address) (emit s (u .chip) ok) r ≡ false = subst (λ (x : ℕ). names x (emit s (u .chip) ok) r ≡ false) (p .0) (unnamed s (u .chip) ok q) in
+          let none : names (c .address) (emit s (u .chip) ok) r ≡ false =
+          subst (λ (x : ℕ). names x (emit s (u .chip) ok) r ≡ false) (p .0) (unnamed s (u .chip) ok q) in
           (address s u ok ∙ p .0, last-same (tunerAt (c .address)) (u .log) (emit s (u .chip) ok) r none ∙ p .1)
 
 every-both : {A : Type 0} (f h : A → Bool) (l : List A) → every f l ≡ true → every h l ≡ true → every (λ (a : A). f a && h a) l ≡ true
@@ -153,7 +156,8 @@ board-apart (path-read.Is path) rs t = go (t .kind)
     go : (kind : Kind) → every elsewhere (boardPathSteps kind path rs) ≡ true
     go R820T = every-append elsewhere (outputSteps 5 (getD rs 0 0) (getD rs 1 0)) (bitSteps 5 (levelFor path) (getD rs 2 0) ++ []) gpio
         (every-append elsewhere (bitSteps 5 (levelFor path) (getD rs 2 0)) [] (bit-apart (levelFor path) (getD rs 2 0)) none)
-    go R828D = every-append elsewhere (outputSteps 5 (getD rs 0 0) (getD rs 1 0)) (bitSteps 5 (levelFor path) (getD rs 2 0) ++ whileOpen (updates (pathUpdates path))) gpio
+    go R828D =
+        every-append elsewhere (outputSteps 5 (getD rs 0 0) (getD rs 1 0)) (bitSteps 5 (levelFor path) (getD rs 2 0) ++ whileOpen (updates (pathUpdates path))) gpio
         (every-append elsewhere (bitSteps 5 (levelFor path) (getD rs 2 0)) (whileOpen (updates (pathUpdates path))) (bit-apart (levelFor path) (getD rs 2 0)) (apart-path path))
 
 rate-apart : (hz rate xtal : ℕ) (inverted : Bool) → every elsewhere (sampleRateSteps hz rate xtal inverted) ≡ true
@@ -262,7 +266,8 @@ beside-never address r os ss c g = run-keeps os (λ (u : Trace). lastIn address 
         → lastIn address (taken inList os (okFor os (u .count) s) s u .log) r ≡ Never
     keeps s u q a p = last-same (tunerAt address) (u .log) (emit s (u .chip) (okFor os (u .count) s)) r (none-named s (u .chip) (okFor os (u .count) s) q) ∙ p
 
-pub aside-unmoved : (a : Aside) → asideGiven (a .other) ≡ true → (address : ℕ) (now after : Regs) → Played address (asideEntries a) now after → (r : ℕ) → after r ≡ now r
+pub aside-unmoved : (a : Aside) → asideGiven (a .other) ≡ true → (address : ℕ) (now after : Regs) → Played address (asideEntries a) now after → (r : ℕ)
+    → after r ≡ now r
 unfolding any.lastFrom
 aside-unmoved a g address now after played r = last-never (tunerAt address) (asideEntries a) now after played r (go (eqb (asideAsked a .number) 0))
   where

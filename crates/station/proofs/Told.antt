@@ -54,7 +54,7 @@ told-back t hz = go (sound t) (unsure (t .chip)) refl
         let none : _≡_ {A = ℕ} 1 0 = ap numberOf e in
         absurd (omega arith)
 
-neither : (a b : Bool) → (a || b) ≡ false → (a ≡ false) × (b ≡ false)
+pub neither : (a b : Bool) → (a || b) ≡ false → (a ≡ false) × (b ≡ false)
 neither false b h = (refl, h)
 neither true b h = absurd (true≢false h)
 

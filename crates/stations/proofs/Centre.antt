@@ -1,5 +1,6 @@
--- A rate answered done, then a tune answered done whose divider was not repaired, with nothing between that moved the IF: on every chip and every demodulator the centre of what is
--- recorded is the frequency asked, within 25 kHz / m and a step of the 22 bits. Read off registers that the entries were played on. Assumes nothing.
+-- A rate answered done, then a tune answered done whose divider was not repaired, with nothing between that moved the IF: on every chip and every
+-- demodulator the centre of what is recorded is the frequency asked, within 25 kHz / m and a step of the 22 bits. Read off registers that the entries were
+-- played on. Assumes nothing.
 use Prim.Native.Nat.{ℕ, _+_, _/_, _%_, _^_, _<_}
 use mathlib.Core.Path.{_≡_, refl, sym, ap, subst, _∙_}
 use mathlib.Core.Bool.{Bool, true, false, _||_, false≢true}
@@ -30,6 +31,7 @@ use Rattle.oscillator.specs.Registers.{Bytes, Within}
 use Rattle.registers.specs.Rates.{ifRatioOf, ifValueOf, negatedOf}
 use Rattle.r82xx.specs.declared.Tuner.{Tuner}
 use Rattle.r82xx.specs.Orders.Order.{Tune}
+use Rattle.station.proofs.Told.{neither}
 use Rattle.tuning.specs.Tries.{fineOf, powerOf}
 use Rattle.sequences.specs.Calls.{Call, asked, call, entries, given, result, tunerAfter}
 use Rattle.sequences.specs.Calls.Order.{BoardTune, SampleRate, Tuned}
@@ -39,7 +41,7 @@ use Rattle.sequences.specs.Sequences.Sequence.{next, between as aside}
 use Rattle.sequences.specs.Since.{rates, setsIf}
 use Rattle.sequences.proofs.Since.{if-kept}
 use Rattle.sequences.proofs.Station.{on-station, on-station-hop}
-use Rattle.sequences.proofs.Tunings.{isDone}
+use Rattle.sequences.proofs.Tunings.{isDone, went}
 use Rattle.evidence.specs.Demodulator.{Place, demodulator, lastAt, place}
 use Rattle.evidence.specs.Evidence.{ifMark, ifPlaces, ifWord, lasts}
 use Rattle.evidence.proofs.Marks.{sure-exactly}
@@ -48,7 +50,6 @@ use Rattle.evidence.proofs.Rates.{if-high, if-low, if-mid}
 use Rattle.stations.specs.Between.{Between, movesIf}
 use Rattle.stations.specs.Between.Between.{start, later, beside}
 use Rattle.stations.specs.Centre.{Centred}
-use Rattle.stations.proofs.Answered.{went}
 use Rattle.stations.proofs.Stills.{silent-aside, silent-call}
 use Rattle.stations.proofs.Steps.{centred, step-few, step-high, step-low}
 use Rattle.stations.proofs.Words.{stands-for}
@@ -60,19 +61,11 @@ between-silent t u fs start = silent-none
 between-silent t u fs (later v gs b k h g) = silent-append gs (entries k v) (between-silent t v gs b) (silent-call k v h)
 between-silent t u fs (beside v gs b a h g) = silent-append gs (asideEntries a) (between-silent t v gs b) (silent-aside a h)
 
-or-left : (a b : Bool) → (a || b) ≡ false → a ≡ false
-or-left true b h = h
-or-left false b h = refl
-
-or-right : (a b : Bool) → (a || b) ≡ false → b ≡ false
-or-right true b h = absurd (false≢true (sym h))
-or-right false b h = h
-
 between-if : (t u : Tuner) (fs : List Entry) → Between t u fs → u .ifreq ≡ t .ifreq
 between-if t u fs start = refl
 between-if t u fs (later v gs b k h g) =
-    if-kept (t .ifreq) v (between-if t v gs b) k (or-left (setsIf (k .order)) (rates (k .order)) h)
-    (λ rate r. absurd (false≢true (sym (or-right (setsIf (k .order)) (rates (k .order)) h) ∙ r)))
+    if-kept (t .ifreq) v (between-if t v gs b) k (neither (setsIf (k .order)) (rates (k .order)) h .0)
+    (λ rate r. absurd (false≢true (sym (neither (setsIf (k .order)) (rates (k .order)) h .1) ∙ r)))
 between-if t u fs (beside v gs b a h g) = between-if t v gs b
 
 between-sequence : (t u : Tuner) (fs : List Entry) → Between t u fs → (es : List Entry) → Sequence t es → Sequence u (es ++ fs)
@@ -92,16 +85,19 @@ module _ (t : Tuner) (rate : ℕ) (table : List ℕ) (d : Driver) (os room : Lis
   abbrev steps : List Step
   steps = sampleRateSteps offset rate (xtalOf d) (planBy table (d .frequency) .plan .inverted)
 
-  rate-went : isDone (result rated t .answer) ≡ true → (eqb (asked rated t .number) 0 ≡ true) × (trace os steps (t .chip) .progress ≡ Going) × (isDone (Done 0) ≡ true)
+  rate-went : isDone (result rated t .answer) ≡ true → (eqb (asked rated t .number) 0 ≡ true) × (trace os steps (t .chip) .progress ≡ Going)
   unfolding rateResult leftBy
-  rate-went h = went (asked rated t .number) (Done 0) os steps (t .chip) _ _ room h
+  rate-went h =
+      let w = went (asked rated t .number) (Done 0) os steps (t .chip) _ _ room h .1 in
+      (w .taken-up, w .going)
 
   -- after it and entries that are silent of it, with any entries before: the IF's registers are told as it sent them
   module _ (h : isDone (result rated t .answer) ≡ true) (es fs : List Entry) (silent : Silent fs) where
     abbrev all : List Entry
     all = (es ++ entries rated t) ++ fs
 
-    told : (r byte : ℕ) → ((l : Last) → lastFrom demodulator l fs (place 1 r) ≡ l) → lastAt (es ++ trace os steps (t .chip) .log) r ≡ Tried byte true → lastAt all r ≡ Tried byte true
+    told : (r byte : ℕ) → ((l : Last) → lastFrom demodulator l fs (place 1 r) ≡ l) → lastAt (es ++ trace os steps (t .chip) .log) r ≡ Tried byte true
+        → lastAt all r ≡ Tried byte true
     told r byte kept e =
         let log : entries rated t ≡ trace os steps (t .chip) .log = rw (rate-went h .0) in
         last-append demodulator Never (es ++ entries rated t) fs (place 1 r)
@@ -170,8 +166,10 @@ module _ (t : Tuner) (rate : ℕ) (table : List ℕ) (d : Driver) (os room : Lis
         (centred f offset (u .corrected) (xtalOf d) (ifRatioOf offset (xtalOf d)) reg (subst (λ (i : ℕ). Within (f + i) (u .corrected) reg) same near)
         (step-low offset (xtalOf d)) (step-high offset (xtalOf d) (omega arith)))
 
-    -- "A recording filed under the wrong transmitter": after any sequence of calls a rate answered done, calls that move no IF, a tune answered done without a repair
-    pub on-centre : (hz : ℕ) (rs os′ room′ : List ℕ) → given (Tuned (Tune hz rs)) u ≡ true → isDone (result (call (Tuned (Tune hz rs)) os′ room′) u .answer) ≡ true
+    -- "A recording filed under the wrong transmitter": after any sequence of calls a rate answered done, calls that move no IF, a tune answered done
+    -- without a repair
+    pub on-centre : (hz : ℕ) (rs os′ room′ : List ℕ) → given (Tuned (Tune hz rs)) u ≡ true
+        → isDone (result (call (Tuned (Tune hz rs)) os′ room′) u .answer) ≡ true
         → fineOf (getD rs 4 0) ≡ powerOf (u .kind)
         → (before now : Regs) → chip.Played (u .chip .address) (so-far ++ entries (call (Tuned (Tune hz rs)) os′ room′) u) before now
         → (was is : Place → ℕ) → Played demodulator (so-far ++ entries (call (Tuned (Tune hz rs)) os′ room′) u) was is

@@ -1,5 +1,9 @@
-pub mod Answered
 pub mod Steps
 pub mod Words
 pub mod Stills
+pub mod Keeps
+pub mod Repaired
+pub mod Reloads
+pub mod Sharp
+pub mod Again
 pub mod Centre

@@ -64,7 +64,8 @@ unfolding every
 still-none = refl
 
 still-chunks : (bs : List ℕ) (from to : ℕ) → every still (tunerWrite bs from to) ≡ true
-still-chunks bs from to = still-behind (map (chunkStep bs) (drop from (take to chunkTable))) (still-map (chunkStep bs) (λ k. refl) (drop from (take to chunkTable)))
+still-chunks bs from to =
+    still-behind (map (chunkStep bs) (drop from (take to chunkTable))) (still-map (chunkStep bs) (λ k. refl) (drop from (take to chunkTable)))
 
 still-all : (bs : List ℕ) → every still (sendAll bs) ≡ true
 still-all bs = every-append still (tunerWrite bs 0 3) (tunerWrite bs 3 5) (still-chunks bs 0 3) (still-chunks bs 3 5)
@@ -179,7 +180,8 @@ still-row (Tuned GainTold) t h = still-none
 still-row (Tuned IfTold) t h = still-none
 still-row (Tuned TableTold) t h = still-none
 still-row (SampleRate rate table d) t h = absurd (true≢false h)
-still-row (Correction ppm d) t h = still-either (leb 1 (xtalBy (t .nominal) ppm) && leb 1 (xtalBy (d .nominal) ppm)) (both (withCorrected t (xtalBy (t .nominal) ppm)) (withPpm d ppm)) (both t d) (Done 0) (Refused 4)
+still-row (Correction ppm d) t h =
+    still-either (leb 1 (xtalBy (t .nominal) ppm) && leb 1 (xtalBy (d .nominal) ppm)) (both (withCorrected t (xtalBy (t .nominal) ppm)) (withPpm d ppm)) (both t d) (Done 0) (Refused 4)
 still-row (BoardPath path rs) t h = still-board-row (pathOf path) rs t
 still-row (BoardTune hz table rs d) t h = still-hop (t .kind) (t .chip .address) (planBy table hz .plan) (planFor t (planBy table hz .plan .hz)) rs
 
