@@ -139,7 +139,7 @@ at-step i es e h = go (drop i es) refl
         }
 
 -- no step is left
-at-end : (i : ℕ) (es : List Entry) → stepAt i es ≡ [] → take i es ≡ es
+pub at-end : (i : ℕ) (es : List Entry) → stepAt i es ≡ [] → take i es ≡ es
 at-end i es h = go (drop i es) refl
   where
     go : (xs : List Entry) → drop i es ≡ xs → take i es ≡ es

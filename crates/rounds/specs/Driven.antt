@@ -12,6 +12,7 @@ use Rattle.transcript.specs.declared.Entry.{Entry}
 use Rattle.transcript.specs.Entries.{zeros8}
 use Rattle.transcript.specs.Table.{isRead}
 use Rattle.attempts.specs.Attempts.{Regs, names}
+use Rattle.chip.specs.Calls.{Called}
 use Rattle.chip.specs.Entries.{flagOf}
 use Rattle.chip.specs.Steps.{every}
 use Rattle.sequences.specs.Calls.{isByte}
@@ -49,6 +50,12 @@ pub data Rounds (a : Ask) : List ℕ → List ℕ → List Entry → Type 0 wher
 pub record Continued (a : Ask) (os rs : List ℕ) (es : List Entry) (s : Script) : Type 0 where
   pub entries : take (length os) (made a s) ≡ es
   pub replies : took es ≡ length rs
+
+-- what two calls leave beside their rooms is the same: the next record, the answer, and how many entries
+pub record Ends {R : Type 0} (x y : Called R) : Type 0 where
+  pub next : x .next ≡ y .next
+  pub answer : x .answer ≡ y .answer
+  pub count : x .count ≡ y .count
 
 -- ---- a host that dies while it drives a receiver
 
