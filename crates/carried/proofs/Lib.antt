@@ -6,3 +6,4 @@ pub mod Driven
 pub mod Fed
 pub mod Worked
 pub mod FedDriven
+pub mod Holding
