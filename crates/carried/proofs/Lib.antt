@@ -7,3 +7,4 @@ pub mod Fed
 pub mod Worked
 pub mod FedDriven
 pub mod Holding
+pub mod Crashed
