@@ -2,12 +2,17 @@
 -- played on. Nothing is asked of where the bytes come from, so a spare chip after a restore list is covered, and a record that was kept for years. Assumes nothing.
 use Prim.Native.Nat.{ℕ, _+_, _≤_, _<_}
 use mathlib.Core.Path.{_≡_, refl, sym, ap, subst, _∙_}
-use mathlib.Core.Bool.{Bool, true, false, false≢true}
+use mathlib.Core.Bool.{Bool, true, false, false≢true, true≢false}
 use mathlib.Core.List.{List, []}
 use native.Mathlib.Omega.{arith}
+use borrow.Author.Tests.{le-leb, lt-ltb}
 use lib.ListN.{getD}
 use Rattle.transcript.specs.declared.Entry.{Entry}
-use Rattle.attempts.specs.Attempts.{Played, Regs}
+use Rattle.attempts.specs.Attempts.{Last, Played, Regs, byteIn, doubtIn, lastIn, tunerAt}
+use Rattle.attempts.specs.Namings.Last.{Never, Tried}
+use Rattle.attempts.proofs.Played.{last-done}
+use Rattle.restore.specs.Restore.{listOf, sureIn}
+use Rattle.restore.proofs.Listed.{sent}
 use Rattle.chip.specs.declared.Chip.{Chip}
 use Rattle.history.specs.Holding as chips
 use Rattle.r82xx.specs.declared.Tuner.{Tuner}
@@ -19,11 +24,12 @@ use Rattle.sequences.specs.Asides.{Aside, asideGiven}
 use Rattle.sequences.specs.Calls.{Call, call, entries, tunerAfter}
 use Rattle.sequences.proofs.Holding as one
 use Rattle.wire.specs.Bytes.{Bytes}
+use Rattle.writes.specs.Lists.{initArray}
 use Rattle.wire.specs.Parts.{partsFrom}
 use Rattle.carried.specs.Carried.{Carried}
 use Rattle.carried.specs.Exported.{Left, Lent, amiss, asideEntriesOf, entriesOf, leaves, orderOf, readBy, typed}
 use Rattle.carried.specs.Holding.{Holds}
-use Rattle.carried.proofs.Demand.{address-byte, aside-entries, away-entries, behind, doubtful-byte-of, entries-read, flag-none, shadow-byte-of, sure-holds}
+use Rattle.carried.proofs.Demand.{address-byte, aside-entries, away-entries, behind, doubtful-byte, doubtful-byte-of, entries-read, flag-none, shadow-byte, shadow-byte-of, sure-holds}
 use Rattle.carried.proofs.Passed.{Passed, every-passed, ranged-after, turned}
 use Rattle.carried.proofs.Passed.Passed.{away, made}
 use Rattle.carried.proofs.Steady.{typed-given}
@@ -52,6 +58,27 @@ carried-recorded b es c = let p = behind b es c in record { tuner = p .tuner; by
 
 pub carried-holds : (b : List ℕ) (es : List Entry) → Carried b es → (before now : Regs) → Played (getD b 1 0) es before now → Holds b now
 carried-holds b es c before now p = sure-holds b es c before now p
+
+-- document 02, #110: "Played .. on a chip holding anything, it leaves those registers as the sections did". So the bytes hold of a spare chip too, once the restore list of
+-- all the sections was played on it, whatever that chip held
+module _ (b : List ℕ) (es : List Entry) (c : Carried b es) (spare now : Regs) (played : Played (getD b 1 0) (listOf (getD b 1 0) es) spare now) where
+  abbrev address : ℕ
+  address = getD b 1 0
+
+  sure-so : (i : ℕ) → i < 27 → doubtIn (lastIn address es (5 + i)) ≡ false → sureIn address es (5 + i) ≡ true
+  unfolding sureIn
+  sure-so i h d = rw (le-leb 5 (5 + i) (omega arith), lt-ltb (5 + i) 32 (omega arith), d)
+
+  byte-tried : (l : Last) (x : ℕ) → doubtIn l ≡ false → byteIn 0 l ≡ byteIn x l
+  byte-tried Never x d = absurd (true≢false d)
+  byte-tried (Tried byte ok) x d = refl
+
+  pub restored-holds : Holds b now
+  restored-holds i h d =
+      let doubt : doubtIn (lastIn address es (5 + i)) ≡ false = flag-none (doubtIn (lastIn address es (5 + i))) (sym (doubtful-byte b es c i h) ∙ d) in
+      last-done (tunerAt address) (listOf address es) spare now played (5 + i) (byteIn 0 (lastIn address es (5 + i))) (sent address es (5 + i) (sure-so i h doubt))
+      ∙ byte-tried (lastIn address es (5 + i)) (getD initArray i 0) doubt
+      ∙ sym (shadow-byte b es c i h)
 
 pub recorded-accepted : (b : List ℕ) → Recorded b → tunerOf b .ok ≡ true
 recorded-accepted b w =

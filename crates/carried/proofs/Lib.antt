@@ -8,3 +8,4 @@ pub mod Worked
 pub mod FedDriven
 pub mod Holding
 pub mod Crashed
+pub mod FedCrashed

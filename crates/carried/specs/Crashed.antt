@@ -9,8 +9,12 @@ use mathlib.Core.List.{List}
 use lib.ListN.{length, take}
 use Rattle.transcript.specs.declared.Entry.{Entry}
 use Rattle.rounds.specs.Driven.{RestFailed, RoundsBy}
-use Rattle.rounds.specs.Scripts.{tunerWith}
+use Rattle.rounds.specs.Scripts.{Script, tunerWith}
+use Rattle.chip.specs.Steps.{every}
+use Rattle.commands.specs.Over.{Feeds, feedOver}
+use Rattle.sequences.specs.Calls.{isByte}
 use Rattle.carried.specs.Exported.{Exported, Lent, entriesOf, leaves, lent, stands, typed}
+use Rattle.carried.specs.Fed.{fedEntries, plainFed}
 use Rattle.carried.specs.Exported.Exported.{Own, Rate, Correct, Path, Hop}
 
 -- what is lent to a call: its script, a room, and slices for the next record and for the driver's. What they hold may be another in each round
@@ -51,3 +55,19 @@ Rounds e b = RoundsBy (Knows e b) (heard e b)
 pub record Kept (e : Exported) (b os rs : List ℕ) (m : Memory) : Type 0 where
   pub known : Knows e b os rs m
   pub vain : RestFailed os (m .outcomes)
+
+-- ---- the same of a command of a line
+
+-- a feeding with a script, on the same bytes in each round: table, chunk, the stream's, the driver's d and the tuner's b. It changes them where they lie, so a host that
+-- drives it in rounds gives it copies
+abbrev pub fedWith : (table chunk stream d b : List ℕ) → Script → Feeds
+fedWith table chunk stream d b s = feedOver table chunk (s .replies) (s .outcomes) stream d b (s .room)
+
+pub record FedKnows (table chunk stream d b os rs : List ℕ) (s : Script) : Type 0 where
+  pub outcomes : take (length os) (s .outcomes) ≡ os
+  pub replies : take (length rs) (s .replies) ≡ rs
+  pub numbers : every isByte (s .replies) ≡ true
+  pub taken : stands (plainFed (fedWith table chunk stream d b s .answer)) ≡ true
+
+abbrev pub FedRounds : (table chunk stream d b : List ℕ) → List ℕ → List ℕ → List Entry → Type 0
+FedRounds table chunk stream d b = RoundsBy (FedKnows table chunk stream d b) (λ s. fedEntries (fedWith table chunk stream d b s))
