@@ -49,7 +49,7 @@ use Rattle.tuners.specs.Over.{lockTriesOver, overTuning, unlessRefused}
 use Rattle.tuners.specs.Still.{freshInto}
 use Rattle.drivers.specs.Drivers.{hopArgument, hopOver, lockTriesBoth}
 use Rattle.sequences.specs.Asides.{Aside, asideAsked, asideEntries, asideGiven, asideResult}
-use Rattle.sequences.specs.Calls.{Call, tunerAfter, call, entries, result}
+use Rattle.sequences.specs.Calls.{Call, asked, call, entries, result, tunerAfter}
 use Rattle.sequences.specs.Sequences.{Sequence}
 use Rattle.sequences.specs.Sequences.Sequence.{fresh as first, next as more, between as aside}
 use Rattle.sequences.proofs.Demand as sequence
@@ -74,13 +74,13 @@ use Rattle.chip.specs.declared.Progress.{Progress}
 use Rattle.sequences.specs.Calls.Order.{BoardTune, Tuned}
 use Rattle.r82xx.specs.Orders as tuner
 use Rattle.sequences.proofs.Asides.{aside-stepping}
-use Rattle.sequences.proofs.Ties.{entries-most}
+use Rattle.sequences.proofs.Ties.{entries-most, view-read}
 use Rattle.carried.specs.Exported.{Left, Lent, amiss, asideEntriesOf, entriesOf, leaves, lent, orderOf, readBy, typed, typedOrder, uncut}
 use Rattle.carried.specs.Exported.Exported.{Hop, Own}
 use Rattle.carried.specs.Carried.{Carried}
 use Rattle.carried.specs.Carried.Carried.{fresh, next, between}
 use Rattle.carried.proofs.Steady.{typed-given}
-use Rattle.carried.proofs.Passed.{Passed, few, found, image-long, next-ranged, passed, turned}
+use Rattle.carried.proofs.Passed.{Passed, count-is, few, few-left, found, image-long, next-ranged, passed, seen, turned}
 use Rattle.carried.proofs.Passed.Passed.{away, made}
 
 -- the record that bytes are, and the sequence of crate `sequences` that it is the end of
@@ -172,16 +172,20 @@ read-entries x room es small c same parted = go es c parted
 
 -- ---- every call
 
+-- of a call that was made, on any record in its ranges
+pub entries-read : (t : Tuner) (r : Ranged t) (k : Call) (h : typedOrder (k .order) ≡ true) (l : Left) → l .reply ≡ callReply (result k t)
+    → (0 < result k t .count → l .room ≡ result k t .room) → readBy (l .reply) (l .room) ≡ entries k t
+entries-read t r k h l reply room =
+    ap (λ (a : Reply). readBy a (l .room)) reply
+    ∙ read-entries (result k t) (l .room) (entries k t) (few-left t r k h) (count-is t r k h) room
+    (view-read t (result k t) (asked k t) (k .outcomes) (k .room) (seen t r k h) (omega (arith, r .address)))
+
 module _ (t : Tuner) (es : List Entry) (s : Sequence t es) (r : Ranged t) (k : Call) (h : typedOrder (k .order) ≡ true) (l : Left) where
-  -- of a call that was made
   pub made-entries : l .reply ≡ callReply (result k t) → (0 < result k t .count → l .room ≡ result k t .room) → readBy (l .reply) (l .room) ≡ entries k t
-  made-entries reply room =
-      ap (λ (a : Reply). readBy a (l .room)) reply
-      ∙ read-entries (result k t) (l .room) (entries k t) (few t es s r k h) (sequence.count-told t es s k (typed-given (k .order) t h)) room
-      (sequence.section-read t es s k (typed-given (k .order) t h))
+  made-entries = entries-read t r k h l
 
 -- of one that was turned away
-away-entries : (l : Left) (n : ℕ) → l .reply ≡ replyOf (Refused n) 0 → readBy (l .reply) (l .room) ≡ []
+pub away-entries : (l : Left) (n : ℕ) → l .reply ≡ replyOf (Refused n) 0 → readBy (l .reply) (l .room) ≡ []
 away-entries l n reply = ap (λ (a : Reply). readBy a (l .room)) reply
 
 next-behind : (t : Tuner) (es : List Entry) → Sequence t es → Ranged t → (k : Call) → typedOrder (k .order) ≡ true → (n : ℕ) (one : Bool) (l : Left) → Passed t k n one l
@@ -196,7 +200,7 @@ next-behind t es s r k h n one l (made z told reply room bytes) =
       sequence = rw (made-entries t es s r k h l reply room) (more t es s k (typed-given (k .order) t h));
     }
 
-aside-entries : (a : Aside) → asideGiven (a .other) ≡ true → asideEntriesOf a ≡ asideEntries a
+pub aside-entries : (a : Aside) → asideGiven (a .other) ≡ true → asideEntriesOf a ≡ asideEntries a
 aside-entries a g =
     let most : length (asideEntries a) ≤ 4096 = entries-most 4096 (a .outcomes) (asideAsked a) noChip (aside-stepping a g .few) in
     read-entries (asideResult a) (asideResult a .room) (asideEntries a) (omega (arith, sequence.aside-count a g)) (sequence.aside-count a g) (λ c. refl) (sequence.aside-read a g)
@@ -221,7 +225,7 @@ module _ (t : Tuner) (r : Ranged t) where
   unfolding tunerBytes
   parted = parts-joined [] 0 tunerWidths (tunerParts t) refl (sized t (r .lists))
 
-  address-byte : getD (tunerBytes t) 1 0 ≡ t .chip .address
+  pub address-byte : getD (tunerBytes t) 1 0 ≡ t .chip .address
   unfolding leBytes
   address-byte =
       let small : t .chip .address % 256 ≡ t .chip .address = omega (arith, r .address) in
@@ -230,11 +234,11 @@ module _ (t : Tuner) (r : Ranged t) where
       ∙ ap (λ (ps : List (List ℕ)). getD (part ps 1) 0 0) parted
       ∙ small
 
-  shadow-byte-of : (i : ℕ) → i < 27 → getD (tunerBytes t) (2 + i) 0 ≡ getD (t .chip .shadow) i 0
+  pub shadow-byte-of : (i : ℕ) → i < 27 → getD (tunerBytes t) (2 + i) 0 ≡ getD (t .chip .shadow) i 0
   shadow-byte-of i h =
       sym (getD-drop 2 (tunerBytes t) i 0) ∙ sym (getD-take 27 (drop 2 (tunerBytes t)) i 0 h) ∙ ap (λ (ps : List (List ℕ)). getD (part ps 2) i 0) parted
 
-  doubtful-byte-of : (i : ℕ) → i < 27 → getD (tunerBytes t) (51 + i) 1 ≡ flagByte (getD (t .chip .doubtful) i true)
+  pub doubtful-byte-of : (i : ℕ) → i < 27 → getD (tunerBytes t) (51 + i) 1 ≡ flagByte (getD (t .chip .doubtful) i true)
   doubtful-byte-of i h =
       sym (getD-drop 51 (tunerBytes t) i 1)
       ∙ sym (getD-take 27 (drop 51 (tunerBytes t)) i 1 h)
@@ -266,7 +270,7 @@ flag-one : (f : Bool) → (flagByte f ≡ 1) ↔ (f ≡ true)
 flag-one true = (λ e. refl, λ e. refl)
 flag-one false = (λ e. absurd (omega arith), λ e. absurd (false≢true e))
 
-flag-none : (f : Bool) → flagByte f ≡ 0 → f ≡ false
+pub flag-none : (f : Bool) → flagByte f ≡ 0 → f ≡ false
 flag-none true e = absurd (omega arith)
 flag-none false e = refl
 

@@ -218,7 +218,7 @@ module _ (b : List ℕ) (es : List Entry) (c : Carried b es) (table rs os d room
     run-is-call x e reloads = own-is Reload order.Order.Reload refl refl (reload-taken (tunerOf b .tuner)) refl refl refl
 
     -- its numbers are of their types, and nothing but the tuner's and the driver's records is asked of it
-    made-typed : (x : Command) (e : Exported) → Makes table rs d x e → (typed e ≡ true) × (amiss e ≡ false)
+    pub made-typed : (x : Command) (e : Exported) → Makes table rs d x e → (typed e ≡ true) × (amiss e ≡ false)
     made-typed x e (tunes hz) = (replies, refl)
     made-typed x e (rates rate) = (refl, rw ok)
     made-typed x e (gains db) = (refl, refl)
@@ -330,7 +330,7 @@ module _ (b : List ℕ) (es : List Entry) (c : Carried b es) (table rs os d room
   unfolding feedOver
   fed-is w os = rw (w .valid, w .whole)
 
-  fed-call : Completes stream chunk → driverOf d .ok ≡ true → (e : Exported) → Makes table rs d (commandOf nine) e → (os : List ℕ)
+  pub fed-call : Completes stream chunk → driverOf d .ok ≡ true → (e : Exported) → Makes table rs d (commandOf nine) e → (os : List ℕ)
       → onward (plainFed (feedOver table chunk rs os stream d b room .answer)) (feedOver table chunk rs os stream d b room .room) (feedOver table chunk rs os stream d b room .tuner)
       ≡ leaves (lent e os room b) b
   fed-call w ok e m os =

@@ -8,3 +8,6 @@ pub mod Fed
 pub mod Worked
 pub mod FedDriven
 pub mod Five
+pub mod Holding
+pub mod Crashed
+pub mod FedCrashed

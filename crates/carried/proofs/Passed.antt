@@ -41,13 +41,13 @@ use Rattle.tuners.specs.Still.{answerOver, changedInto, ofRecord, tableOver}
 use Rattle.drivers.specs.Drivers.{bothReady, correctOver, corrects, correctsMade, hopArgument, overBoth, ratesMade, ratesRefused}
 use Rattle.history.specs.Histories.{stops}
 use Rattle.transcript.specs.declared.Entry.{Entry}
-use Rattle.sequences.specs.Calls.{Call, Order, tunerAfter, call, result, resultOf, rowOf, soundFor, tunerPart}
+use Rattle.sequences.specs.Calls.{Call, Order, asked, call, entries, result, resultOf, rowOf, soundFor, tunerAfter, tunerPart}
 use Rattle.sequences.specs.Calls.{tunerOf as tunerHalf}
 use Rattle.sequences.specs.Calls.Order.{Tuned, SampleRate, Correction, BoardPath, BoardTune}
 use Rattle.sequences.specs.Sequences.{Sequence}
-use Rattle.sequences.proofs.Demand.{count-told}
 use Rattle.sequences.proofs.Most.{most-entries}
-use Rattle.sequences.proofs.Views.{row-few, result-row}
+use Rattle.sequences.proofs.Ties.{view-count}
+use Rattle.sequences.proofs.Views.{View, result-row, row-few, view}
 use Rattle.carried.specs.Exported.{Exported, Left, amiss, byAfter, byCorrects, byGiven, byRates, left, leftOf, orderOf, pathless, stands, typed, typedOrder}
 use Rattle.carried.specs.Exported.Exported.{Own, Rate, Correct, Path, Hop}
 use Rattle.carried.proofs.Ranges.{order-ranged}
@@ -166,7 +166,7 @@ turned (Correct ppm driver) out t = cond (driverOf driver .ok) 0 1
 turned (Path path rs) out t = slotted (BoardPath path rs) out t
 turned (Hop hz table rs driver left) out t = pairwise (BoardTune hz table rs (driverOf driver .driver)) driver left out t
 
-module _ (t : Tuner) (es : List Entry) (s : Sequence t es) (r : Ranged t) where
+module _ (t : Tuner) (r : Ranged t) where
   fields : Fielded t
   fields = fielded t r
 
@@ -177,14 +177,21 @@ module _ (t : Tuner) (es : List Entry) (s : Sequence t es) (r : Ranged t) where
   given-sound = rw (le-leb 1 (t .nominal) (r .known), le-leb 1 (t .corrected) (r .right))
 
   -- the record that a call leaves is in its ranges
-  pub next-ranged : (k : Call) → typedOrder (k .order) ≡ true → Ranged (tunerAfter k t)
-  next-ranged k h = order-ranged t r (k .order) (k .outcomes) (k .room) h
+  pub ranged-after : (k : Call) → typedOrder (k .order) ≡ true → Ranged (tunerAfter k t)
+  ranged-after k h = order-ranged t r (k .order) (k .outcomes) (k .room) h
 
-  pub few : (k : Call) → typedOrder (k .order) ≡ true → result k t .count < 4_294_967_296
-  few k h = omega (arith, count-told t es s k (typed-given (k .order) t h), most-entries k t, row-few (k .order) t)
+  -- what its row says of a call, and that its count is its entries'
+  pub seen : (k : Call) → typedOrder (k .order) ≡ true → View t (result k t) (asked k t) (k .outcomes) (k .room)
+  seen k h = view t (k .outcomes) (k .room) (k .order) (typed-given (k .order) t h) (omega (arith, r .address))
+
+  pub count-is : (k : Call) → typedOrder (k .order) ≡ true → result k t .count ≡ length (entries k t)
+  count-is k h = view-count t (result k t) (asked k t) (k .outcomes) (k .room) (seen k h)
+
+  pub few-left : (k : Call) → typedOrder (k .order) ≡ true → result k t .count < 4_294_967_296
+  few-left k h = omega (arith, count-is k h, most-entries k t, row-few (k .order) t)
 
   long : (k : Call) → typedOrder (k .order) ≡ true → length (tunerBytes (tunerAfter k t)) ≡ 78
-  long k h = image-long (tunerAfter k t) (next-ranged k h)
+  long k h = image-long (tunerAfter k t) (ranged-after k h)
 
   fixed : (k : Call) → typedOrder (k .order) ≡ true → Settled Fielded t (result k t)
   fixed k h = settled (k .order) (k .outcomes) (k .room) t fields h
@@ -193,7 +200,7 @@ module _ (t : Tuner) (es : List Entry) (s : Sequence t es) (r : Ranged t) where
   made-into : (k : Call) (out : List ℕ) (one : Bool) → typedOrder (k .order) ≡ true → 78 ≤ length out → Told (numberOf (result k t .answer)) one (stops (result k t .answer))
       → Passed t k 0 one (byAfter (handed (result k t) out) (tunerBytes t))
   unfolding nextOf
-  made-into k out one h l o = made refl o refl (λ c. refl) (taken-over Fielded tunerBytes 78 t (result k t) (fixed k h) (long k h) out l (few k h))
+  made-into k out one h l o = made refl o refl (λ c. refl) (taken-over Fielded tunerBytes 78 t (result k t) (fixed k h) (long k h) out l (few-left k h))
 
   away-after : (k : Call) (n : ℕ) (room out : List ℕ) (one : Bool) → eqb n 0 ≡ false → Told n one false → Passed t k n one (byAfter (refusal n room out) (tunerBytes t))
   away-after k n room out one z o = away z o refl (rw z)
@@ -377,23 +384,34 @@ module _ (t : Tuner) (es : List Entry) (s : Sequence t es) (r : Ranged t) where
 
   -- ---- every call
 
-  pub passed : (e : Exported) (os room out : List ℕ) → typed e ≡ true → Passed t (call (orderOf e) os room) (turned e out t) (amiss e) (leftOf e os room out (tunerBytes t))
+  pub every-passed : (e : Exported) (os room out : List ℕ) → typed e ≡ true → Passed t (call (orderOf e) os room) (turned e out t) (amiss e) (leftOf e os room out (tunerBytes t))
   unfolding overTuning
-  passed (Own Initialize) os room out h = over-row (Tuned Initialize) os room out h (tuner.courseOf Initialize) refl refl
-  passed (Own Reload) os room out h = over-row (Tuned Reload) os room out h (tuner.courseOf Reload) refl refl
-  passed (Own (Bandwidth hz)) os room out h = over-row (Tuned (Bandwidth hz)) os room out h (tuner.courseOf (Bandwidth hz)) refl refl
-  passed (Own (IfFreq hz)) os room out h = over-row (Tuned (IfFreq hz)) os room out h (tuner.courseOf (IfFreq hz)) refl refl
-  passed (Own (Gain db)) os room out h = over-row (Tuned (Gain db)) os room out h (tuner.courseOf (Gain db)) refl refl
-  passed (Own (GainIndex k)) os room out h = over-row (Tuned (GainIndex k)) os room out h (tuner.courseOf (GainIndex k)) refl refl
-  passed (Own (InputPath path)) os room out h = over-row (Tuned (InputPath path)) os room out h (tuner.courseOf (InputPath path)) refl refl
-  passed (Own (Tune hz rs)) os room out h = over-row (Tuned (Tune hz rs)) os room out h (tuner.courseOf (Tune hz rs)) refl refl
-  passed (Own (Notch on)) os room out h = notch-row on os room
-  passed (Own GainTold) os room out h = told-over GainTold os room _ refl
-  passed (Own IfTold) os room out h = told-over IfTold os room _ refl
-  passed (Own TableTold) os room out h = table-row os room out
-  passed (Rate rate table driver left) os room out h =
+  every-passed (Own Initialize) os room out h = over-row (Tuned Initialize) os room out h (tuner.courseOf Initialize) refl refl
+  every-passed (Own Reload) os room out h = over-row (Tuned Reload) os room out h (tuner.courseOf Reload) refl refl
+  every-passed (Own (Bandwidth hz)) os room out h = over-row (Tuned (Bandwidth hz)) os room out h (tuner.courseOf (Bandwidth hz)) refl refl
+  every-passed (Own (IfFreq hz)) os room out h = over-row (Tuned (IfFreq hz)) os room out h (tuner.courseOf (IfFreq hz)) refl refl
+  every-passed (Own (Gain db)) os room out h = over-row (Tuned (Gain db)) os room out h (tuner.courseOf (Gain db)) refl refl
+  every-passed (Own (GainIndex k)) os room out h = over-row (Tuned (GainIndex k)) os room out h (tuner.courseOf (GainIndex k)) refl refl
+  every-passed (Own (InputPath path)) os room out h = over-row (Tuned (InputPath path)) os room out h (tuner.courseOf (InputPath path)) refl refl
+  every-passed (Own (Tune hz rs)) os room out h = over-row (Tuned (Tune hz rs)) os room out h (tuner.courseOf (Tune hz rs)) refl refl
+  every-passed (Own (Notch on)) os room out h = notch-row on os room
+  every-passed (Own GainTold) os room out h = told-over GainTold os room _ refl
+  every-passed (Own IfTold) os room out h = told-over IfTold os room _ refl
+  every-passed (Own TableTold) os room out h = table-row os room out
+  every-passed (Rate rate table driver left) os room out h =
       over-both (SampleRate rate table (driverOf driver .driver)) os room driver left out h _ (λ u v. rateResult rate (planBy table (v .frequency)) os u v room) refl refl refl
-  passed (Correct ppm driver) os room out h = correct-row ppm driver os room out
-  passed (Path path rs) os room out h = over-row (BoardPath path rs) os room out h (boardRow (pathOf path) rs) refl refl
-  passed (Hop hz table rs driver left) os room out h =
+  every-passed (Correct ppm driver) os room out h = correct-row ppm driver os room out
+  every-passed (Path path rs) os room out h = over-row (BoardPath path rs) os room out h (boardRow (pathOf path) rs) refl refl
+  every-passed (Hop hz table rs driver left) os room out h =
       over-both (BoardTune hz table rs (driverOf driver .driver)) os room driver left out h (hopArgument table hz) (λ u v. hopResult (planBy table hz) hz rs os u v room) refl refl refl
+
+-- the same at the end of a sequence, as the theorems about one have it
+module _ (t : Tuner) (es : List Entry) (s : Sequence t es) (r : Ranged t) where
+  pub next-ranged : (k : Call) → typedOrder (k .order) ≡ true → Ranged (tunerAfter k t)
+  next-ranged = ranged-after t r
+
+  pub few : (k : Call) → typedOrder (k .order) ≡ true → result k t .count < 4_294_967_296
+  few = few-left t r
+
+  pub passed : (e : Exported) (os room out : List ℕ) → typed e ≡ true → Passed t (call (orderOf e) os room) (turned e out t) (amiss e) (leftOf e os room out (tunerBytes t))
+  passed = every-passed t r

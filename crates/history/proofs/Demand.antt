@@ -58,7 +58,7 @@ beside-none address (Send n bytes) k ok b r = cc
 beside-none address (Mask g v m) k ok b r = cc
 beside-none address (Plain e) k ok b r = plain-none address e ok b r
 
-tracks-aside : (init : List ℕ) (c : Chip) (es : List Entry) (k : Chip) (os : List ℕ) (ss : List Step) → every beside ss ≡ true → Tracks init c es
+pub tracks-aside : (init : List ℕ) (c : Chip) (es : List Entry) (k : Chip) (os : List ℕ) (ss : List Step) → every beside ss ≡ true → Tracks init c es
     → Tracks init c (es ++ trace os ss k .log)
 unfolding trace
 tracks-aside init c es k os ss b t =

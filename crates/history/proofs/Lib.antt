@@ -6,6 +6,7 @@ pub mod Fitted
 pub mod Fine
 pub mod Reload
 pub mod Demand
+pub mod Holding
 pub mod Calls
 pub mod Worked
 pub mod Whole

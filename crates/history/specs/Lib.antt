@@ -1,2 +1,3 @@
 pub mod Programs
 pub mod Histories
+pub mod Holding

@@ -126,7 +126,7 @@ bare-settled e ok = ap (withData e 0) (zeros-once (isRead (e .kind)) (not ok) (e
 bare-failed : (e : Entry) → withOutcome e false ≡ withData (bare e) 1 (bare e .bytes)
 bare-failed e = ap (withData e 1) (zeros-failed (isRead (e .kind)) (e .bytes))
 
-same-failed : (d e : Entry) → bare d ≡ bare e → withOutcome d false ≡ withOutcome e false
+pub same-failed : (d e : Entry) → bare d ≡ bare e → withOutcome d false ≡ withOutcome e false
 same-failed d e h = bare-failed d ∙ ap (λ (x : Entry). withData x 1 (x .bytes)) h ∙ sym (bare-failed e)
 
 -- a done read takes its n
@@ -153,31 +153,37 @@ module _ (os : List ℕ) where
   abbrev pub shutting : Trace → List Entry
   shutting t = repeater 0 (okFor os (t .count) Close) ∷ []
 
-  opened-log : (ss : List Step) (t : Trace) → goes (t .progress) ≡ false → t .opened ≡ true → run inList os ss t .log ≡ t .log ++ cond (shuts ss) (shutting t) []
+  -- the run after its closing
+  abbrev pub shutAfter : Trace → Trace
+  shutAfter t = taken inList os (okFor os (t .count) Close) Close t
+
+  opened-run : (ss : List Step) (t : Trace) → goes (t .progress) ≡ false → t .opened ≡ true → run inList os ss t ≡ cond (shuts ss) (shutAfter t) t
   unfolding run shuts
-  opened-log [] t g h = sym (append-nil (t .log))
-  opened-log (Open ∷ ss) t g h = ap (λ (u : Trace). run inList os ss u .log) (sym (idle inList os Open t g)) ∙ opened-log ss t g h
-  opened-log (Close ∷ ss) t g h =
-      ap (λ (u : Trace). run inList os ss u .log) (sym (active inList os Close t h))
-      ∙ sym (ap (λ (u : Trace). u .log) (shut-run os ss (taken inList os (okFor os (t .count) Close) Close t) g refl))
-  opened-log (Send n bytes ∷ ss) t g h = ap (λ (u : Trace). run inList os ss u .log) (sym (idle inList os (Send n bytes) t g)) ∙ opened-log ss t g h
-  opened-log (Mask r v m ∷ ss) t g h = ap (λ (u : Trace). run inList os ss u .log) (sym (idle inList os (Mask r v m) t g)) ∙ opened-log ss t g h
-  opened-log (Plain e ∷ ss) t g h = ap (λ (u : Trace). run inList os ss u .log) (sym (idle inList os (Plain e) t g)) ∙ opened-log ss t g h
+  opened-run [] t g h = refl
+  opened-run (Open ∷ ss) t g h = ap (run inList os ss) (sym (idle inList os Open t g)) ∙ opened-run ss t g h
+  opened-run (Close ∷ ss) t g h = ap (run inList os ss) (sym (active inList os Close t h)) ∙ sym (shut-run os ss (shutAfter t) g refl)
+  opened-run (Send n bytes ∷ ss) t g h = ap (run inList os ss) (sym (idle inList os (Send n bytes) t g)) ∙ opened-run ss t g h
+  opened-run (Mask r v m ∷ ss) t g h = ap (run inList os ss) (sym (idle inList os (Mask r v m) t g)) ∙ opened-run ss t g h
+  opened-run (Plain e ∷ ss) t g h = ap (run inList os ss) (sym (idle inList os (Plain e) t g)) ∙ opened-run ss t g h
+
+  pub stopped-end : (ss : List Step) (t : Trace) → goes (t .progress) ≡ false → run inList os ss t ≡ cond (t .opened && shuts ss) (shutAfter t) t
+  stopped-end ss t g = go (t .opened) refl
+    where
+      go : (b : Bool) → t .opened ≡ b → run inList os ss t ≡ cond (t .opened && shuts ss) (shutAfter t) t
+      go true h = opened-run ss t g h ∙ ap (λ (c : Bool). cond (c && shuts ss) (shutAfter t) t) (sym h)
+      go false h = sym (shut-run os ss t g h) ∙ ap (λ (c : Bool). cond (c && shuts ss) (shutAfter t) t) (sym h)
 
   pub stopped-log : (ss : List Step) (t : Trace) → goes (t .progress) ≡ false → run inList os ss t .log ≡ t .log ++ cond (t .opened && shuts ss) (shutting t) []
-  stopped-log ss t g = go (t .opened) refl
+  stopped-log ss t g = ap (λ (u : Trace). u .log) (stopped-end ss t g) ∙ go (t .opened && shuts ss)
     where
-      go : (b : Bool) → t .opened ≡ b → run inList os ss t .log ≡ t .log ++ cond (t .opened && shuts ss) (shutting t) []
-      go true h = opened-log ss t g h ∙ ap (λ (c : Bool). t .log ++ cond (c && shuts ss) (shutting t) []) (sym h)
-      go false h =
-          sym (ap (λ (u : Trace). u .log) (shut-run os ss t g h))
-          ∙ sym (append-nil (t .log))
-          ∙ ap (λ (c : Bool). t .log ++ cond (c && shuts ss) (shutting t) []) (sym h)
+      go : (b : Bool) → cond b (shutAfter t) t .log ≡ t .log ++ cond b (shutting t) []
+      go true = refl
+      go false = sym (append-nil (t .log))
 
 -- ---- two runs
 
 module _ (os us : List ℕ) (i k : ℕ) (agree : take i os ≡ take i us) where
-  told : (j : ℕ) → j < i → getD os j 0 ≡ getD us j 0
+  pub told : (j : ℕ) → j < i → getD os j 0 ≡ getD us j 0
   told j h = sym (getD-take i os j 0 h) ∙ ap (λ (l : List ℕ). getD l j 0) agree ∙ getD-take i us j 0 h
 
   -- from where the one and the other stand

@@ -34,7 +34,7 @@ use Rattle.sequences.specs.Sequences.Sequence.{next, between}
 use Rattle.sequences.proofs.Most.{most-aside, most-entries}
 use Rattle.sequences.proofs.Views.{row-few}
 use Rattle.rounds.specs.Driven.{Kept, Knows, Rounds, Continued, Touched, ended}
-use Rattle.rounds.specs.Driven.Rounds.{begun, round}
+use Rattle.rounds.specs.Driven.RoundsBy.{begun, round}
 use Rattle.rounds.specs.Scripts.{Agree, Ask, By, Fills, InOrder, Same, Script, made, orderWith, otherWith, stepAt, takes, took}
 use Rattle.rounds.specs.Scripts.Ask.{On, Beside}
 use Rattle.rounds.proofs.Alike.{took-append}
@@ -139,7 +139,7 @@ at-step i es e h = go (drop i es) refl
         }
 
 -- no step is left
-at-end : (i : ℕ) (es : List Entry) → stepAt i es ≡ [] → take i es ≡ es
+pub at-end : (i : ℕ) (es : List Entry) → stepAt i es ≡ [] → take i es ≡ es
 at-end i es h = go (drop i es) refl
   where
     go : (xs : List Entry) → drop i es ≡ xs → take i es ≡ es

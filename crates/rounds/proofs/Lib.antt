@@ -4,4 +4,5 @@ pub mod Programs
 pub mod Rows
 pub mod Rounds
 pub mod Driven
+pub mod Ended
 pub mod Worked

@@ -19,7 +19,7 @@ use Rattle.rounds.specs.Scripts.Ask.{On, Beside}
 use Rattle.rounds.proofs.Rows.{order-kin, other-kin, rows-alike, rows-order, rows-refused}
 
 -- whether the records are in their ranges has nothing to do with replies
-sound-alike : (qs ps : List ℕ) (o : Order) (t : Tuner) → soundFor (orderWith qs o) t ≡ soundFor (orderWith ps o) t
+pub sound-alike : (qs ps : List ℕ) (o : Order) (t : Tuner) → soundFor (orderWith qs o) t ≡ soundFor (orderWith ps o) t
 sound-alike qs ps (Tuned o) t = refl
 sound-alike qs ps (SampleRate rate table d) t = refl
 sound-alike qs ps (Correction ppm d) t = refl

@@ -11,7 +11,7 @@ use Rattle.device.specs.Gpio.{bitSteps, withBit}
 use Rattle.device.specs.Gpio.Order.{Bit}
 use Rattle.sequences.specs.Asides.Other.{Pin}
 use Rattle.rounds.specs.Driven.{Rounds, ended}
-use Rattle.rounds.specs.Driven.Rounds.{begun, round}
+use Rattle.rounds.specs.Driven.RoundsBy.{begun, round}
 use Rattle.rounds.specs.Scripts.{Ask, Script, made, stepAt, took}
 use Rattle.rounds.specs.Scripts.Ask.{Beside}
 use Rattle.rounds.proofs.Rounds.{depends-on-before}

@@ -6,6 +6,7 @@ pub mod Ties
 pub mod Asides
 pub mod Most
 pub mod Demand
+pub mod Holding
 pub mod Failed
 pub mod Shut
 pub mod Late
