@@ -2,4 +2,5 @@ pub mod Oscillator
 pub mod Repaired
 pub mod Rests
 pub mod Sharp
+pub mod Thousands
 pub mod Worked

@@ -68,7 +68,7 @@ low (suc t) i k n s e l = go (takesTurn k n s) (low t (suc i) k (n * 2) (turnOf 
     go true h = omega (arith, least t i k n s e l)
     go false h = omega arith
 
-high : (t i k n : ℕ) (s : Sum) → n ≡ 2 * 2 ^ i → t + i ≡ 16 → 2 * k * bitsOf t k n s ≤ 65_536 * (takenOf t k n s + t)
+pub high : (t i k n : ℕ) (s : Sum) → n ≡ 2 * 2 ^ i → t + i ≡ 16 → 2 * k * bitsOf t k n s ≤ 65_536 * (takenOf t k n s + t)
 unfolding takenOf bitsOf
 high zero i k n s e l = omega arith
 high (suc t) i k n s e l = go (takesTurn k n s) (high t (suc i) k (n * 2) (turnOf k n s) (further t i k n s e l) (left t i k n s e l))
@@ -127,7 +127,7 @@ near kind lo r p is =
         record { below = both .0; above = both .1 }
 
 -- what is left of lo·m is less than 2R, so F is at most 2K + 1
-fraction-most : (vco r : ℕ) → 0 < r → fractionOf vco r ≤ 2 * (r / 1000) + 1
+pub fraction-most : (vco r : ℕ) → 0 < r → fractionOf vco r ≤ 2 * (r / 1000) + 1
 fraction-most vco r h =
     let some : 0 < 2 * r = omega arith in
     let cut : vco < (wholeOf vco r + 1) * (2 * r) = div-lt-iff-lt-mul some .0 (omega arith) in
