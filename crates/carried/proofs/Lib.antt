@@ -9,3 +9,4 @@ pub mod FedDriven
 pub mod Holding
 pub mod Crashed
 pub mod FedCrashed
+pub mod Died
