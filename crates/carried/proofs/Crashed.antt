@@ -73,20 +73,20 @@ module _ (t : Tuner) (r : Ranged t) (e : Exported) where
   abbrev ask : Ask
   ask = On (orderOf e) t
 
-  abbrev scriptOf : Memory → Script
+  abbrev pub scriptOf : Memory → Script
   scriptOf m = record { outcomes = m .outcomes; replies = m .replies; room = m .room }
 
   abbrev inner : Memory → Call
   inner m = call (orderWith (m .replies) (orderOf e)) (m .outcomes) (m .room)
 
   -- what a call that stands leaves
-  record Met (m : Memory) : Type 0 where
-    refused : refusal ask (scriptOf m) ≡ 0
-    entries : heard e b m ≡ script.made ask (scriptOf m)
-    reply : leaves (calledWith e m) b .reply ≡ callReply (result (inner m) t)
-    bytes : leaves (calledWith e m) b .bytes ≡ tunerBytes (tunerAfter (inner m) t)
+  pub record Met (m : Memory) : Type 0 where
+    pub refused : refusal ask (scriptOf m) ≡ 0
+    pub entries : heard e b m ≡ script.made ask (scriptOf m)
+    pub reply : leaves (calledWith e m) b .reply ≡ callReply (result (inner m) t)
+    pub bytes : leaves (calledWith e m) b .bytes ≡ tunerBytes (tunerAfter (inner m) t)
 
-  met : (m : Memory) → typed (exportedWith (m .replies) (m .slot) e) ≡ true → stands (leaves (calledWith e m) b .reply) ≡ true → Met m
+  pub met : (m : Memory) → typed (exportedWith (m .replies) (m .slot) e) ≡ true → stands (leaves (calledWith e m) b .reply) ≡ true → Met m
   met m h s = go (every-passed t r (exportedWith (m .replies) (m .slot) e) (m .outcomes) (m .room) (m .next) h)
     where
       own : Call

@@ -22,8 +22,9 @@ use Rattle.carried.specs.Crashed.{FedKnows, FedRounds, Kept, Knows, Memo
 use Rattle.carried.specs.Exported.{Exported, Left, leaves, left, readBy, stands}
 use Rattle.carried.specs.Fed.{Completes, Makes, fedEntries, plainFed}
 use Rattle.carried.specs.Fed.Makes.{tunes, rates, gains, steps, narrows, corrects, reloads}
-use Rattle.carried.proofs.Crashed.{recovered, recovered-sure}
+use Rattle.carried.proofs.Crashed.{ended-alike, recovered, recovered-sure}
 use Rattle.carried.proofs.Fed.{fed-call, made-typed}
+use Rattle.carried.proofs.Holding.{carried-recorded}
 
 -- with other replies a command makes the same call with those
 makes-with : (table rs d : List ℕ) (x : Command) (e : Exported) → Makes table rs d x e → (qs : List ℕ) → Makes table qs d x (exportedWith qs d e)
@@ -65,6 +66,21 @@ module _ (b : List ℕ) (es : List Entry) (c : Carried b es) (table d : List ℕ
   rounds-so os rs ds begun = begun
   rounds-so xs ys zs (round os rs fs p s k x here o bs n small) =
       round os rs fs (rounds-so os rs fs p) (memory s) (known-so os rs s k) x (sym (ap (stepAt (length os)) (same-heard s (k .numbers))) ∙ here) o bs n small
+
+  -- when every step has been taken, the command's reply and the tuner's bytes do not hang on the unknown rest of the script
+  pub fed-ended : (os rs : List ℕ) (ds : List Entry) → FedRounds table chunk stream d b os rs ds → (s u : Script) → FedKnows table chunk stream d b os rs s
+      → FedKnows table chunk stream d b os rs u → stepAt (length os) (fedEntries (fedWith table chunk stream d b s)) ≡ []
+      → (plainFed (fedWith table chunk stream d b s .answer) ≡ plainFed (fedWith table chunk stream d b u .answer))
+      × (fedWith table chunk stream d b s .tuner ≡ fedWith table chunk stream d b u .tuner)
+  fed-ended os rs ds driven s u k l h =
+      let x = same-left s (k .numbers) in
+      let y = same-left u (l .numbers) in
+      let same =
+      ended-alike b (carried-recorded b es c) e os rs ds (rounds-so os rs ds driven) (memory s) (memory u) (known-so os rs s k) (known-so os rs u l)
+      (sym (ap (stepAt (length os)) (same-heard s (k .numbers))) ∙ h) in (
+        ap (λ (z : Left). z .reply) x ∙ same .0 ∙ sym (ap (λ (z : Left). z .reply) y),
+        ap (λ (z : Left). z .bytes) x ∙ same .1 ∙ sym (ap (λ (z : Left). z .bytes) y),
+      )
 
   module _ (os rs : List ℕ) (ds : List Entry) (driven : FedRounds table chunk stream d b os rs ds) (s : Script) (known : FedKnows table chunk stream d b os rs s)
       (vain : RestFailed os (s .outcomes)) (before start mid now : Regs) (played : Played (getD b 1 0) es before start) (done : Played (getD b 1 0) ds start mid)

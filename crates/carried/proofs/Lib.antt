@@ -11,3 +11,4 @@ pub mod Five
 pub mod Holding
 pub mod Crashed
 pub mod FedCrashed
+pub mod Died

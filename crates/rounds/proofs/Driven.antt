@@ -1,10 +1,10 @@
 -- What a host has that drives a receiver in rounds. Assumes nothing.
-use Prim.Native.Nat.{ℕ, suc, _+_, _-_, _≤_, _<_}
+use Prim.Native.Nat.{ℕ, suc, _+_, _*_, _-_, _≤_, _<_}
 use mathlib.Core.Path.{_≡_, refl, sym, ap, subst, _∙_}
 use mathlib.Core.Bool.{Bool, true, false, cond, _&&_, _||_, or-false, true≢false}
 use mathlib.Core.List.{List, [], _∷_, _++_, append-nil, map}
 use native.Mathlib.Omega.{arith}
-use borrow.Author.Tests.{eqb-true, ltb-true, ltb-false}
+use borrow.Author.Tests.{eqb-false, eqb-true, ltb-true, ltb-false}
 use lib.Dec.{eqb, leb, ltb}
 use lib.ListN.{List·getD-append, drop, getD, length, length-append, length-drop, take, take-append-drop}
 use lib.Seq.{drop-append-seam, getD-append-seam, getD-drop, getD-take, length-take-le, sets, take-add, take-append-add, take-append-seam, take-take}
@@ -17,7 +17,9 @@ use Rattle.attempts.proofs.Played.{played-append}
 use Rattle.chip.specs.declared.Chip.{Chip}
 use Rattle.chip.specs.declared.Progress.the-variants.{Going}
 use Rattle.chip.specs.Entries.{flagOf}
-use Rattle.chip.specs.Courses.{Asked, entriesBy}
+use Rattle.chip.specs.Calls.{tooShort}
+use Rattle.chip.specs.Courses.{Asked, Course, askedBy, entriesBy, mostOf}
+use Rattle.chip.specs.Courses.Course.{Still, Taken}
 use Rattle.chip.specs.Steps.{Step, Trace, emit, every, line, okFor, trace}
 use Rattle.chip.specs.Steps.Step.{Open, Close, Send, Mask, Plain}
 use Rattle.demod.specs.Calls.Order.{Baseband, LowIf, ZeroIf, Reset, Direct, Start, Stop, IfXtal, RateXtal}
@@ -26,16 +28,16 @@ use Rattle.device.specs.Gpio.Order.{Output, Bit}
 use Rattle.history.proofs.Runs.{counted-taken, run-always}
 use Rattle.history.proofs.Tracked.{done-flag}
 use Rattle.r82xx.specs.declared.Tuner.{Tuner}
-use Rattle.sequences.specs.Asides.{Other, aside, asideAsked, asideGiven, asideMost}
+use Rattle.sequences.specs.Asides.{Other, aside, asideAsked, asideGiven, asideMost, asideRow}
 use Rattle.sequences.specs.Asides.Other.{Pin, Demod}
-use Rattle.sequences.specs.Calls.{Call, Order, tunerAfter, asked, call, given, isByte}
+use Rattle.sequences.specs.Calls.{Call, Order, asked, call, given, isByte, rowOf, soundFor, tunerAfter}
 use Rattle.sequences.specs.Sequences.{Sequence}
 use Rattle.sequences.specs.Sequences.Sequence.{next, between}
 use Rattle.sequences.proofs.Most.{most-aside, most-entries}
 use Rattle.sequences.proofs.Views.{row-few}
 use Rattle.rounds.specs.Driven.{Kept, Knows, Rounds, Continued, Touched, ended}
 use Rattle.rounds.specs.Driven.RoundsBy.{begun, round}
-use Rattle.rounds.specs.Scripts.{Agree, Ask, By, Fills, InOrder, Same, Script, made, orderWith, otherWith, stepAt, takes, took}
+use Rattle.rounds.specs.Scripts.{Agree, Ask, By, Fills, InOrder, Same, Script, made, orderWith, otherWith, refusal, stepAt, takes, took}
 use Rattle.rounds.specs.Scripts.Ask.{On, Beside}
 use Rattle.rounds.proofs.Alike.{took-append}
 use Rattle.rounds.proofs.Rounds.{depends-on-before, in-order}
@@ -112,6 +114,27 @@ few-made (On o t) s =
     let k = call (orderWith (s .replies) o) (s .outcomes) (s .room) in
     omega (arith, most-entries k t, row-few (orderWith (s .replies) o) t)
 few-made (Beside o) s = omega (arith, most-aside (aside (otherWith (s .replies) o) (s .outcomes) (s .room)), few-other (otherWith (s .replies) o))
+
+-- a script with which a call is not refused has an outcome for each
+outcomes-lent : {R : Type 0} (s : Bool) (row : Course R) (os room : ℕ) → askedBy s row os room .number ≡ 0 → mostOf row ≤ os
+unfolding tooShort
+outcomes-lent s (Still left answer) os room h = omega arith
+outcomes-lent s (Taken argument n m rs whole ss keep) os room h = go s (eqb argument 0) refl (ltb room (16 * n + 8)) (ltb os n) refl h
+  where
+    go : (w z : Bool) → eqb argument 0 ≡ z → (x y : Bool) → ltb os n ≡ y → cond w (cond z (cond x 8 (cond y 9 (cond (ltb (length rs) m) 10 0))) argument) 1 ≡ 0 → n ≤ os
+    go true true e true y l q = absurd (omega arith)
+    go true true e false true l q = absurd (omega arith)
+    go true true e false false l q = ltb-false os n l
+    go true false e x y l q = absurd (eqb-false argument 0 e q)
+    go false z e x y l q = absurd (omega arith)
+
+pub enough-made : (a : Ask) (s : Script) → refusal a s ≡ 0 → length (made a s) ≤ length (s .outcomes)
+enough-made (On o t) s h =
+    let k = call (orderWith (s .replies) o) (s .outcomes) (s .room) in
+    omega (arith, most-entries k t, outcomes-lent (soundFor (k .order) t) (rowOf (k .order) t) (length (s .outcomes)) (length (s .room)) h)
+enough-made (Beside o) s h =
+    let k = aside (otherWith (s .replies) o) (s .outcomes) (s .room) in
+    omega (arith, most-aside k, outcomes-lent true (asideRow (k .other)) (length (s .outcomes)) (length (s .room)) h)
 
 -- ---- the entry that is looked at
 
@@ -345,7 +368,7 @@ module _ (address : ℕ) where
         let at : ℕ = length os + j in
         let h : at < length (made a s) = omega (arith, length-drop (length os) (made a s), l) in
         subst Vain (sym (getD-drop (length os) (made a s) j d))
-        (vain-by (getD (s .outcomes) at 0) (getD (made a s) at d) (kept .vain at (omega arith) (omega (arith, few-made a s, h))) (by-made a s d at h))
+        (vain-by (getD (s .outcomes) at 0) (getD (made a s) at d) (kept .vain at (omega arith) (omega (arith, enough-made a s (kept .known .taken), h))) (by-made a s d at h))
 
     -- whenever it died: the call made once more with what it had kept, by the library alone, tells entries that were played on the chip as it is now
     pub crashed : (before mid now : Regs) → Played address es before mid → Touched address (stepAt (length os) (made a s)) mid now

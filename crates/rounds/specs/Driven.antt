@@ -64,9 +64,9 @@ pub record Ends {R : Type 0} (x y : Called R) : Type 0 where
 
 -- ---- a host that dies while it drives a receiver
 
--- failed for all the rest
+-- failed for all the rest, however long it is
 abbrev pub RestFailed : List ℕ → List ℕ → Type 0
-RestFailed os outcomes = (j : ℕ) → length os ≤ j → j < 64 → eqb (getD outcomes j 0) 0 ≡ false
+RestFailed os outcomes = (j : ℕ) → length os ≤ j → j < length outcomes → eqb (getD outcomes j 0) 0 ≡ false
 
 -- what it had kept: a script with what was known, and failed for all the rest
 pub record Kept (a : Ask) (os rs : List ℕ) (s : Script) : Type 0 where
