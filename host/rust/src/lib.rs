@@ -92,6 +92,7 @@ mod settings;
 mod stream;
 mod table;
 mod transcript;
+mod transport;
 mod tuner;
 
 pub use driver::{Board, Driver, Plan};
@@ -108,6 +109,7 @@ pub use settings::{Settings, Settings2};
 pub use stream::{Command, Fed, Stream};
 pub use table::{Band, Table};
 pub use transcript::{Entries, Entry, EntryKind, Transcript};
+pub use transport::{Bus, Fault, Transport};
 pub use tuner::{InputPath, Tuner, TunerKind};
 
 /// What a call with steps hands back. Its record is updated already, also where `result` is an error and steps were taken.
