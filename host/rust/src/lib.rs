@@ -95,6 +95,7 @@ mod state;
 mod stream;
 mod table;
 mod transcript;
+mod transport;
 mod tuner;
 
 pub use call::{Call, Made};
@@ -114,6 +115,7 @@ pub use state::{Cut, Found, State, StateError};
 pub use stream::{Command, Fed, Stream};
 pub use table::{Band, Table};
 pub use transcript::{Entries, Entry, EntryKind, Transcript};
+pub use transport::{Bus, Fault, Transport};
 pub use tuner::{InputPath, Tuner, TunerKind};
 
 /// What a call with steps hands back. Its record is updated already, also where `result` is an error and steps were taken.

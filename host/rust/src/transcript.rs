@@ -122,6 +122,38 @@ impl<'a> Entry<'a> {
         (first..=u8::MAX).zip(data.iter().copied())
     }
 
+    /// The most data bytes of a step.
+    pub const MOST: usize = 8;
+
+    /// The USB control transfers of this step alone, as [`Transcript::packets`] has them: a wait has none, a write to the demodulator that is not failed has the
+    /// read of page 0x0a behind it. [`Packet::all`](crate::Packet::all) walks them.
+    ///
+    /// ```
+    /// use pasetone::{Script, Tuner, TunerKind};
+    ///
+    /// let sent = Tuner::new(TunerKind::R828d, 0x74, 28_800_000)?.reload(&Script::all_done()).transcript;
+    /// let packets: Vec<u8> = sent.iter().flat_map(|step| step.packets().unwrap()).collect();
+    /// assert_eq!(packets, sent.packets()?);
+    /// # Ok::<(), pasetone::Error>(())
+    /// ```
+    ///
+    /// # Errors
+    ///
+    /// - [`Error::Section`] (12): no step of a call has these fields.
+    /// - [`Error::Expansion`] (15): a demod register above 0xff, a page above 15, or block 0 or 6.
+    pub fn packets(&self) -> Result<Vec<u8>, Error> {
+        if self.bytes.len() > Entry::MOST {
+            return Err(Error::Section);
+        }
+        let mut section = alloc::vec![0; room_for(1)];
+        section[..4].copy_from_slice(&[self.kind.number(), u8::from(self.failed), self.target, self.bytes.len() as u8]);
+        section[4..6].copy_from_slice(&self.address.to_le_bytes());
+        section[8..8 + self.bytes.len()].copy_from_slice(self.bytes);
+        section[ENTRY] = 1;
+        section[ENTRY + 4] = ENTRY as u8;
+        Transcript { section }.packets()
+    }
+
     /// What the step does, in words, without how it ended.
     ///
     /// ```

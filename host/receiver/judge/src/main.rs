@@ -1,0 +1,86 @@
+//! Judges a host on simulated receivers, which it reaches by usbfs's calls as real ones: run it with the preloaded library (host/receiver/run does, docs/RECEIVER.md).
+//!
+//!   judge open                            a receiver is one program's, and the kernel's driver is refused
+//!   judge sweep KIND LIE STRIDE           every call, its every transfer (or every STRIDEth) failing in each of the ways
+//!   judge killed LIE STRIDE               the same with the host killed
+//!   judge kills SEED CALLS                so many calls, each in a process of its own, with transfers failing and hosts killed by chance
+//!   judge storm KIND SEED CALLS LIE       so many calls on every receiver, all at once, with transfers failing by chance
+//!   judge numbers                         the calls of usbfs as crate pasetone-usb has them
+//!
+//! KIND is r828d or r820t. LIE is `nothing`, or what a wrong host does: short, timeout, stall, hurry, before, bold. Exit status 1 where a fault was found.
+mod calls;
+mod file;
+mod held;
+mod host;
+mod killed;
+mod storm;
+mod sweep;
+
+use held::Tally;
+use host::Lie;
+use pasetone::TunerKind;
+use pasetone_usb::Found;
+use std::process::ExitCode;
+
+fn kind(word: &str) -> Option<TunerKind> {
+    [("r828d", TunerKind::R828d), ("r820t", TunerKind::R820t)].into_iter().find(|row| row.0 == word).map(|row| row.1)
+}
+
+/// Every receiver, each in a thread of its own.
+fn storms(found: &[Found], kind: TunerKind, seed: u64, calls: usize, lie: Lie) -> Tally {
+    let mut tally = Tally::default();
+    std::thread::scope(|scope| {
+        let runs: Vec<_> =
+            found.iter().zip(seed..).map(|(device, seed)| scope.spawn(move || storm::run(device, kind, seed, lie, calls))).collect();
+        runs.into_iter().for_each(|run| tally.add(run.join().expect("a storm ends")));
+    });
+    tally
+}
+
+fn judged(words: &[&str], found: &[Found]) -> Option<Tally> {
+    let first = found.first()?;
+    let mut tally = Tally::default();
+    match *words {
+        ["open"] => storm::opened(first, &mut tally),
+        ["sweep", which, lie, stride] => {
+            for settle in [1, 3, 1_000] {
+                tally.add(sweep::run(first, kind(which)?, settle, Lie::of(lie)?, stride.parse().ok()?));
+            }
+        }
+        ["kills", seed, calls] => tally = killed::storm(first, seed.parse().ok()?, calls.parse().ok()?),
+        ["killed", lie, stride] => tally = killed::run(first, Lie::of(lie)?, stride.parse().ok()?),
+        ["storm", which, seed, calls, lie] => tally = storms(found, kind(which)?, seed.parse().ok()?, calls.parse().ok()?, Lie::of(lie)?),
+        _ => return None,
+    }
+    Some(tally)
+}
+
+fn main() -> ExitCode {
+    let words: Vec<String> = std::env::args().skip(1).collect();
+    let words: Vec<&str> = words.iter().map(String::as_str).collect();
+    if words == ["numbers"] {
+        pasetone_usb::NUMBERS.iter().for_each(|(name, number, size)| println!("{name} {number} {size}"));
+        return ExitCode::SUCCESS;
+    }
+    let found = Found::all().expect("sysfs");
+    if let (["child", number, path], Some(first)) = (words.as_slice(), found.first()) {
+        let done = killed::child(first, number.parse().expect("a number"), path.as_ref());
+        return ExitCode::from(if done { 0 } else { 3 });
+    }
+    let Some(tally) = judged(&words, &found) else {
+        eprintln!(
+            "use: judge open | sweep KIND LIE STRIDE | killed LIE STRIDE | kills SEED CALLS | storm KIND SEED CALLS LIE | numbers; {} receivers were found",
+            found.len()
+        );
+        return ExitCode::from(2);
+    };
+    for (what, (count, name)) in &tally.faults {
+        println!("judge: FAULT: {what}: {count} times, first in {name}");
+    }
+    let faults: u64 = tally.faults.values().map(|row| row.0).sum();
+    let Tally { runs, transfers, failed, kills, checks, stations, .. } = tally;
+    println!(
+        "judge: {runs} calls, {transfers} transfers, {failed} of them failed, {kills} kills, {stations} stations, {checks} checks, {faults} faults"
+    );
+    ExitCode::from(u8::from(faults > 0))
+}
