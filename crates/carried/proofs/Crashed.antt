@@ -3,7 +3,7 @@
 use Prim.Native.Nat.{ℕ, _+_, _%_, _<_}
 use mathlib.Core.Path.{_≡_, refl, sym, ap, subst, _∙_}
 use mathlib.Core.Bool.{Bool, true, false, cond, _||_, true≢false}
-use mathlib.Core.List.{List, [], _∷_, _++_}
+use mathlib.Core.List.{List, [], _++_}
 use borrow.Author.Tests.{eqb-true}
 use lib.Dec.{eqb, ltb}
 use lib.ListN.{getD, length}
@@ -19,10 +19,9 @@ use Rattle.chip.specs.Steps.{trace}
 use Rattle.r82xx.specs.declared.Tuner.{Tuner}
 use Rattle.records.specs.Tuners.{tunerBytes}
 use Rattle.records.proofs.Exact.{Ranged}
-use Rattle.reply.specs.declared.Reply.{Reply}
 use Rattle.reply.specs.Replies.{callReply, replyOf}
 use Rattle.rounds.specs.Driven as inside
-use Rattle.rounds.specs.Driven.{Ends, RoundsBy, Touched, ended}
+use Rattle.rounds.specs.Driven.{Ends, Touched}
 use Rattle.rounds.specs.Driven.RoundsBy.{begun, round}
 use Rattle.rounds.specs.Scripts.{Ask, Script, orderWith, refusal, stepAt}
 use Rattle.rounds.specs.Scripts as script
@@ -34,7 +33,7 @@ use Rattle.sequences.proofs.Views.{result-row}
 use Rattle.carried.specs.Carried.{Carried}
 use Rattle.carried.specs.Carried.Carried.{next as more}
 use Rattle.carried.specs.Crashed.{Kept, Knows, Memory, Rounds, calledWith, exportedWith, heard}
-use Rattle.carried.specs.Exported.{Exported, amiss, leaves, orderOf, stands, typed, typedOrder}
+use Rattle.carried.specs.Exported.{Exported, amiss, leaves, orderOf, stands, typed}
 use Rattle.carried.specs.Exported.Exported.{Own, Rate, Correct, Path, Hop}
 use Rattle.carried.specs.Holding.{Holds}
 use Rattle.carried.proofs.Demand.{entries-read, sure-holds}
@@ -114,14 +113,14 @@ module _ (t : Tuner) (r : Ranged t) (e : Exported) where
           }
 
   module _ (os rs : List ℕ) (m : Memory) (k : Knows e b os rs m) where
-    known-met : Met m
+    pub known-met : Met m
     known-met = met m (k .numbers) (k .taken)
 
-    known-so : inside.Knows ask os rs (scriptOf m)
+    pub known-so : inside.Knows ask os rs (scriptOf m)
     known-so = record { outcomes = k .outcomes; replies = k .replies; taken = known-met .refused }
 
   -- the host's rounds are those of crate `rounds`
-  rounds-so : (os rs : List ℕ) (ds : List Entry) → Rounds e b os rs ds → inside.Rounds ask os rs ds
+  pub rounds-so : (os rs : List ℕ) (ds : List Entry) → Rounds e b os rs ds → inside.Rounds ask os rs ds
   rounds-so os rs ds begun = begun
   rounds-so xs ys zs (round os rs es p m k x here o bs n small) =
       round os rs es (rounds-so os rs es p) (scriptOf m) (known-so os rs m k) x

@@ -154,7 +154,7 @@ pub record Kept (b : List ℕ) : Type 0 where
   pub ranges : RangedDriver record-of
 
 -- where a call on both is not turned away the driver's slice is long enough
-slot-long : (ok : Bool) (number slot next : ℕ) → eqb (bothReady ok number slot next) 0 ≡ true → 29 ≤ slot
+pub slot-long : (ok : Bool) (number slot next : ℕ) → eqb (bothReady ok number slot next) 0 ≡ true → 29 ≤ slot
 unfolding bothReady
 slot-long ok number slot next z = go ok (eqb number 0) refl (ltb slot 29) refl (ltb next 78) z
   where

@@ -1,15 +1,15 @@
 -- A host that dies while it drives a command of a line: `pasetone_feed` with the same bytes and with what it had kept leaves tuner's bytes that tell the truth, as the command's
 -- own exported call does. Assumes nothing.
 use Prim.Native.Nat.{ℕ, _+_, _<_}
-use mathlib.Core.Path.{_≡_, refl, sym, ap, subst, _∙_}
+use mathlib.Core.Path.{_≡_, sym, ap, subst, _∙_}
 use mathlib.Core.Bool.{true}
-use mathlib.Core.List.{List, [], _∷_, _++_}
+use mathlib.Core.List.{List, [], _++_}
 use lib.ListN.{getD, length}
 use Rattle.transcript.specs.declared.Entry.{Entry}
 use Rattle.attempts.specs.Attempts.{Played, Regs}
 use Rattle.chip.specs.Steps.{every}
 use Rattle.records.specs.Drivers.{driverOf}
-use Rattle.rounds.specs.Driven.{RestFailed, Touched, ended}
+use Rattle.rounds.specs.Driven.{RestFailed, Touched}
 use Rattle.rounds.specs.Driven.RoundsBy.{begun, round}
 use Rattle.rounds.specs.Scripts.{Script, stepAt}
 use Rattle.sequences.specs.Calls.{isByte}

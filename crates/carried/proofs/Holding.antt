@@ -13,7 +13,6 @@ use Rattle.attempts.specs.Namings.Last.{Never, Tried}
 use Rattle.attempts.proofs.Played.{last-done}
 use Rattle.restore.specs.Restore.{listOf, sureIn}
 use Rattle.restore.proofs.Listed.{sent}
-use Rattle.chip.specs.declared.Chip.{Chip}
 use Rattle.history.specs.Holding as chips
 use Rattle.r82xx.specs.declared.Tuner.{Tuner}
 use Rattle.records.specs.declared.TunerRead.{TunerRead}
@@ -27,7 +26,7 @@ use Rattle.wire.specs.Bytes.{Bytes}
 use Rattle.writes.specs.Lists.{initArray}
 use Rattle.wire.specs.Parts.{partsFrom}
 use Rattle.carried.specs.Carried.{Carried}
-use Rattle.carried.specs.Exported.{Left, Lent, amiss, asideEntriesOf, entriesOf, leaves, orderOf, readBy, typed}
+use Rattle.carried.specs.Exported.{Left, Lent, amiss, asideEntriesOf, entriesOf, leaves, orderOf, typed}
 use Rattle.carried.specs.Holding.{Holds}
 use Rattle.carried.proofs.Demand.{address-byte, aside-entries, away-entries, behind, doubtful-byte, doubtful-byte-of, entries-read, flag-none, shadow-byte, shadow-byte-of, sure-holds}
 use Rattle.carried.proofs.Passed.{Passed, every-passed, ranged-after, turned}

@@ -12,3 +12,4 @@ pub mod Holding
 pub mod Crashed
 pub mod FedCrashed
 pub mod Died
+pub mod EndedDriver

@@ -20,10 +20,19 @@ use Rattle.chip.specs.Steps.Step.{Close, Plain}
 use Rattle.chip.proofs.Laws.{active, idle}
 use Rattle.history.proofs.Cuts.{ok-same}
 use Rattle.history.proofs.Runs.{counted-taken, run-log}
+use Rattle.bands.specs.Tables.{planBy}
+use Rattle.boards.specs.Hops.{hopResult, hopRow}
 use Rattle.device.specs.Calls.{freeResult, noChip}
+use Rattle.driver.specs.declared.Driver.{Driver}
+use Rattle.driver.specs.Calls.{Both, both, rateResult, rateRow}
+use Rattle.driver.specs.Programs.{ifFor}
+use Rattle.driver.specs.Record.{soundDriver, xtalOf}
+use Rattle.r82xx.specs.Calls.{planFor}
+use Rattle.r82xx.specs.Record.{sound}
 use Rattle.r82xx.specs.declared.Tuner.{Tuner}
 use Rattle.sequences.specs.Asides.{Other, aside, asideResult, asideRow}
 use Rattle.sequences.specs.Calls.{Order, call, result, rowOf, soundFor}
+use Rattle.sequences.specs.Calls.Order.{BoardTune, SampleRate}
 use Rattle.sequences.proofs.Most.{progress-on}
 use Rattle.sequences.proofs.Views.{result-row}
 use Rattle.rounds.specs.Driven.{Ends, Knows, Rounds}
@@ -33,7 +42,8 @@ use Rattle.rounds.proofs.Alike.{Alike, same-failed, shutAfter, shuts, s
 use Rattle.rounds.proofs.Alike.Alike.{none, same, read}
 use Rattle.rounds.proofs.Driven.{all-taken, at-end, told as told-so}
 use Rattle.rounds.proofs.Rounds.{sound-alike}
-use Rattle.rounds.proofs.Rows.{Kin, order-kin, other-kin}
+use Rattle.rounds.proofs.Programs.{hop-alike}
+use Rattle.rounds.proofs.Rows.{Kin, kin-refl, mute-rate, order-kin, other-kin}
 use Rattle.rounds.proofs.Rows.Kin.{still, moved}
 
 -- ---- two runs whose entries are all known
@@ -202,6 +212,31 @@ module _ (os rs : List ℕ) (es : List Entry) (s u : Script) where
       (rows-ended (s .outcomes) (u .outcomes) (length os) (length rs) (outcomes (On o t) r k l h) Tuner (t .chip) t (s .room) (u .room) (s .replies) (u .replies)
       (rowOf x t) (rowOf y t) (order-kin (length rs) (s .replies) (u .replies) (replies (On o t) r k l h) o t) (soundFor x t) (k .taken) refused
       (taken-all (On o t) os s h) (read-all (On o t) r k l h)))
+
+  -- and the driver's record with it, of the two calls with steps that hand one on: a sample rate and a board-level tune
+  pub ended-rate : (rate : ℕ) (table : List ℕ) (d : Driver) (t : Tuner) → Rounds (On (SampleRate rate table d) t) os rs es
+      → Knows (On (SampleRate rate table d) t) os rs s → Knows (On (SampleRate rate table d) t) os rs u → stepAt (length os) (made (On (SampleRate rate table d) t) s) ≡ []
+      → Ends (rateResult rate (planBy table (d .frequency)) (s .outcomes) t d (s .room)) (rateResult rate (planBy table (d .frequency)) (u .outcomes) t d (u .room))
+  unfolding rateResult
+  ended-rate rate table d t r k l h =
+      let a : Ask = On (SampleRate rate table d) t in
+      let row = rateRow rate (planBy table (d .frequency)) t d in
+      rows-ended (s .outcomes) (u .outcomes) (length os) (length rs) (outcomes a r k l h) Both (t .chip) (both t d) (s .room) (u .room) (s .replies) (u .replies) row row
+      (kin-refl (length rs) (s .replies) (u .replies) Both row (mute-rate (ifFor (t .ifreq) rate) rate (xtalOf d) (planBy table (d .frequency) .plan .inverted)))
+      (sound t && soundDriver d) (k .taken) (l .taken) (taken-all a os s h) (read-all a r k l h)
+
+  pub ended-hop : (hz : ℕ) (table own : List ℕ) (d : Driver) (t : Tuner) → Rounds (On (BoardTune hz table own d) t) os rs es
+      → Knows (On (BoardTune hz table own d) t) os rs s → Knows (On (BoardTune hz table own d) t) os rs u → stepAt (length os) (made (On (BoardTune hz table own d) t) s) ≡ []
+      → Ends (hopResult (planBy table hz) hz (s .replies) (s .outcomes) t d (s .room)) (hopResult (planBy table hz) hz (u .replies) (u .outcomes) t d (u .room))
+  unfolding hopResult
+  ended-hop hz table own d t r k l h =
+      let a : Ask = On (BoardTune hz table own d) t in
+      let at = planBy table hz in
+      rows-ended (s .outcomes) (u .outcomes) (length os) (length rs) (outcomes a r k l h) Both (t .chip) (both t d) (s .room) (u .room) (s .replies) (u .replies)
+      (hopRow at hz (s .replies) t d) (hopRow at hz (u .replies) t d)
+      (moved _ _ _ (s .replies) (u .replies) _ _ _ _ (λ n. n)
+      (hop-alike (length rs) (s .replies) (u .replies) (replies a r k l h) (t .kind) (t .chip .address) (at .plan) (planFor t (at .plan .hz))))
+      (sound t && soundDriver d) (k .taken) (l .taken) (taken-all a os s h) (read-all a r k l h)
 
   pub ended-beside : (o : Other) → Rounds (Beside o) os rs es → Knows (Beside o) os rs s → Knows (Beside o) os rs u → stepAt (length os) (made (Beside o) s) ≡ []
       → Ends (asideResult (aside (otherWith (s .replies) o) (s .outcomes) (s .room))) (asideResult (aside (otherWith (u .replies) o) (u .outcomes) (u .room)))

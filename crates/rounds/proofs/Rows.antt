@@ -100,7 +100,7 @@ module _ (os : List ℕ) (k : ℕ) (all others : List ℕ) (c : Chip) where
 -- ---- each row
 
 -- one that takes no replies
-kin-refl : (k : ℕ) (all others : List ℕ) (R : Type 0) (row : Course R) → every mute (stepsOf row) ≡ true → Kin k all others R row row
+pub kin-refl : (k : ℕ) (all others : List ℕ) (R : Type 0) (row : Course R) → every mute (stepsOf row) ≡ true → Kin k all others R row row
 kin-refl k all others R (Still next answer) h = still next answer
 kin-refl k all others R (Taken argument n m rs whole ss keep) h = moved argument n m rs rs whole ss ss keep (λ l. refl) (alike-refl ss h)
 
@@ -127,7 +127,7 @@ mute-demod Stop = refl
 mute-demod (IfXtal hz xtal) = refl
 mute-demod (RateXtal rate xtal) = refl
 
-mute-rate : (hz rate xtal : ℕ) (inverted : Bool) → every mute (sampleRateSteps hz rate xtal inverted) ≡ true
+pub mute-rate : (hz rate xtal : ℕ) (inverted : Bool) → every mute (sampleRateSteps hz rate xtal inverted) ≡ true
 unfolding every accessStep resetSteps ifSteps rateSteps ddcSteps
 mute-rate hz rate xtal inverted = refl
 
