@@ -106,12 +106,20 @@ static void fresh(struct receiver *r, unsigned number, unsigned address)
     receiver_power(r);
 }
 
+/* What else sysfs has beside receivers: a hub, and an interface, which has no numbers of its own. */
+static int others(const char *base)
+{
+    char path[4096];
+    int n = snprintf(path, sizeof path, "%s/sys/bus/usb/devices/usb1/idVendor", base);
+    return folder(base, "sys/bus/usb/devices/usb1") && folder(base, "sys/bus/usb/devices/1-1:1.0") && n > 0 && (size_t)n < sizeof path && put(path, "1d6b\n", 5);
+}
+
 static int make(const char *base, unsigned count, unsigned address)
 {
     static struct receiver r;
     char path[4096];
     unsigned number;
-    if (!folder(base, "dev/bus/usb/001")) {
+    if (!folder(base, "dev/bus/usb/001") || !others(base)) {
         fprintf(stderr, "simulate: %s: %s\n", base, strerror(errno));
         return 1;
     }

@@ -33,7 +33,7 @@
 //! # On a receiver
 //!
 //! A script says in advance how each step ends. A receiver says it when the step is taken: [`Tuner::drive`], [`Driver::drive`] and [`drive`] make any call
-//! that way, and show each step to a closure when its turn comes. A [`Receiver`] holds tuner, driver and table together. Commands that arrive over a line, chopped
+//! that way, and show each step to a closure when its turn comes. A [`Bus`] takes steps on a [`Transport`] of USB. A [`Receiver`] holds tuner, driver and table together. Commands that arrive over a line, chopped
 //! anywhere, are fed to a [`Stream`].
 //!
 //! ```

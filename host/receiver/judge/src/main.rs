@@ -1,6 +1,7 @@
 //! Judges a host on simulated receivers, which it reaches by usbfs's calls as real ones: run it with the preloaded library (host/receiver/run does, docs/RECEIVER.md).
 //!
 //!   judge open                            a receiver is one program's, and the kernel's driver is refused
+//!   judge hop                             a hop cut at each transfer: a reload alone, and the same call again behind it
 //!   judge sweep KIND LIE STRIDE           every call, its every transfer (or every STRIDEth) failing in each of the ways
 //!   judge killed LIE STRIDE               the same with the host killed
 //!   judge kills SEED CALLS                so many calls, each in a process of its own, with transfers failing and hosts killed by chance
@@ -11,6 +12,7 @@
 mod calls;
 mod file;
 mod held;
+mod hop;
 mod host;
 mod killed;
 mod storm;
@@ -41,7 +43,11 @@ fn judged(words: &[&str], found: &[Found]) -> Option<Tally> {
     let first = found.first()?;
     let mut tally = Tally::default();
     match *words {
-        ["open"] => storm::opened(first, &mut tally),
+        ["open"] => {
+            tally.that(found.len() == 1, "other devices than receivers are listed", "open");
+            storm::opened(first, &mut tally);
+        }
+        ["hop"] => tally = hop::run(first),
         ["sweep", which, lie, stride] => {
             for settle in [1, 3, 1_000] {
                 tally.add(sweep::run(first, kind(which)?, settle, Lie::of(lie)?, stride.parse().ok()?));
@@ -69,7 +75,7 @@ fn main() -> ExitCode {
     }
     let Some(tally) = judged(&words, &found) else {
         eprintln!(
-            "use: judge open | sweep KIND LIE STRIDE | killed LIE STRIDE | kills SEED CALLS | storm KIND SEED CALLS LIE | numbers; {} receivers were found",
+            "use: judge open | hop | sweep KIND LIE STRIDE | killed LIE STRIDE | kills SEED CALLS | storm KIND SEED CALLS LIE | numbers; {} receivers were found",
             found.len()
         );
         return ExitCode::from(2);

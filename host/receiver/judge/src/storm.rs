@@ -86,12 +86,19 @@ pub fn run(found: &Found, kind: TunerKind, seed: u64, lie: Lie, calls: usize) ->
 
 /// An open receiver is nobody else's, and a driver of the kernel is refused, and detached where that is asked for.
 pub fn opened(found: &Found, tally: &mut Tally) {
+    let listed = found.serial == "00000001" && found.port == "1-1" && (found.bus, found.number, found.product_id) == (1, 2, 0x2838);
+    tally.that(listed && found.is_v4(), "a receiver is listed as another", "open");
     let chip = crate::file::Simulated::open(found.number);
     chip.put("driver", b"dvb_usb_rtl28xxu\0");
     let refused = Usb::open(found, Kernel::Refuse).map(drop).map_err(|error| error.to_string());
     tally.that(refused == Err("the kernel's driver dvb_usb_rtl28xxu holds the receiver".into()), "a bound driver is not refused", "open");
     let mine = Usb::open(found, Kernel::Detach);
     tally.that(mine.is_ok() && chip.bytes("driver")[0] == 0, "a bound driver is not detached", "open");
+    tally.that(
+        mine.as_ref().is_ok_and(|usb| usb.holder().is_ok_and(|name| name.as_deref() == Some("usbfs"))),
+        "an open receiver is not held",
+        "open",
+    );
     let other = Usb::open(found, Kernel::Detach).map(drop).map_err(|error| error.to_string());
     tally.that(other == Err("another program holds the receiver".into()), "a receiver is opened twice", "open");
     drop(mine);
