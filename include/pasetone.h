@@ -35,6 +35,14 @@
  * then the same call again until it is done. The records tell which bytes the tuner holds; that a call was cut, and what the demodulator holds, the host
  * keeps in mind until then.
  *
+ * A host that dies. In memory or a file that outlives it, in this order (theorem `crashed` of crates/rounds; pasetone_host.h and Rust's `State` do it):
+ *   1. before the first transfer of a call: the call with its arguments, its given records, and a script whose outcomes are ALL 1;
+ *   2. a step that is done: first its replies, then its own outcome turned to 0. Nothing is stored before a step, nothing of one that failed or timed out;
+ *   3. when the call has ended: its section into the night's file, then its next records with no call under way, by one store that counts whole or not at all.
+ * Whenever it died, the same call with the stored script, by the library alone, gives the records that are true, and the section. Then `reload`, then the same call
+ * again. Nothing is synced per step: a dead process loses no store, and a dead machine has unset the receiver, which the boot's identity tells: begin from a
+ * fresh record then. Wait 40 ms after a transfer that timed out, after a recovery and before the end: it may land late, over a newer write.
+ *
  * Slices. A slice is two arguments: a pointer that is not null and a length; an empty slice is any such pointer and 0. Numbers in bytes stand
  * low byte first, but for the data of a transfer. The slices of one call must be disjoint: nothing checks that. Slices by `const` pointer are
  * only read. Nothing is kept between calls and nothing is allocated, so calls for different receivers may run side by side.

@@ -13,7 +13,7 @@
  *       printf("%s\n", pasetone_refusal_word(reply.refusal));
  *   }
  *
- * host/c/rounds.c drives every call so, on simulated receivers; host/c/receiver.c makes calls with scripts.
+ * host/c/rounds.c drives every call so, on simulated receivers; host/c/receiver.c makes calls with scripts; host/c/crash.c kills a host that keeps what it does.
  */
 #ifndef PASETONE_HOST_H
 #define PASETONE_HOST_H
@@ -132,6 +132,108 @@ static inline pasetone_tune_reply pasetone_host_drive(pasetone_host *host, paset
         taken++;
     }
     return pasetone_host_keep(host, reply);
+}
+
+/*
+ * What outlives a host that dies: a shared mapping of a file, or of memory that another process has too. Theorem `crashed` of crates/rounds asks for this order:
+ *
+ *   1. before the first transfer: the call, its records, and a script whose outcomes are all 1;
+ *   2. a step that is done: its replies, then its own outcome turned to 0. Nothing is stored before a step, and nothing of one that failed;
+ *   3. when the call has ended: its records, and that no call is under way.
+ *
+ * Whenever the host died, pasetone_host_recover makes the same call with the stored script, by the library alone: its record calls no register sure that may hold
+ * another byte. Reload, then make the same call again. Nothing is synced per step: a process that dies loses no store, and a machine that dies has taken the receiver's
+ * power, so note the boot's identity beside it and begin from a fresh record where that is another.
+ */
+typedef struct {
+    uint8_t tuner[2][PASETONE_TUNER_SIZE], driver[2][PASETONE_DRIVER_SIZE]; /* two of each: `head` says which counts */
+    uint64_t argument;
+    uint8_t outcomes[PASETONE_TUNE_BOARD_ENTRIES], replies[PASETONE_TUNE_BOARD_REPLIES];
+    uint32_t head; /* the host's own number of the call under way, 0 none, times 2; plus which records count. One store changes both */
+} pasetone_kept;
+
+/* Stores in the order of the program, whatever the compiler would rather do. */
+static inline void pasetone_kept_store(volatile uint8_t *to, const uint8_t *from, size_t size)
+{
+    size_t i;
+    for (i = 0; i < size; i++) {
+        to[i] = from[i];
+    }
+}
+
+/* The host's records, and no call under way: rule 3. */
+static inline void pasetone_kept_end(pasetone_kept *kept, const pasetone_host *host)
+{
+    uint32_t other = (kept->head & 1) ^ 1;
+    pasetone_kept_store(kept->tuner[other], host->tuner, sizeof host->tuner);
+    pasetone_kept_store(kept->driver[other], host->driver, sizeof host->driver);
+    *(volatile uint32_t *)&kept->head = other;
+}
+
+/* A call, by the host's own number for it, from 1 to 2^31 - 1: rule 1. The host's records are those that were kept last. */
+static inline void pasetone_kept_begin(pasetone_kept *kept, uint32_t number, uint64_t argument)
+{
+    size_t i;
+    for (i = 0; i < sizeof kept->outcomes; i++) {
+        ((volatile uint8_t *)kept->outcomes)[i] = 1;
+    }
+    *(volatile uint64_t *)&kept->argument = argument;
+    *(volatile uint32_t *)&kept->head = number * 2 + (kept->head & 1);
+}
+
+/* Step `step` is done, and has read `n` bytes behind `used` others: rule 2. */
+static inline void pasetone_kept_done(pasetone_kept *kept, uint32_t step, size_t used, const uint8_t *bytes, size_t n)
+{
+    pasetone_kept_store(kept->replies + used, bytes, n);
+    ((volatile uint8_t *)kept->outcomes)[step] = 0;
+}
+
+/* pasetone_host_drive, kept: the host may die at any moment. Before its first call, and where the records are changed by other calls, pasetone_kept_end keeps them. */
+static inline pasetone_tune_reply pasetone_host_drive_kept(pasetone_host *host, pasetone_kept *kept, uint32_t number, pasetone_host_call *call, uint64_t argument,
+                                                           pasetone_host_take *take, void *receiver)
+{
+    pasetone_tune_reply reply;
+    uint32_t taken = 0;
+    size_t used = 0;
+    pasetone_host_all_done(host);
+    pasetone_kept_begin(kept, number, argument);
+    for (reply = pasetone_host_try(host, call, argument); taken < reply.count; reply = pasetone_host_try(host, call, argument)) {
+        const uint8_t *entry = host->room + PASETONE_ENTRY_SIZE * taken;
+        size_t n = pasetone_host_reads(entry) ? entry[3] : 0;
+        uint8_t bytes[8] = {0};
+        host->outcomes[taken] = take(receiver, entry, bytes);
+        if (host->outcomes[taken] == 0) {
+            memcpy(host->replies + used, bytes, n);
+            pasetone_kept_done(kept, taken, used, bytes, n);
+            used += n;
+        }
+        taken++;
+    }
+    reply = pasetone_host_keep(host, reply);
+    pasetone_kept_end(kept, host);
+    return reply;
+}
+
+/* The number of the call under way, 0 where there is none. */
+static inline uint32_t pasetone_kept_under_way(const pasetone_kept *kept)
+{
+    return kept->head / 2;
+}
+
+/* The host's records as they were kept; where a call is under way they are those before it, and pasetone_host_recover comes next. */
+static inline void pasetone_host_take_up(pasetone_host *host, const pasetone_kept *kept)
+{
+    memcpy(host->tuner, kept->tuner[kept->head & 1], sizeof host->tuner);
+    memcpy(host->driver, kept->driver[kept->head & 1], sizeof host->driver);
+}
+
+/* The call under way once more, by the library alone, with what was stored of it; `call` is that of its number. Its section is in host->room. The host keeps it by
+   pasetone_kept_end when all that belongs to it is put away: to there each recovery comes to the same. */
+static inline pasetone_tune_reply pasetone_host_recover(pasetone_host *host, const pasetone_kept *kept, pasetone_host_call *call)
+{
+    memcpy(host->outcomes, kept->outcomes, sizeof host->outcomes);
+    memcpy(host->replies, kept->replies, sizeof host->replies);
+    return pasetone_host_make(host, call, kept->argument);
 }
 
 /* Whether the chip may hold another byte in a register than was last sent to it; 0 out of 0x05 to 0x1f, of which nothing is kept. */

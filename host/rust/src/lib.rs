@@ -75,6 +75,7 @@ extern crate alloc;
 use crate::raw::Told as _;
 use core::fmt;
 
+mod call;
 pub mod demod;
 mod driver;
 mod error;
@@ -89,11 +90,14 @@ mod registers;
 mod rounds;
 mod script;
 mod settings;
+#[cfg(feature = "std")]
+mod state;
 mod stream;
 mod table;
 mod transcript;
 mod tuner;
 
+pub use call::{Call, Made};
 pub use driver::{Board, Driver, Plan};
 pub use error::Error;
 pub use need::Need;
@@ -105,6 +109,8 @@ pub use registers::{if_freq_regs, pack_fir, resample_regs, unpack_fir};
 pub use rounds::{Cause, Driven, Outcome, Stepped, drive};
 pub use script::Script;
 pub use settings::{Settings, Settings2};
+#[cfg(feature = "std")]
+pub use state::{Cut, Found, State, StateError};
 pub use stream::{Command, Fed, Stream};
 pub use table::{Band, Table};
 pub use transcript::{Entries, Entry, EntryKind, Transcript};

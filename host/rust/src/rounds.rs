@@ -40,7 +40,7 @@ impl Outcome {
     }
 
     /// The bytes read, none for a step that is no read; or why it failed.
-    fn read(self, entry: &Entry<'_>) -> Result<Vec<u8>, Option<Cause>> {
+    pub(crate) fn read(self, entry: &Entry<'_>) -> Result<Vec<u8>, Option<Cause>> {
         let is_read = matches!(entry.kind, EntryKind::I2cRead | EntryKind::BlockRead);
         let given = match self {
             Outcome::Failed(cause) => return Err(cause),
@@ -81,6 +81,7 @@ mod sealed {
     impl<T> Sealed for crate::Answer<T> {}
     impl Sealed for crate::TuneAnswer {}
     impl Sealed for crate::Fed {}
+    impl Sealed for crate::Made {}
 }
 
 /// What a call with steps answers: [`Answer`] and [`TuneAnswer`], and [`Fed`](crate::Fed) a command of a stream.
@@ -107,8 +108,17 @@ impl Stepped for TuneAnswer {
 /// where this step and all behind it fail: whatever became of the step, they call no register sure that may hold another byte (theorem `crashed`).
 pub(crate) fn rounds<A: Stepped, R>(
     call: impl Fn(&Script) -> (A, R),
-    mut keep: impl FnMut(R),
+    keep: impl FnMut(R),
     mut take: impl FnMut(&Entry<'_>) -> Outcome,
+) -> Driven<A> {
+    stepped(call, keep, |entry, _, _| take(entry).read(entry))
+}
+
+/// The same, where what takes a step is told its number and how many bytes were read before it, and answers with the bytes that it read.
+pub(crate) fn stepped<A: Stepped, R>(
+    call: impl Fn(&Script) -> (A, R),
+    mut keep: impl FnMut(R),
+    mut take: impl FnMut(&Entry<'_>, usize, usize) -> Result<Vec<u8>, Option<Cause>>,
 ) -> Driven<A> {
     let (mut script, mut taken, mut read, mut failed) = (Script::all_done(), 0, 0, None);
     loop {
@@ -118,7 +128,7 @@ pub(crate) fn rounds<A: Stepped, R>(
             return Driven { answer, cause: failed.flatten() };
         };
         keep(call(&script.failing_from(taken)).1);
-        match take(&entry).read(&entry) {
+        match take(&entry, taken, read) {
             Err(cause) => {
                 script.fail(taken);
                 failed = failed.or(Some(cause));
