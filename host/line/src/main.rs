@@ -1,6 +1,6 @@
 //! The command line of Pasetone, over the Rust host. `../../pasetone` builds and runs it. The exit status is out.rs's `End`.
 //! A new command is one file here and one row in command.rs.
-#![forbid(unsafe_code)]
+#![deny(unsafe_code)]
 
 mod advice;
 mod answer;
@@ -35,8 +35,11 @@ mod script;
 mod sections;
 mod settings;
 mod show;
+mod signals;
 mod standing;
+mod state;
 mod table;
+mod terminal;
 mod worksheet;
 
 use command::Asked;

@@ -6,8 +6,10 @@ use crate::files::{self, called, is_standard};
 use crate::out::Out;
 use crate::record::Records;
 use crate::run::Run;
+use crate::state::Keeper;
 use crate::{advice, json, names, record, report, script};
 use pasetone::Tuner;
+use std::ffi::OsString;
 
 pub const MORE: &[&str] = &[
     "RECORD is a file that --keep has written. The call sends the bytes of the record's shadow to the",
@@ -16,10 +18,10 @@ pub const MORE: &[&str] = &[
     "may stand beside its station, and of demodulator and board's input nothing is sent at all. Make the",
     "call that was cut again, until it is done; the line that reload ends with has it. It talks to no",
     "receiver: outcomes stand in for one. The record's file stays as it is; --keep writes the next",
-    "record, and may name the same file.",
+    "record, and may name the same file. With --state no RECORD is named: the state has it.",
 ];
 
-pub const OPTIONS: &[Key] = &[Key::Fail, Key::Outcomes, Key::Keep, Key::Section, Key::Append, Key::Json, Key::Quiet];
+pub const OPTIONS: &[Key] = &[Key::Fail, Key::Outcomes, Key::State, Key::Keep, Key::Section, Key::Append, Key::Json, Key::Quiet];
 
 pub fn run(given: &Given, out: &mut Out) {
     let fail = script::fail(given, out);
@@ -27,13 +29,20 @@ pub fn run(given: &Given, out: &mut Out) {
     if given.operands.iter().any(|name| is_standard(name)) && given.word(Key::Outcomes).is_some_and(is_standard) {
         out.mistake("standard input can be read once: give - to the record or to --outcomes");
     }
-    let records = kept(given, out);
+    if given.has(Key::State) && given.has(Key::Keep) {
+        out.mistake("--state has the record, before the run and behind it: give --state or --keep");
+    }
+    let keeper = Keeper::open(given, out);
+    let records = if given.has(Key::State) { held(given, keeper.as_ref(), out) } else { kept(given, out) };
     let outcomes = script::outcomes(given, fail, out);
     let Some(records) = records.filter(|_| !out.is_mistaken()) else { return };
     let files = given.kept_files(out);
-    let (false, [name]) = (out.is_mistaken(), given.operands.as_slice()) else { return };
+    let Some(name) = given.word(Key::State).or(given.operands.first().map(OsString::as_os_str)).filter(|_| !out.is_mistaken()) else {
+        return;
+    };
     let (before, table) = (records.tuner.clone(), records.driver.board().table());
-    let run = Run::reload(records, outcomes);
+    let table = keeper.as_ref().and_then(Keeper::table).cloned().unwrap_or(table);
+    let mut run = Run::reload(records, &table, outcomes, keeper);
     let kept = given.word(Key::Keep).unwrap_or(name);
     let again = run.records.as_ref().map_or_else(String::new, |records| advice::reload_again(kept, given, records));
     let wish = Wish { hz: 0, rate: 0, table: &table, again: again.clone() };
@@ -55,6 +64,18 @@ pub fn run(given: &Given, out: &mut Out) {
     run.keep(files, out);
 }
 
+/// The record of a state.
+fn held(given: &Given, keeper: Option<&Keeper>, out: &mut Out) -> Option<Records> {
+    if !given.operands.is_empty() {
+        out.mistake("--state has the record: give --state or a file that --keep has written");
+    }
+    let keeper = keeper?;
+    if keeper.records().is_none() {
+        out.mistake(&format!("--state {}: no receiver is in it yet: hop makes one", called(keeper.name())));
+    }
+    keeper.records().cloned()
+}
+
 /// The record that the one operand names.
 fn kept(given: &Given, out: &mut Out) -> Option<Records> {
     let [name] = given.operands.as_slice() else {
@@ -64,7 +85,8 @@ fn kept(given: &Given, out: &mut Out) -> Option<Records> {
     if out.is_mistaken() {
         return None;
     }
-    let bytes = files::start(name, record::LOOKED_AT).map_err(|why| out.mistake(&format!("reload {why}"))).ok()?;
+    let read = if given.has(Key::Keep) { files::start_locked(name, record::LOOKED_AT, out) } else { files::start(name, record::LOOKED_AT) };
+    let bytes = read.map_err(|why| out.mistake(&format!("reload {why}"))).ok()?;
     record::judged(&bytes, &format!("reload {}", called(name)), out)
 }
 
