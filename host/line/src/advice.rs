@@ -66,7 +66,8 @@ fn options(given: &Given, without: &[Key]) -> Vec<String> {
 
 /// `reload` of a kept record: every register again.
 fn reload(record: &OsStr, given: &Given) -> String {
-    let mut words = vec![program(), String::from("reload"), file(record), format!("--keep {}", file(record))];
+    let mut words = vec![program(), String::from("reload")];
+    words.push(if given.has(Key::State) { format!("--state {}", file(record)) } else { format!("{0} --keep {0}", file(record)) });
     words.extend(given.word(Key::Append).map(|name| option_words(Key::Append, name)));
     words.extend(given.word(Key::Quiet).map(|value| option_words(Key::Quiet, value)));
     words.join(" ")
@@ -74,7 +75,8 @@ fn reload(record: &OsStr, given: &Given) -> String {
 
 /// `hop` over a kept record, with every call that it owes: the words of a hop where it was one, or as much of them as another command has.
 fn hop_over(record: &OsStr, hz: &str, owed: &Owed, given: &Given) -> String {
-    let mut words = vec![program(), String::from("hop"), String::from(hz), format!("--record {}", file(record))];
+    let holder = option(if given.has(Key::State) { Key::State } else { Key::Record }).name;
+    let mut words = vec![program(), String::from("hop"), String::from(hz), format!("{holder} {}", file(record))];
     let owes = |key: Key, value: Option<String>| value.filter(|_| !given.has(key)).map(|value| format!("{} {value}", option(key).name));
     words.extend((owed.initialise && !given.has(Key::Initialise)).then(|| String::from(option(Key::Initialise).name)));
     words.extend(owes(Key::Rate, owed.rate.map(|rate| rate.to_string())));
@@ -82,9 +84,10 @@ fn hop_over(record: &OsStr, hz: &str, owed: &Owed, given: &Given) -> String {
     words.extend(owes(Key::If, owed.if_hz.map(|hz| hz.to_string())));
     words.extend(owes(Key::Table, owed.table.then(|| String::from("FILE"))));
     // What a record has, and what is of one command alone, are no words beside --record.
-    let own = [Key::Record, Key::Keep, Key::Cut, Key::Section, Key::Kind, Key::Address, Key::Board, Key::Reference, Key::Settings];
+    let own =
+        [Key::State, Key::Record, Key::Keep, Key::Cut, Key::Section, Key::Kind, Key::Address, Key::Board, Key::Reference, Key::Settings];
     words.extend(options(given, &own));
-    words.push(format!("--keep {}", file(record)));
+    words.extend((!given.has(Key::State)).then(|| format!("--keep {}", file(record))));
     words.join(" ")
 }
 
@@ -103,6 +106,9 @@ pub fn hertz(owed: &Owed) -> String {
 pub fn hop_again(given: &Given, hz: u64, run: &Run) -> String {
     let records = run.records.as_ref();
     let hz = given.operands.first().map_or_else(|| hz.to_string(), |word| quoted_if_needed(word));
+    if let (Some(state), Some(records)) = (given.word(Key::State), records) {
+        return over(state, &hz, records, given, run.was_cut());
+    }
     match (given.has(Key::Record), given.word(Key::Keep), records) {
         (true, Some(keep), Some(records)) => over(keep, &hz, records, given, run.was_cut()),
         // What stands in the file is the record before this run, which is no longer the receiver's.

@@ -35,7 +35,7 @@ pub const COMMANDS: &[Command] = &[
     },
     Command {
         name: "reload",
-        operands: "RECORD",
+        operands: "[RECORD]",
         about: "every register of a kept record, sent again",
         more: reload::MORE,
         example: "reload record --keep record",
@@ -184,6 +184,7 @@ pub enum Key {
     Section,
     Append,
     Out,
+    State,
     Record,
     Keep,
     Json,
@@ -236,6 +237,7 @@ pub const OPTIONS: &[Opt] = &[
     row(Key::Outcomes, "--outcomes", Some("FILE"), A_SCRIPT, "a byte for each step: 0 done, any other failed", "all done"),
     row(Key::Replies, "--replies", Some("FILE"), A_SCRIPT, "what is read: 3 bytes where hop's board has paths, then 35 a tuning", "a lock"),
     row(Key::Cut, "--cut", Some("N"), "a number from 1", "so many bytes are fed at once; what is printed is the same", "as it is read"),
+    row(Key::State, "--state", Some("FILE"), A_FILE, "one file for the receiver, in place of --record and --keep", "none"),
     row(Key::Record, "--record", Some("FILE"), A_SCRIPT, "the record to start from, as --keep has left it", "a fresh one"),
     row(Key::Keep, "--keep", Some("FILE"), A_FILE, "the record is written there at the end, also of a stopped run", "none"),
     row(Key::Section, "--section", Some("FILE"), A_FILE, "the sections, end to end, are written there; a file there is replaced", "none"),
@@ -287,6 +289,15 @@ impl Given {
             out.mistake(&format!("{} wants {}, not `{}`", row.name, row.wants, shown(word)));
         }
         value
+    }
+
+    /// The first bytes of the record's file, under its lock where the run keeps a record.
+    pub fn record(&self, most: usize, out: &mut Out) -> Option<Vec<u8>> {
+        let name = self.word(Key::Record)?;
+        if !self.has(Key::Keep) || out.is_mistaken() {
+            return self.start(Key::Record, most, out);
+        }
+        files::start_locked(name, most, out).map_err(|why| out.mistake(&format!("--record {why}"))).ok()
     }
 
     /// The first bytes of a file that an option names. Nothing is read where words are at fault already: standard input might wait for somebody.
@@ -342,7 +353,7 @@ impl Given {
 
     /// Told where two of the files that a run writes are one.
     pub fn names_other_files(&self, out: &mut Out) {
-        let written = [Key::Section, Key::Append, Key::Keep];
+        let written = [Key::Section, Key::Append, Key::Keep, Key::State];
         for (at, key) in written.iter().enumerate().filter(|(_, key)| self.has(**key)) {
             for other in written[at + 1..].iter().filter(|other| self.word(**other) == self.word(*key)) {
                 out.mistake(&format!("{} and {} name one file: name two", option(*key).name, option(*other).name));
@@ -352,14 +363,19 @@ impl Given {
 
     /// The files that a run writes, opened before its first call. One that is written behind what it holds comes last: to open it makes it.
     pub fn kept_files(&self, out: &mut Out) -> Kept {
+        let judged = self.word(Key::Keep).map_or(Ok(()), record::replaces);
+        if let Err(why) = judged {
+            out.mistake(&format!("--keep {why}"));
+        }
         let (section, record) = (self.sink(Key::Section, out), self.sink(Key::Keep, out));
-        let name = self.target(Key::Append, out).filter(|_| !out.is_mistaken());
+        // With a state it is the state's.
+        let name = self.target(Key::Append, out).filter(|_| !out.is_mistaken() && !self.has(Key::State));
         let append = name.and_then(|name| Sink::open_behind(name).map_err(|why| out.mistake(&format!("--append {why}"))).ok());
         Kept { section, append, record }
     }
 
     /// The name of a file to be written.
-    fn target(&self, key: Key, out: &mut Out) -> Option<&OsStr> {
+    pub fn target(&self, key: Key, out: &mut Out) -> Option<&OsStr> {
         let word = self.word(key)?;
         if !is_standard(word) {
             return Some(word);

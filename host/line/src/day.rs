@@ -16,12 +16,22 @@ use std::collections::{BTreeMap, BTreeSet};
 const SHADOW: usize = 2;
 const DOUBTFUL: usize = 51;
 
-/// All of it is sections.
+/// All of its bytes are sections: what is damaged is left out, and its place is known.
+#[derive(Default)]
 pub struct Day {
     bytes: Vec<u8>,
     files: usize,
     sections: usize,
     steps: usize,
+    holes: Vec<Hole>,
+}
+
+/// Damaged bytes between two sections. What they sent nobody knows, so that behind them every register is doubtful until a whole section writes it.
+struct Hole {
+    /// Before this byte of the day.
+    at: usize,
+    /// The entries that it counts for, as `show` counts them.
+    entries: usize,
 }
 
 /// The last write of a register.
@@ -30,6 +40,8 @@ struct Last {
     failed: bool,
     /// Its step, counted from 0 over the whole day.
     step: usize,
+    /// Whether no damage stands behind it.
+    is_behind: bool,
 }
 
 /// What a day says of one register.
@@ -38,6 +50,8 @@ pub enum Held {
     Sure(u8, usize),
     /// Its last write failed.
     Failed(u8, usize),
+    /// Its last write stands before damage, or there is none: what the damaged bytes sent is not known.
+    Damaged(Option<(u8, usize)>),
     Never,
 }
 
@@ -72,55 +86,79 @@ pub fn of(command: &str, given: &Given, out: &mut Out) -> Option<(Day, Chip)> {
 impl Day {
     fn read(command: &str, given: &Given, out: &mut Out) -> Option<Day> {
         let files = File::all(command, given, out)?;
-        let mut day = Day { bytes: Vec::new(), files: files.len(), sections: 0, steps: 0 };
-        let mut damaged = 0;
+        let mut day = Day { files: files.len(), ..Day::default() };
         for file in files {
             let walk = Walk::of(&file.bytes);
-            damaged += file.damaged(&walk, out);
+            file.damaged(&walk, out);
             day.sections += walk.numbered().last().map_or(0, |(number, _)| number);
-            day.steps += file.bytes.len().saturating_sub(TRAILER * walk.numbered().count()) / ENTRY;
-            // The usual day is one file, and may be a large one.
-            if day.bytes.is_empty() { day.bytes = file.bytes } else { day.bytes.extend(file.bytes) }
+            day.add(file, &walk);
         }
-        if damaged > 0 {
-            let (parts, verb) = (counted(damaged, "part"), if damaged == 1 { "is" } else { "are" });
-            let text = format!("{command}: {parts} of the files {verb} no section (refusal 12): give files that `show` finds whole");
-            answer::refused(given, Error::Section, &text, out);
-            return None;
+        if !day.holes.is_empty() {
+            let (parts, verb) = (counted(day.holes.len(), "part"), if day.holes.len() == 1 { "is" } else { "are" });
+            let why = "what was sent there is not known, so behind it every register is doubtful until a whole section writes it";
+            out.tell(End::Refused, &format!("{command}: {parts} of the files {verb} no section (refusal 12): {why}"));
         }
         Some(day)
     }
 
+    /// The sections of a file, and the holes between them.
+    fn add(&mut self, file: File, walk: &Walk) {
+        if walk.damages() == 0 {
+            self.steps += file.bytes.len().saturating_sub(TRAILER * walk.numbered().count()) / ENTRY;
+            // The usual day is one file, and may be a large one.
+            if self.bytes.is_empty() {
+                self.bytes = file.bytes
+            } else {
+                self.bytes.extend(file.bytes)
+            }
+            return;
+        }
+        for (_, part) in walk.numbered() {
+            match part {
+                Part::Good { start, end } => {
+                    self.steps += (end - start - TRAILER) / ENTRY;
+                    self.bytes.extend_from_slice(&file.bytes[start..end]);
+                }
+                Part::Damaged(damage) => self.holes.push(Hole { at: self.bytes.len(), entries: damage.entries }),
+            }
+        }
+    }
+
     /// Where the day left a chip.
     fn chip(&self, address: u8) -> Result<Chip, Error> {
-        let list = Transcript::restore(&self.bytes, address)?;
+        let behind = self.holes.last().map_or(0, |hole| hole.at);
+        let list = Transcript::restore(&self.bytes[behind..], address)?;
         let sure: BTreeMap<u8, u8> = list.iter().flat_map(|entry| writes(&entry).collect::<Vec<_>>()).collect();
         let mut last: BTreeMap<u8, Last> = BTreeMap::new();
         let mut written = BTreeSet::new();
-        self.each(|step, entry| {
+        self.each(|step, is_behind, entry| {
             if entry.kind == EntryKind::I2cWrite && entry.bytes.len() > 1 {
                 written.insert(entry.target);
             }
             if entry.kind == EntryKind::I2cWrite && entry.target == address {
-                last.extend(writes(entry).map(|(register, byte)| (register, Last { byte, failed: entry.failed, step })));
+                last.extend(writes(entry).map(|(register, byte)| (register, Last { byte, failed: entry.failed, step, is_behind })));
             }
         });
         let held = |register: u8| match (sure.get(&register), last.get(&register)) {
             (Some(byte), Some(last)) => Held::Sure(*byte, last.step),
-            (None, Some(last)) if last.failed => Held::Failed(last.byte, last.step),
+            (None, Some(last)) if last.failed && last.is_behind => Held::Failed(last.byte, last.step),
+            (None, last) if !self.holes.is_empty() => Held::Damaged(last.map(|last| (last.byte, last.step))),
             _ => Held::Never,
         };
         Ok(Chip { address, list, registers: Tuner::registers().map(|register| (register, held(register))).collect(), written })
     }
 
-    /// Every entry with its number, in order.
-    fn each(&self, mut see: impl FnMut(usize, &Entry)) {
-        let mut step = 0;
+    /// Every entry with its number, in order, and whether it stands behind all damage.
+    fn each(&self, mut see: impl FnMut(usize, bool, &Entry)) {
+        let (mut step, mut holes) = (0, self.holes.iter().peekable());
         for (_, part) in Walk::of(&self.bytes).numbered() {
             let Part::Good { start, end } = part else { continue };
+            while let Some(hole) = holes.next_if(|hole| hole.at <= start) {
+                step += hole.entries;
+            }
             let Ok((_, transcript)) = Transcript::read(&self.bytes[start..end]) else { continue };
             for entry in &transcript {
-                see(step, &entry);
+                see(step, holes.peek().is_none(), &entry);
                 step += 1;
             }
         }
@@ -128,12 +166,15 @@ impl Day {
 
     pub fn line(&self, chip: &Chip) -> String {
         let (files, sections) = (counted(self.files, "file"), counted(self.sections, "section"));
-        format!("chip 0x{:02x} behind {sections} and {} of {files}", chip.address, counted(self.steps, "step"))
+        let damaged = if self.holes.is_empty() { String::new() } else { format!("; DAMAGED: {}", self.holes.len()) };
+        format!("chip 0x{:02x} behind {sections} and {} of {files}{damaged}", chip.address, counted(self.steps, "step"))
     }
 
-    pub fn json(&self, chip: &Chip) -> [(&'static str, String); 5] {
+    pub fn json(&self, chip: &Chip) -> [(&'static str, String); 6] {
+        let refusal = if self.holes.is_empty() { answer::done_json() } else { ("refusal", Error::Section.number().to_string()) };
         [
-            answer::done_json(),
+            refusal,
+            ("damaged", self.holes.len().to_string()),
             ("address", chip.address.to_string()),
             ("files", self.files.to_string()),
             ("sections", self.sections.to_string()),
@@ -162,7 +203,7 @@ impl Chip {
         for (at, (_, held)) in self.registers.iter().enumerate() {
             let (byte, doubtful) = match held {
                 Held::Sure(byte, _) => (*byte, 0),
-                Held::Failed(..) | Held::Never => (0, 1),
+                Held::Failed(..) | Held::Never | Held::Damaged(_) => (0, 1),
             };
             (bytes[SHADOW + at], bytes[DOUBTFUL + at]) = (byte, doubtful);
         }
@@ -195,8 +236,8 @@ impl Chip {
         json::lines(self.registers.iter().map(|(register, held)| {
             let (byte, step, sure) = match held {
                 Held::Sure(byte, step) => (Some(*byte), Some(*step), true),
-                Held::Failed(byte, step) => (Some(*byte), Some(*step), false),
-                Held::Never => (None, None, false),
+                Held::Failed(byte, step) | Held::Damaged(Some((byte, step))) => (Some(*byte), Some(*step), false),
+                Held::Damaged(None) | Held::Never => (None, None, false),
             };
             json::object(&[
                 ("register", register.to_string()),
@@ -223,7 +264,7 @@ mod tests {
             let first = tuner.initialize(&script(fail)).transcript;
             let second = tuner.set_frequency(102_300_000, &script(fail.saturating_sub(19))).transcript;
             let bytes = [first.bytes(), second.bytes()].concat();
-            let day = Day { bytes, files: 1, sections: 2, steps: first.len() + second.len() };
+            let day = Day { bytes, files: 1, sections: 2, steps: first.len() + second.len(), ..Day::default() };
             for (register, held) in day.chip(0x74).unwrap().registers {
                 assert_eq!(tuner.is_doubtful(register), !matches!(held, Held::Sure(..)), "{fail} {register}");
                 if let Held::Sure(byte, _) | Held::Failed(byte, _) = held {
@@ -233,5 +274,41 @@ mod tests {
             assert_eq!(day.chip(0x74).unwrap().oscillator(28_800_000), tuner.oscillator().ok());
             assert!(day.chip(0x34).unwrap().registers.iter().all(|(_, held)| matches!(held, Held::Never)));
         }
+    }
+
+    /// Whatever bytes are damaged, a register that is told as sure holds its byte: it is what the whole day says, and its last write is whole.
+    #[test]
+    fn behind_damage_a_register_is_doubtful_until_it_is_written() {
+        let mut tuner = Tuner::new(TunerKind::R828d, 0x74, 28_800_000).unwrap();
+        let done = Script::all_done();
+        let sections = [
+            tuner.initialize(&done).transcript,
+            tuner.set_gain(29.7, &done).transcript,
+            tuner.set_frequency(102_300_000, &done).transcript,
+            tuner.set_bandwidth(9_000_000, &done).transcript,
+        ];
+        let bytes: Vec<u8> = sections.iter().flat_map(|section| section.bytes()).copied().collect();
+        let mut told = BTreeSet::new();
+        for at in 0..bytes.len() {
+            let mut spoiled = bytes.clone();
+            spoiled[at] = 0xff;
+            let walk = Walk::of(&spoiled);
+            if walk.damages() == 0 {
+                continue;
+            }
+            let mut day = Day::default();
+            day.add(File { name: String::new(), bytes: spoiled.clone() }, &walk);
+            let chip = day.chip(0x74).unwrap();
+            told.insert(chip.sure().len());
+            for (register, held) in chip.registers {
+                assert!(!matches!(held, Held::Never), "{at} {register}");
+                if let Held::Sure(byte, _) = held {
+                    assert_eq!(tuner.shadow(register), Some(byte), "{at} {register}");
+                }
+            }
+        }
+        // Damage in the last section leaves none sure, in the one before the registers of the last.
+        assert_eq!(told.first(), Some(&0));
+        assert!(told.len() > 2, "{told:?}");
     }
 }

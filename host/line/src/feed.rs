@@ -14,9 +14,13 @@ use crate::rows::{self, hex};
 use crate::run::{Call, Made, Start};
 use crate::script::{self, Endless};
 use crate::standing::Standing;
+use crate::state::Keeper;
 use crate::station::Station;
-use crate::{advice, hop, json, numbers};
+use crate::{advice, hop, json, numbers, signals, terminal};
 use pasetone::{Board, Command, Driver, EntryKind, Error, Fed, Stream, Tuner};
+use std::sync::{Arc, Condvar, Mutex, PoisonError};
+use std::thread;
+use std::time::Duration;
 
 pub const MORE: &[&str] = &[
     "FILE is what a serial line has brought: commands of nine bytes, an operation and its argument, low",
@@ -26,8 +30,10 @@ pub const MORE: &[&str] = &[
     "no whole command do nothing. After a stopped command send reload, then that command again; a rate",
     "or a correction moves the station, so send the frequency again after it. The exit status is 0",
     "where all were done and locked, no byte is left, nothing is doubtful, and the station is known.",
-    "FILE has any size; - is standard input, fed as it comes. It ends where the line ends, or where",
-    "nobody reads what is printed; --keep, --section and --append have the commands made till then.",
+    "FILE has any size; - is standard input, fed as it comes; a terminal must be raw. It ends where the",
+    "line ends, by INT, TERM or HUP, or where nobody reads what is printed; --keep, --section, --append",
+    "and --state have the commands made till then, --append and --state each when it is answered; --state",
+    "is as in hop. --json prints a line for the receiver, one for each command and one at the end.",
     "It talks to no receiver: outcomes and replies stand in for one, and each command goes on in them",
     "where the ones before have ended. A fresh record is not initialised, so that registers which no",
     "command writes are doubtful and the station is not known: --keep of hop makes one that is.",
@@ -43,6 +49,7 @@ pub const OPTIONS: &[Key] = &[
     Key::Fail,
     Key::Outcomes,
     Key::Replies,
+    Key::State,
     Key::Record,
     Key::Keep,
     Key::Section,
@@ -51,7 +58,7 @@ pub const OPTIONS: &[Key] = &[
     Key::Quiet,
 ];
 
-/// So much is read at once, and of sections so much is held back.
+/// So much is read at once.
 const BLOCK: usize = 1 << 16;
 
 /// The words, read: everything that can be wrong with them has been told.
@@ -62,12 +69,19 @@ struct Request {
     source: Source,
     /// The length of a chunk.
     cut: usize,
+    keeper: Option<Keeper>,
 }
 
 pub fn run(given: &Given, out: &mut Out) {
-    let Some(Request { start, place, script, mut source, cut }) = request(given, out) else { return };
-    // What is read at once is whole chunks.
-    let mut next = |out: &mut Out| source.some(BLOCK - BLOCK % cut).map_err(|why| out.mistake(&format!("feed {why}"))).unwrap_or_default();
+    let Some(Request { start, place, script, mut source, cut, keeper }) = request(given, out) else { return };
+    // What is read at once is whole chunks, by a thread of its own, so that a signal ends the line while it brings nothing.
+    signals::heed();
+    let hatch = Arc::new(Hatch::default());
+    let reader = thread::spawn({
+        let hatch = hatch.clone();
+        move || while hatch.put(source.some(BLOCK - BLOCK % cut)) {}
+    });
+    let next = |out: &mut Out| hatch.take().map_err(|why| out.mistake(&format!("feed {why}"))).unwrap_or_default();
     let mut block = next(out);
     let head = Head::of(&start, &place, None);
     let Some(records) = begun(start, given, out).filter(|_| !out.is_mistaken()) else { return };
@@ -75,14 +89,53 @@ pub fn run(given: &Given, out: &mut Out) {
     if out.is_mistaken() {
         return;
     }
-    let mut line = Line { given, place, records, script, files, stream: Stream::new(), sections: Vec::new(), count: Count::default() };
+    let mut line = Line { given, place, records, script, files, keeper, stream: Stream::new(), count: Count::default(), unfed: 0 };
     line.head(&head, out);
     while !block.is_empty() && !out.is_closed() {
         block.chunks(cut).for_each(|chunk| line.chunk(chunk, out));
+        line.keeper.iter_mut().for_each(Keeper::sync);
         out.flush();
-        block = next(out);
+        block = if line.is_ended() { Vec::new() } else { next(out) };
+    }
+    // It has ended with the line; where something else has, it may wait for the line for ever, and ends with the process.
+    if block.is_empty() && !line.is_ended() {
+        let _ = reader.join();
     }
     line.end(out);
+}
+
+/// What a line has brought, handed from who reads to who answers, one piece at a time.
+#[derive(Default)]
+struct Hatch {
+    piece: Mutex<Option<Result<Vec<u8>, String>>>,
+    moved: Condvar,
+}
+
+impl Hatch {
+    /// Puts a piece, and waits until it is taken. Whether there may be another: nothing comes behind the end, or behind a line that cannot be read.
+    fn put(&self, piece: Result<Vec<u8>, String>) -> bool {
+        let is_last = piece.as_ref().map_or(true, Vec::is_empty);
+        let mut held = self.piece.lock().unwrap_or_else(PoisonError::into_inner);
+        *held = Some(piece);
+        self.moved.notify_all();
+        while held.is_some() && !is_last {
+            held = self.moved.wait(held).unwrap_or_else(PoisonError::into_inner);
+        }
+        !is_last
+    }
+
+    /// What the line brings next: nothing where it has ended, or where a signal has come.
+    fn take(&self) -> Result<Vec<u8>, String> {
+        let mut held = self.piece.lock().unwrap_or_else(PoisonError::into_inner);
+        while !signals::came() {
+            if let Some(piece) = held.take() {
+                self.moved.notify_all();
+                return piece;
+            }
+            held = self.moved.wait_timeout(held, Duration::from_millis(50)).unwrap_or_else(PoisonError::into_inner).0;
+        }
+        Ok(Vec::new())
+    }
 }
 
 fn request(given: &Given, out: &mut Out) -> Option<Request> {
@@ -105,13 +158,18 @@ fn request(given: &Given, out: &mut Out) -> Option<Request> {
     if file.is_some_and(|file| given.word(Key::Append) == Some(file)) {
         out.mistake("--append names the line itself, which is read while it is written: name another file");
     }
-    let (start, place) = hop::begins(given, &receiver, out);
+    let mut keeper = Keeper::open(given, out);
+    keeper.iter_mut().for_each(Keeper::seldom_synced);
+    let (start, place) = hop::begins(given, &receiver, keeper.as_ref(), out);
     let script = Endless::of(given, fail, start.as_ref().map(Start::kind), out);
+    if let Some(Err(why)) = file.filter(|_| !out.is_mistaken()).map(|file| terminal::judged(file)) {
+        out.mistake(&format!("feed {why}"));
+    }
     let source = Source::open(file?).map_err(|why| out.mistake(&format!("feed {why}"))).ok()?;
     if out.is_mistaken() {
         return None;
     }
-    Some(Request { start: start?, place, script, source, cut: cut.unwrap_or(BLOCK).min(BLOCK) })
+    Some(Request { start: start?, place, script, source, cut: cut.unwrap_or(BLOCK).min(BLOCK), keeper })
 }
 
 /// The records that a line begins with; a refusal is told.
@@ -144,26 +202,38 @@ struct Line<'a> {
     records: Records,
     script: Endless,
     files: Kept,
+    /// Of `--state`: each command is stored when it is answered.
+    keeper: Option<Keeper>,
     stream: Stream,
-    /// Those that are not in their files yet.
-    sections: Vec<u8>,
     count: Count,
+    /// Bytes that had come when a signal ended the line.
+    unfed: usize,
 }
 
 impl Line<'_> {
+    /// Ended by a signal, or since the state cannot be written.
+    fn is_ended(&self) -> bool {
+        signals::came() || self.keeper.as_ref().is_some_and(Keeper::is_faulty)
+    }
+
     /// A chunk is handed on up to the end of each command, since its script begins where the steps of the one before have ended.
     fn chunk(&mut self, mut chunk: &[u8], out: &mut Out) {
         while !chunk.is_empty() {
+            if self.is_ended() {
+                self.unfed += chunk.len();
+                return;
+            }
             let (piece, rest) = chunk.split_at(chunk.len().min(Command::SIZE - self.stream.pending()));
             chunk = rest;
             let Line { place, records, script, stream, .. } = self;
+            let before = records.clone();
             for fed in stream.feed(&mut records.driver, &mut records.tuner, &place.table, piece, |_| script.script()) {
-                self.answered(fed, out);
+                self.answered(fed, &before, out);
             }
         }
     }
 
-    fn answered(&mut self, fed: Fed, out: &mut Out) {
+    fn answered(&mut self, fed: Fed, before: &Records, out: &mut Out) {
         let sent = sent(&fed.command);
         let call = sent.map_or(Call::Unknown, call);
         let lock = (call == Call::TunerTune).then_some(fed.lock);
@@ -174,6 +244,7 @@ impl Line<'_> {
         if let Some(command) = sent {
             let Records { tuner, driver, owed } = &mut self.records;
             owed.made(job(command), made.result, &made.transcript, tuner, driver);
+            self.store(command, before, &made, value);
         }
         let told = match made.result {
             Ok(()) => self.done(&made, value),
@@ -185,7 +256,7 @@ impl Line<'_> {
             Err(_) => self.count.refused += 1,
         }
         self.print(&fed.command, &made, &told, out);
-        self.keep(made.transcript.bytes(), out);
+        self.files.add(made.transcript.bytes(), out);
     }
 
     fn done(&self, made: &Made, value: u64) -> Told {
@@ -230,13 +301,14 @@ impl Line<'_> {
         Told { to_do, ..answer::refusal(made, error, answer::words(error, why)) }
     }
 
-    fn keep(&mut self, section: &[u8], out: &mut Out) {
-        if self.files.section.is_some() || self.files.append.is_some() {
-            self.sections.extend_from_slice(section);
-        }
-        if self.sections.len() >= BLOCK {
-            self.files.add(&self.sections, out);
-            self.sections.clear();
+    /// A command that was made, into the state: it is there before the next one is read.
+    fn store(&mut self, command: Command, before: &Records, made: &Made, value: u64) {
+        let Some(keeper) = &mut self.keeper else { return };
+        let Made { result, transcript, lock, .. } = made;
+        let made = pasetone::Made { result: result.map(|()| value), transcript: transcript.clone(), lock: lock.unwrap_or_default() };
+        match stored(command) {
+            Some(call) => drop(keeper.made(call, &made, before, &self.records, &self.place.table, None)),
+            None => keeper.last(Some(&self.records)),
         }
     }
 
@@ -244,7 +316,7 @@ impl Line<'_> {
         let tuner = &self.records.tuner;
         let corrected = Some(tuner.corrected()).filter(|hz| *hz != tuner.nominal());
         if self.given.has(Key::Json) {
-            out.text(&format!("{{\n\"receiver\": {},\n\"commands\": [", head.json(&self.place, corrected)));
+            out.line(&json::object(&[("receiver", head.json(&self.place, corrected))]));
         } else if !self.given.has(Key::Quiet) {
             out.line(&head.line(corrected));
             out.line("");
@@ -256,8 +328,7 @@ impl Line<'_> {
     fn print(&self, bytes: &[u8; Command::SIZE], made: &Made, told: &Told, out: &mut Out) {
         let number = self.count.all();
         if self.given.has(Key::Json) {
-            out.text(if number == 1 { "\n" } else { ",\n" });
-            out.text(&command_json(number, bytes, made, told));
+            out.line(&command_json(number, bytes, made, told));
         } else if !self.given.has(Key::Quiet) {
             out.line(&format!("command {number}: {}", words(bytes)));
             report::made_rows(made, out);
@@ -288,17 +359,26 @@ impl Line<'_> {
         if incomplete.is_some() {
             out.ends(End::Refused);
         }
-        // Of a line that brought nothing there is nothing to say.
-        if self.count.all() > 0 {
+        if self.is_ended() {
+            let (end, unfed) = (if self.unfed > 0 { End::Refused } else { End::Done }, counted(self.unfed, "byte"));
+            let by = if signals::came() { "by a signal" } else { "since the state cannot be written" };
+            out.tell(end, &format!("ended {by}, behind {}; {unfed} that had come were not fed", counted(self.count.all(), "command")));
+        }
+        // Of a line that brought nothing there is nothing to say, unless a call was recovered.
+        if self.count.all() > 0 || self.keeper.as_ref().is_some_and(Keeper::is_recovered) {
             Standing::of(&self.records, Some(&self.place.table)).tell(&self.way_back(), out);
         }
-        self.files.end(&self.sections, Some(&self.records), out);
+        self.files.end(&[], Some(&self.records), out);
+        if let Some(mut keeper) = self.keeper.take() {
+            keeper.last(Some(&self.records));
+            keeper.end(out);
+        }
     }
 
     /// What leads to a known station: over the record that is kept, or from a fresh one.
     fn way_back(&self) -> String {
         let hz = advice::hertz(&self.records.owed);
-        match self.given.word(Key::Keep) {
+        match self.given.word(Key::State).or(self.given.word(Key::Keep)) {
             Some(keep) => advice::over(keep, &hz, &self.records, self.given, false),
             None => format!("begin with a record: {} hop {hz} --keep FILE, then feed with --record FILE", advice::program()),
         }
@@ -321,7 +401,6 @@ impl Line<'_> {
 
     fn json(&self, pending: usize, out: &mut Out) {
         let Records { tuner, driver, owed } = &self.records;
-        out.line(if self.count.all() == 0 { "]," } else { "\n]," });
         let mut fields = vec![
             ("done", self.count.done.to_string()),
             ("refused", self.count.refused.to_string()),
@@ -335,11 +414,12 @@ impl Line<'_> {
             ("correction", driver.ppm().to_string()),
             ("owed", json::array(owed.calls().iter().map(|call| json::string(call)))),
             ("station_known", owed.is_station_known().to_string()),
-            ("registers", report::registers_json(tuner)),
+            ("ended_by_signal", signals::came().to_string()),
+            ("unfed", self.unfed.to_string()),
+            ("registers", json::one_line(&report::registers_json(tuner))),
         ];
         fields.extend(Station::of(&self.records, Some(&self.place.table)).json());
-        out.line(&json::members(&fields));
-        out.line("}");
+        out.line(&json::object(&fields));
     }
 }
 
@@ -360,7 +440,7 @@ fn command_json(number: usize, bytes: &[u8; Command::SIZE], made: &Made, told: &
         ("answer", told.json(Some(made.call))),
         ("tries", json::maybe(made.lock.map(|lock| lock.tries))),
         ("locked", json::maybe(made.lock.map(|lock| lock.locked))),
-        ("steps", report::steps_json(made)),
+        ("steps", json::one_line(&report::steps_json(made))),
     ])
 }
 
@@ -402,6 +482,19 @@ fn call(command: Command) -> Call {
         Command::Correction(_) => Call::Correction,
         Command::Reload => Call::Reload,
     }
+}
+
+/// The same as a state keeps it; a correction has no steps.
+fn stored(command: Command) -> Option<pasetone::Call> {
+    Some(match command {
+        Command::Frequency(hz) => pasetone::Call::SetFrequency(hz),
+        Command::Rate(rate) => pasetone::Call::SetSampleRate(rate),
+        Command::Gain(db) => pasetone::Call::SetGain(db),
+        Command::GainIndex(index) => pasetone::Call::SetGainByIndex(index.into()),
+        Command::Bandwidth(hz) => pasetone::Call::SetBandwidth(hz),
+        Command::Correction(_) => return None,
+        Command::Reload => pasetone::Call::Reload,
+    })
 }
 
 /// The same with its argument.

@@ -1,9 +1,13 @@
 //! Files: read whole, from standard input too, and written so that a name never holds half of something. What goes wrong comes back as one line that
 //! says what would be right.
-use crate::out::Out;
+use crate::out::{End, Out};
+use crate::sections::{ENTRY, MOST, Part, TRAILER, Walk};
+use crate::terminal;
+use pasetone::Transcript;
 use std::ffi::{OsStr, OsString};
-use std::fs::{self, File, OpenOptions};
+use std::fs::{self, File, OpenOptions, TryLockError};
 use std::io::{self, ErrorKind, Read, Write};
+use std::os::unix::fs::{FileExt, MetadataExt};
 use std::path::{Path, PathBuf};
 use std::process;
 
@@ -39,16 +43,56 @@ pub fn start(name: &OsStr, most: usize) -> Result<Vec<u8>, String> {
     Source::open(name)?.next(most)
 }
 
+/// The same of a file that this run writes anew behind its reading: its lock is held until the process ends, so that runs at once on one record come one behind the
+/// other, and each reads what the one before has kept.
+pub fn start_locked(name: &OsStr, most: usize, out: &mut Out) -> Result<Vec<u8>, String> {
+    if is_standard(name) {
+        return start(name, most);
+    }
+    loop {
+        let file = File::open(name).map_err(|error| unread(name, &error))?;
+        let is = file.metadata().map_err(|error| unread(name, &error))?;
+        if !is.is_file() {
+            return start(name, most);
+        }
+        locked(&file, name, out).map_err(|error| unread(name, &error))?;
+        // Who held the lock may have put another file in its place.
+        if fs::metadata(name).is_ok_and(|now| (now.dev(), now.ino()) == (is.dev(), is.ino())) {
+            let mut bytes = Vec::new();
+            (&file).take(most as u64).read_to_end(&mut bytes).map_err(|error| unread(name, &error))?;
+            // The lock goes with the process.
+            std::mem::forget(file);
+            return Ok(bytes);
+        }
+    }
+}
+
+/// Waits for a file's lock, and says so where another run holds it.
+pub fn locked(file: &File, name: &OsStr, out: &mut Out) -> io::Result<()> {
+    match file.try_lock() {
+        Ok(()) => Ok(()),
+        Err(TryLockError::WouldBlock) => {
+            waiting(name, out);
+            file.lock()
+        }
+        Err(TryLockError::Error(error)) => Err(error),
+    }
+}
+
+pub fn waiting(name: &OsStr, out: &mut Out) {
+    out.tell(End::Done, &format!("waiting for another run, which holds {}", shown(name)));
+}
+
 /// A file, or standard input where the name is `-`, that is read piece by piece, and may have no end.
 pub struct Source {
     name: OsString,
-    from: Box<dyn Read>,
+    from: Box<dyn Read + Send>,
 }
 
 impl Source {
     pub fn open(name: &OsStr) -> Result<Source, String> {
-        let from: Box<dyn Read> =
-            if is_standard(name) { Box::new(io::stdin()) } else { Box::new(File::open(name).map_err(|error| unread(name, &error))?) };
+        let from: Box<dyn Read + Send> =
+            if is_standard(name) { Box::new(io::stdin()) } else { Box::new(terminal::open(name).map_err(|error| unread(name, &error))?) };
         Ok(Source { name: name.to_os_string(), from })
     }
 
@@ -103,7 +147,7 @@ fn unread(name: &OsStr, error: &io::Error) -> String {
     }
 }
 
-fn unwritten(name: &OsStr, error: &io::Error) -> String {
+pub fn unwritten(name: &OsStr, error: &io::Error) -> String {
     let (file, folder) = (shown(name), shown(folder_of(Path::new(name)).as_os_str()));
     match error.kind() {
         ErrorKind::NotFound => format!("{file}: there is no folder {folder}: make it, or name a file in another"),
@@ -112,7 +156,8 @@ fn unwritten(name: &OsStr, error: &io::Error) -> String {
         ErrorKind::PermissionDenied => {
             format!("{file}: you may not write in {folder}: have its owner allow it, or name a file in another folder")
         }
-        ErrorKind::StorageFull => format!("{file}: the disk is full: make room, or name a file on another"),
+        ErrorKind::ReadOnlyFilesystem => format!("{file}: nothing can be written there: name a file on another disk"),
+        ErrorKind::StorageFull | ErrorKind::QuotaExceeded => format!("{file}: the disk is full: make room, or name a file on another"),
         _ => format!("{file}: it cannot be written ({error}): name another file"),
     }
 }
@@ -121,14 +166,24 @@ fn folder_of(path: &Path) -> &Path {
     path.parent().filter(|folder| !folder.as_os_str().is_empty()).unwrap_or(Path::new("."))
 }
 
-/// A file to be written: what is to stand there is first written beside it, and takes its place at once when it is whole. A device or a pipe has no
+/// A file that nobody may write is not replaced, whoever asks for it.
+pub fn is_read_only(name: &OsStr) -> bool {
+    fs::metadata(name).is_ok_and(|is| is.is_file() && is.permissions().readonly())
+}
+
+/// What is said of it.
+pub fn read_only(name: &OsStr) -> String {
+    format!("{}: it is read-only, and stays: have its owner allow it, or name another file", shown(name))
+}
+
+/// A file to be written: what is to stand there is first written beside it, and takes its place at once when it is whole and on the disk. A device or a pipe has no
 /// place to be taken, and is written as it is. It is opened before a run, so that a name that cannot be written is told before anything is done.
 pub struct Sink {
     name: OsString,
     file: File,
     place: Option<Place>,
-    /// Of a file that is written behind what it holds: how much that is.
-    behind: Option<u64>,
+    /// Whether it is a file that is written behind what it holds.
+    behind: bool,
 }
 
 struct Place {
@@ -138,6 +193,9 @@ struct Place {
 
 impl Sink {
     pub fn open(name: &OsStr) -> Result<Sink, String> {
+        if is_read_only(name) {
+            return Err(read_only(name));
+        }
         Sink::opened(name).map_err(|error| unwritten(name, &error))
     }
 
@@ -152,35 +210,104 @@ impl Sink {
                 sink.file.set_permissions(is.permissions())?;
                 Ok(sink)
             }
-            Ok(_) => Ok(Sink { name: owned, file: OpenOptions::new().write(true).open(name)?, place: None, behind: None }),
+            Ok(_) => Ok(Sink { name: owned, file: OpenOptions::new().write(true).open(name)?, place: None, behind: false }),
             Err(_) => Sink::beside(owned, PathBuf::from(name)),
         }
     }
 
+    /// Beside it under a name of its own: a run that was killed may have left one, with the number of this process.
     fn beside(name: OsString, real: PathBuf) -> io::Result<Sink> {
         let end = real.file_name().ok_or(ErrorKind::IsADirectory)?;
-        let mut own = OsString::from(".");
-        own.push(end);
-        own.push(format!(".{}", process::id()));
-        let beside = folder_of(&real).join(own);
-        let file = OpenOptions::new().write(true).create_new(true).open(&beside)?;
-        Ok(Sink { name, file, place: Some(Place { beside, real }), behind: None })
+        let mut tries = 0;
+        loop {
+            let mut own = OsString::from(".");
+            own.push(end);
+            own.push(format!(".{}.{tries}", process::id()));
+            let beside = folder_of(&real).join(own);
+            match OpenOptions::new().write(true).create_new(true).open(&beside) {
+                Err(error) if error.kind() == ErrorKind::AlreadyExists && tries < 1000 => tries += 1,
+                opened => return Ok(Sink { name, file: opened?, place: Some(Place { beside, real }), behind: false }),
+            }
+        }
     }
 
     /// A file that is written behind what it holds, and made where it is not there: a night's sections, hop by hop. It is not written anew, so that a long
-    /// night costs no more for each hop.
+    /// night costs no more for each hop. One that does not end in a section is told, before anything is done.
     pub fn open_behind(name: &OsStr) -> Result<Sink, String> {
+        let sink = Sink::open_unjudged(name)?;
+        sink.judge()?;
+        Ok(sink)
+    }
+
+    /// The same, whatever it ends in.
+    pub fn open_unjudged(name: &OsStr) -> Result<Sink, String> {
+        if is_read_only(name) {
+            return Err(read_only(name));
+        }
+        // What cannot be read, as some devices, has nothing to be looked at.
         let opened = || {
-            let file = OpenOptions::new().append(true).create(true).open(name)?;
-            let is = file.metadata()?;
-            Ok(Sink { name: name.to_os_string(), file, place: None, behind: is.is_file().then_some(is.len()) })
+            let with = |read: bool| OpenOptions::new().read(read).append(true).create(true).open(name);
+            let file = with(true).or_else(|_| with(false))?;
+            let behind = file.metadata()?.is_file();
+            Ok(Sink { name: name.to_os_string(), file, place: None, behind })
         };
         opened().map_err(|error| unwritten(name, &error))
     }
 
-    /// Writes the last of it and puts all into its place.
+    /// Told where a file that is written behind what it holds does not end in a section: a run was killed while it wrote, or the file is another.
+    pub fn judge(&self) -> Result<(), String> {
+        if !self.behind || self.ends_in_section().map_err(|error| unread(&self.name, &error))? {
+            return Ok(());
+        }
+        let (name, bytes) = (shown(&self.name), read(&self.name)?);
+        let torn = Walk::of(&bytes).numbered().last().map_or(0, |(_, part)| match part {
+            Part::Damaged(damage) => damage.start,
+            Part::Good { .. } => 0,
+        });
+        if torn == 0 {
+            return Err(format!(
+                "{name}: it does not end in a section, and holds none before its end: name a file of sections, or a new one"
+            ));
+        }
+        let lost = bytes.len() - torn;
+        Err(format!(
+            "{name}: its last {lost} bytes, from byte {torn} on, are no whole section: a run was killed there, or the disk was full; name another file, or cut them off by `truncate -s {torn}`"
+        ))
+    }
+
+    /// Whether it is empty, or its last bytes are a section: what it tells of its own length is read, and no more. Zeros are sections of no entries, and other files end
+    /// in zeros too: before a few of them there must be one with entries, or nothing.
+    fn ends_in_section(&self) -> io::Result<bool> {
+        const EMPTY: usize = 64;
+        let mut length = self.file.metadata()?.len();
+        for _ in 0..EMPTY {
+            if length == 0 {
+                return Ok(true);
+            }
+            let mut trailer = [0; TRAILER];
+            if length < TRAILER as u64 {
+                return Ok(false);
+            }
+            self.file.read_exact_at(&mut trailer, length - TRAILER as u64)?;
+            let entries = u64::from(u32::from_le_bytes([trailer[0], trailer[1], trailer[2], trailer[3]]));
+            let size = entries * ENTRY as u64 + TRAILER as u64;
+            if size > length || entries > MOST as u64 {
+                return Ok(false);
+            }
+            if trailer != [0; TRAILER] {
+                let mut section = vec![0; size as usize];
+                self.file.read_exact_at(&mut section, length - size)?;
+                return Ok(Transcript::start(&section).is_ok());
+            }
+            length -= size;
+        }
+        Ok(false)
+    }
+
+    /// Writes the last of it, hands it to the disk and puts all into its place.
     pub fn keep(mut self, bytes: &[u8]) -> Result<(), String> {
         self.add(bytes)?;
+        self.sync()?;
         if let Some(place) = &self.place {
             fs::rename(&place.beside, &place.real).map_err(|error| unwritten(&self.name, &error))?;
         }
@@ -188,14 +315,70 @@ impl Sink {
         Ok(())
     }
 
-    /// Writes some of it, before the last.
+    /// Hands what was written to the disk.
+    pub fn sync(&self) -> Result<(), String> {
+        if self.behind || self.place.is_some() { self.file.sync_data().map_err(|error| unwritten(&self.name, &error)) } else { Ok(()) }
+    }
+
+    /// Writes some of it, before the last. Behind what a file holds it is written under the file's lock, and what a failed writing has left is taken back: that, and
+    /// nothing that another run wrote.
     pub fn add(&mut self, bytes: &[u8]) -> Result<(), String> {
-        let added = self.file.write_all(bytes);
-        if let (Err(_), Some(length)) = (&added, self.behind) {
-            // Half of a section is none: the file is as it was, where that can still be had.
-            let _ = self.file.set_len(length);
+        if !self.behind {
+            return self.file.write_all(bytes).map_err(|error| unwritten(&self.name, &error));
         }
-        added.map_err(|error| unwritten(&self.name, &error))
+        if bytes.is_empty() {
+            return Ok(());
+        }
+        self.file.lock().map_err(|error| unwritten(&self.name, &error))?;
+        let added = self.judge().and_then(|()| self.add_locked(bytes));
+        let _ = self.file.unlock();
+        added
+    }
+
+    fn add_locked(&mut self, bytes: &[u8]) -> Result<(), String> {
+        let before = self.length()?;
+        let Err(error) = self.file.write_all(bytes) else { return Ok(()) };
+        let left = self.length()? - before;
+        let why = unwritten(&self.name, &error);
+        match self.file.set_len(before) {
+            Ok(()) => {
+                Err(format!("{why}; the {left} of {} bytes that were written are taken back, and it has {before} as before", bytes.len()))
+            }
+            Err(_) => {
+                Err(format!("{why}; {left} bytes from byte {before} on are no whole section: cut them off by `truncate -s {before}`"))
+            }
+        }
+    }
+
+    /// How long it is now.
+    pub fn length(&self) -> Result<u64, String> {
+        self.file.metadata().map(|is| is.len()).map_err(|error| unread(&self.name, &error))
+    }
+
+    /// A section that a run which died may have written from a byte on, or some of it: it stands there when this ends, or behind what others have written since.
+    pub fn mend(&mut self, from: u64, section: &[u8]) -> Result<(), String> {
+        if !self.behind || section.is_empty() {
+            return self.add(section);
+        }
+        self.file.lock().map_err(|error| unwritten(&self.name, &error))?;
+        let mended = self.mend_locked(from, section);
+        let _ = self.file.unlock();
+        mended
+    }
+
+    fn mend_locked(&mut self, from: u64, section: &[u8]) -> Result<(), String> {
+        let length = self.length()?;
+        let mut there = vec![0; length.saturating_sub(from).min(section.len() as u64) as usize];
+        self.file.read_exact_at(&mut there, from.min(length)).map_err(|error| unread(&self.name, &error))?;
+        if there == section {
+            return Ok(());
+        }
+        // A beginning of it and nothing behind: the run died while it wrote.
+        if !there.is_empty() && length - from == there.len() as u64 && section.starts_with(&there) {
+            self.file.set_len(from).map_err(|error| unwritten(&self.name, &error))?;
+        }
+        self.judge()?;
+        self.add_locked(section)
     }
 }
 

@@ -10,8 +10,9 @@ pub const MORE: &[&str] = &[
     "The files hold sections end to end, as --section of hop writes them, the oldest first; - is",
     "standard input. A register is sure if its last write was done: the chip holds that byte. It is",
     "DOUBTFUL if its last write failed, or if none of the sections writes it. Steps are counted from 0",
-    "over all files. Where a section is damaged nothing is said, and the exit status is 1; where a",
-    "register is doubtful it is 5. The oscillator is told by five of them and --reference, which is the",
+    "over all files. What a damaged part has sent is not known: it is told by its bytes, behind it every",
+    "register is DOUBTFUL until a whole section writes it, and the exit status is 1; else 5 where a",
+    "register is doubtful. The oscillator is told by five of them and --reference, which is the",
     "corrected one: sections do not name it.",
 ];
 
@@ -51,6 +52,8 @@ fn rows(chip: &Chip, out: &mut Out) {
         let (sent, word, since) = match held {
             Held::Sure(byte, step) => (format!("{byte:02x}"), String::from("sure"), format!("since step {step}")),
             Held::Failed(byte, step) => (format!("{byte:02x} ?"), out.loud("DOUBTFUL"), format!("step {step} FAILED")),
+            Held::Damaged(Some((byte, step))) => (format!("{byte:02x} ?"), out.loud("DOUBTFUL"), format!("step {step}, then damage")),
+            Held::Damaged(None) => (String::from("-- ?"), out.loud("DOUBTFUL"), String::from("behind damage")),
             Held::Never => (String::from("-- ?"), out.loud("DOUBTFUL"), String::from("never written")),
         };
         // The word comes first, so that its colour counts for no padding.

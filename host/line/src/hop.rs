@@ -8,6 +8,7 @@ use crate::owed::{GAIN, RATE};
 use crate::receiver::{self, Receiver};
 use crate::report::{self, Head, Report};
 use crate::run::{Asked, Run, Start};
+use crate::state::Keeper;
 use crate::{advice, numbers, record, script};
 
 pub const MORE: &[&str] = &[
@@ -20,6 +21,9 @@ pub const MORE: &[&str] = &[
     "and is not made again, or never made, is owed: the record keeps that, and while one is owed the",
     "station is told as UNKNOWN, with the line that mends it. A table is not in the record: give --table",
     "again. With --settings HZ may be left out; a word that is given wins.",
+    "--state is one file in place of --record and --keep: a new one begins with a fresh record, and each",
+    "call is stored in it with its section in --append. A run that died is recovered by the next one with",
+    "its state, first of all and in a line; runs at once on one state wait for each other.",
     "HZ, --reference, --rate and --if are written as 102300000, 102300k or 102.3M; other numbers are",
     "decimal, or hexadecimal behind 0x. A lock at the first try is 0x0a in every reply (r820t: 0x06).",
 ];
@@ -39,6 +43,7 @@ pub const OPTIONS: &[Key] = &[
     Key::Fail,
     Key::Outcomes,
     Key::Replies,
+    Key::State,
     Key::Record,
     Key::Keep,
     Key::Section,
@@ -58,22 +63,24 @@ struct Request {
     replies: Vec<u8>,
     fail: Option<usize>,
     files: Kept,
+    keeper: Option<Keeper>,
 }
 
 pub fn run(given: &Given, out: &mut Out) {
     let Some(request) = request(given, out).filter(|_| !out.is_mistaken()) else { return };
-    let Request { asked, start, place, settings, outcomes, replies, fail, files } = request;
+    let Request { asked, start, place, settings, outcomes, replies, fail, files, keeper } = request;
     let head = Head::of(&start, &place, settings);
-    let mut run = Run::hop(start, &asked, &place.table, outcomes, replies);
+    let mut run = Run::hop(start, &asked, &place.table, outcomes, replies, keeper);
     if let Some(records) = run.records.as_mut() {
-        records.owed.table = place.file.is_some();
+        // A state has the table itself.
+        records.owed.table = place.file.is_some() && !given.has(Key::State);
     }
     let again = advice::hop_again(given, asked.hz, &run);
     let wish = Wish { hz: asked.hz, rate: asked.rate.unwrap_or(0), table: &place.table, again: again.clone() };
     let told = answer::of(&run, &wish);
     let unreached = fail.filter(|step| run.steps <= *step);
     let plan = place.table.plan_tuning(asked.hz).ok();
-    let report = Report { head, place, asked, plan, run, told, unreached };
+    let mut report = Report { head, place, asked, plan, run, told, unreached };
     if given.has(Key::Json) {
         report.json(out);
     } else if !given.has(Key::Quiet) {
@@ -93,11 +100,12 @@ fn request(given: &Given, out: &mut Out) -> Option<Request> {
         Some(kept) => words.filled(kept),
         None => words,
     };
-    let (start, place) = begins(given, &receiver, out);
+    let keeper = Keeper::open(given, out);
+    let (start, place) = begins(given, &receiver, keeper.as_ref(), out);
     let outcomes = script::outcomes(given, fail, out);
     let replies = script::replies(given, script::lock(start.as_ref().map(Start::kind)), out);
     let Receiver { ppm, rate, gain, if_hz, frequency, .. } = receiver;
-    let asked = if given.has(Key::Record) {
+    let asked = if matches!(start, Some(Start::Kept(_))) || given.has(Key::Record) {
         Asked { hz: frequency?, ppm, initialise: given.has(Key::Initialise), rate, gain, if_hz }
     } else {
         Asked { hz: frequency?, ppm, initialise: true, rate: rate.or(Some(RATE)), gain: gain.or(Some(GAIN)), if_hz }
@@ -107,7 +115,7 @@ fn request(given: &Given, out: &mut Out) -> Option<Request> {
     }
     let files = given.kept_files(out);
     let settings = settings.map(|kept| (given.word(Key::Settings).map(called).unwrap_or_default(), kept.edition));
-    Some(Request { asked, start: start?, place, settings, outcomes, replies, fail, files })
+    Some(Request { asked, start: start?, place, settings, outcomes, replies, fail, files, keeper })
 }
 
 /// The frequency; it may be left out where settings have one.
@@ -118,14 +126,27 @@ fn frequency(given: &Given, out: &mut Out) -> Option<u64> {
     numbers::one_hertz("hop", &given.operands, out)
 }
 
-/// What a run begins with, and the board that it is on: by --record, or by the words.
-pub fn begins(given: &Given, receiver: &Receiver, out: &mut Out) -> (Option<Start>, Place) {
-    let start = if given.has(Key::Record) { kept(given, out) } else { Some(fresh(receiver)) };
+/// What a run begins with, and the board that it is on: by --record, by what a state held, or by the words.
+pub fn begins(given: &Given, receiver: &Receiver, keeper: Option<&Keeper>, out: &mut Out) -> (Option<Start>, Place) {
+    let held = keeper.and_then(Keeper::records).cloned();
+    if held.is_some() {
+        not_beside(given, Key::State, "state", out);
+    }
+    let start = match held {
+        Some(records) => Some(Start::Kept(Box::new(records))),
+        None if given.has(Key::Record) => kept(given, out),
+        None => Some(fresh(receiver)),
+    };
     let board = match &start {
         Some(Start::Kept(records)) => records.driver.board(),
         _ => receiver.board(),
     };
-    (start, Place::given(given, board, out))
+    let own = keeper.and_then(|keeper| Some((keeper.table()?, keeper.name()))).filter(|(table, _)| **table != board.table());
+    let place = match own.filter(|_| !given.has(Key::Table)) {
+        Some((table, name)) => Place { board, table: table.clone(), file: Some(called(name)) },
+        None => Place::given(given, board, out),
+    };
+    (start, place)
 }
 
 /// What a fresh record is made of.
@@ -135,26 +156,37 @@ fn fresh(receiver: &Receiver) -> Start {
 
 /// Options that do not go together.
 pub fn together(given: &Given, out: &mut Out) {
-    for key in [Key::Kind, Key::Address, Key::Board, Key::Reference] {
-        if given.has(Key::Record) && given.has(key) {
-            out.mistake(&format!("{} is in the record that --record names: give one of the two", option(key).name));
-        }
+    if given.has(Key::Record) {
+        not_beside(given, Key::Record, "record", out);
     }
-    if given.has(Key::Record) && given.has(Key::Settings) {
-        out.mistake("--settings names a kind and a board, which are in the record that --record names: give one of the two");
+    for key in [Key::Record, Key::Keep] {
+        if given.has(Key::State) && given.has(key) {
+            out.mistake(&format!("--state has the record, before the run and behind it: give --state or {}", option(key).name));
+        }
     }
     if given.has(Key::Board) && given.has(Key::Table) {
         out.mistake("--table is the board: give --board or --table");
     }
-    if given.has(Key::Initialise) && !given.has(Key::Record) {
+    if given.has(Key::Initialise) && !given.has(Key::Record) && !given.has(Key::State) {
         out.mistake("--initialise goes with --record: a fresh record is initialised anyway");
     }
     given.reads_once(&[Key::Outcomes, Key::Replies, Key::Record, Key::Table, Key::Settings], out);
     given.names_other_files(out);
 }
 
+/// What a record or a state has is no word beside it.
+fn not_beside(given: &Given, holder: Key, word: &str, out: &mut Out) {
+    let name = option(holder).name;
+    for key in [Key::Kind, Key::Address, Key::Board, Key::Reference].into_iter().filter(|key| given.has(*key)) {
+        out.mistake(&format!("{} is in the {word} that {name} names: give one of the two", option(key).name));
+    }
+    if given.has(Key::Settings) {
+        out.mistake(&format!("--settings names a kind and a board, which are in the {word} that {name} names: give one of the two"));
+    }
+}
+
 fn kept(given: &Given, out: &mut Out) -> Option<Start> {
-    let bytes = given.start(Key::Record, record::LOOKED_AT, out)?;
+    let bytes = given.record(record::LOOKED_AT, out)?;
     record::judged(&bytes, &format!("--record {}", given.word(Key::Record).map(called).unwrap_or_default()), out)
         .map(|records| Start::Kept(Box::new(records)))
 }

@@ -40,6 +40,11 @@ pub fn members(fields: &[(&str, String)]) -> String {
     fields.iter().map(|(name, value)| format!("{}: {value}", string(name))).collect::<Vec<_>>().join(",\n")
 }
 
+/// The same without line breaks: what is JSON has none within its strings.
+pub fn one_line(json: &str) -> String {
+    json.replace(",\n", ", ").replace('\n', "")
+}
+
 /// The value, or null.
 pub fn maybe(value: Option<impl Display>) -> String {
     value.map_or_else(|| String::from("null"), |value| value.to_string())

@@ -1,6 +1,6 @@
 //! The command line of Pasetone, over the Rust host. `../../pasetone` builds and runs it. The exit status is out.rs's `End`.
 //! A new command is one file here and one row in command.rs.
-#![forbid(unsafe_code)]
+#![deny(unsafe_code)]
 
 mod advice;
 mod answer;
@@ -35,9 +35,12 @@ mod script;
 mod sections;
 mod settings;
 mod show;
+mod signals;
 mod standing;
+mod state;
 mod station;
 mod table;
+mod terminal;
 mod whereabouts;
 mod worksheet;
 

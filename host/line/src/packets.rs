@@ -4,7 +4,7 @@ use crate::command::{Given, Key};
 use crate::filed::File;
 use crate::json;
 use crate::names::counted;
-use crate::out::Out;
+use crate::out::{End, Out};
 use crate::rows::hex;
 use crate::sections::{ENTRY, Part, Walk, alone};
 use pasetone::{Error, Packet, Transcript};
@@ -13,8 +13,9 @@ pub const MORE: &[&str] = &[
     "FILE holds sections end to end, as --section of hop writes them; - is standard input. Each step is",
     "shown with its setup packet of 8 bytes and a write's data; behind a demod write that was done stands",
     "the read of page 0x0a; a wait has no packet. --out writes the packets end to end, for a box that",
-    "speaks raw control transfers; `entries` reads them back. Where a section is damaged, or a step has",
-    "no packet of its own, none are written and the exit status is 1.",
+    "speaks raw control transfers; `entries` reads them back. A damaged part is told by its bytes and",
+    "passed over, a step without a packet of its own ends it: then none are written, and the exit status",
+    "is 1.",
 ];
 
 pub const OPTIONS: &[Key] = &[Key::Out, Key::Json, Key::Quiet];
@@ -33,15 +34,19 @@ pub fn run(given: &Given, out: &mut Out) {
     }
     let Some(file) = File::all("packets", given, out).and_then(|files| files.into_iter().next()) else { return };
     let walk = Walk::of(&file.bytes);
-    if file.damaged(&walk, out) > 0 {
-        let text = format!("packets: {} is not whole (refusal 12): give a file that `show` finds whole", file.name);
-        return answer::refused(given, Error::Section, &text, out);
+    let damaged = file.damaged(&walk, out);
+    if damaged > 0 {
+        let parts = counted(damaged, "damaged part");
+        let text =
+            format!("packets: {} has {parts} (refusal 12): packets are of the sections that are whole, and --out writes none", file.name);
+        out.tell(End::Refused, &text);
     }
     let sent = match Sent::of(&file, &walk) {
         Ok(sent) => sent,
         Err((error, text)) => return answer::refused(given, error, &text, out),
     };
-    let sink = given.sink(Key::Out, out);
+    // A box that replays packets with a hole in them brings no chip to where this one was.
+    let sink = if damaged == 0 { given.sink(Key::Out, out) } else { None };
     if out.is_mistaken() {
         return;
     }
@@ -58,12 +63,18 @@ pub fn run(given: &Given, out: &mut Out) {
 impl Sent {
     /// Everything is asked for before anything is printed: what is refused prints no half of it.
     fn of(file: &File, walk: &Walk) -> Result<Sent, (Error, String)> {
-        let mut sent = Sent::default();
+        let (mut sent, mut passed) = (Sent::default(), 0);
         for (_, part) in walk.numbered() {
-            let Part::Good { start, end } = part else { continue };
+            let (start, end) = match part {
+                Part::Good { start, end } => (start, end),
+                Part::Damaged(damage) => {
+                    passed += damage.entries;
+                    continue;
+                }
+            };
             let read = Transcript::read(&file.bytes[start..end]).map(|(_, transcript)| transcript);
             let transcript = read.map_err(|error| (error, format!("packets: {error}")))?;
-            let packets = transcript.packets().map_err(|error| (error, refused(&transcript, sent.steps, error)))?;
+            let packets = transcript.packets().map_err(|error| (error, refused(&transcript, sent.steps + passed, error)))?;
             sent.bytes.extend(packets);
             sent.steps += transcript.len();
             sent.sections += 1;
@@ -81,16 +92,20 @@ impl Sent {
             }
         });
         let (sections, steps, packets) = (counted(self.sections, "section"), counted(self.steps, "step"), counted(packets, "packet"));
-        out.line(&format!("sent: {sections}, {steps}, {packets}, {} bytes", self.bytes.len()));
+        let damaged = if walk.damages() == 0 { String::new() } else { format!("; DAMAGED: {}", walk.damages()) };
+        out.line(&format!("sent: {sections}, {steps}, {packets}, {} bytes{damaged}", self.bytes.len()));
     }
 
     fn json(&self, file: &File, walk: &Walk, out: &mut Out) {
         let (name, sections, bytes) = (json::string(&file.name), self.sections, self.bytes.len());
-        let (refusal, number) = answer::done_json();
+        let done = answer::done_json();
+        let (refusal, number) = if walk.damages() == 0 { done } else { (done.0, Error::Section.number().to_string()) };
         out.text(&format!("{{\n\"{refusal}\": {number},\n\"file\": {name},\n\"sections\": {sections},\n\"bytes\": {bytes},\n\"steps\": ["));
+        let mut before = "\n";
         each(file, walk, |step, words, own| {
-            out.text(if step == 0 { "\n" } else { ",\n" });
+            out.text(before);
             out.text(&step_json(step, words, own));
+            before = ",\n";
         });
         out.line(if self.steps == 0 { "]\n}" } else { "\n]\n}" });
     }
@@ -114,7 +129,14 @@ fn one(transcript: &Transcript, at: usize) -> Option<Transcript> {
 fn each(file: &File, walk: &Walk, mut see: impl FnMut(usize, &str, &[Packet])) {
     let mut step = 0;
     for (_, part) in walk.numbered() {
-        let Part::Good { start, end } = part else { continue };
+        let (start, end) = match part {
+            Part::Good { start, end } => (start, end),
+            // As `show` counts them.
+            Part::Damaged(damage) => {
+                step += damage.entries;
+                continue;
+            }
+        };
         let Ok((_, transcript)) = Transcript::read(&file.bytes[start..end]) else { continue };
         for (at, entry) in transcript.iter().enumerate() {
             let packets = one(&transcript, at).and_then(|one| one.packets().ok()).unwrap_or_default();

@@ -1,7 +1,10 @@
 //! A kept record: the bytes of the tuner's record, those of the driver's, then what is owed (owed.rs), and nothing else. The first two sizes are the library's.
+use crate::files::{self, shown};
 use crate::out::Out;
 use crate::owed::Owed;
 use pasetone::{Driver, Tuner};
+use std::ffi::OsStr;
+use std::fs;
 
 /// What is known of a receiver, and what it still needs.
 #[derive(Clone, PartialEq, Debug)]
@@ -48,6 +51,21 @@ pub fn read(bytes: &[u8]) -> Result<Records, String> {
 /// The same, told as a mistake of what `named` the file.
 pub fn judged(bytes: &[u8], named: &str, out: &mut Out) -> Option<Records> {
     read(bytes).map_err(|why| out.mistake(&format!("{named}: {why}"))).ok()
+}
+
+/// Told where a file is there that no run has kept: a record does not take its place.
+pub fn replaces(name: &OsStr) -> Result<(), String> {
+    if !fs::metadata(name).is_ok_and(|is| is.is_file() && is.len() > 0) {
+        return Ok(());
+    }
+    let bytes = files::start(name, LOOKED_AT)?;
+    if bytes.starts_with(b"pasetone") {
+        return Err(format!("{}: this is a state: give it as --state, or name another file", shown(name)));
+    }
+    if OLD.contains(&bytes.len()) || read(&bytes).is_ok() {
+        return Ok(());
+    }
+    Err(format!("{}: it is there and no record, so none takes its place: name a record, or a new file", shown(name)))
 }
 
 pub fn write(records: &Records) -> Vec<u8> {

@@ -7,8 +7,10 @@ use crate::files::{self, called, is_standard};
 use crate::out::Out;
 use crate::record::Records;
 use crate::run::Run;
+use crate::state::Keeper;
 use crate::{advice, json, names, record, report, script};
 use pasetone::Tuner;
+use std::ffi::OsString;
 
 pub const MORE: &[&str] = &[
     "RECORD is a file that --keep has written. The call sends the bytes of the record's shadow to the",
@@ -17,10 +19,12 @@ pub const MORE: &[&str] = &[
     "may stand beside its station, and of demodulator and board's input nothing is sent at all. Make the",
     "call that was cut again, until it is done; the line that reload ends with has it. It talks to no",
     "receiver: outcomes stand in for one. The record's file stays as it is; --keep writes the next",
-    "record, and may name the same file. A record does not name a table: give --table again.",
+    "record, and may name the same file. A record does not name a table: give --table again. With",
+    "--state no RECORD is named: the state has it, with its table.",
 ];
 
-pub const OPTIONS: &[Key] = &[Key::Table, Key::Fail, Key::Outcomes, Key::Keep, Key::Section, Key::Append, Key::Json, Key::Quiet];
+pub const OPTIONS: &[Key] =
+    &[Key::Table, Key::Fail, Key::Outcomes, Key::State, Key::Keep, Key::Section, Key::Append, Key::Json, Key::Quiet];
 
 pub fn run(given: &Given, out: &mut Out) {
     let fail = script::fail(given, out);
@@ -30,7 +34,11 @@ pub fn run(given: &Given, out: &mut Out) {
         out.mistake("standard input can be read once: give - to the record or to an option");
     }
     given.reads_once(&read, out);
-    let records = kept(given, out);
+    if given.has(Key::State) && given.has(Key::Keep) {
+        out.mistake("--state has the record, before the run and behind it: give --state or --keep");
+    }
+    let keeper = Keeper::open(given, out);
+    let records = if given.has(Key::State) { held(given, keeper.as_ref(), out) } else { kept(given, out) };
     let outcomes = script::outcomes(given, fail, out);
     let Some(records) = records else { return };
     let place = Place::given(given, records.driver.board(), out);
@@ -38,10 +46,14 @@ pub fn run(given: &Given, out: &mut Out) {
         return;
     }
     let files = given.kept_files(out);
-    let (false, [name]) = (out.is_mistaken(), given.operands.as_slice()) else { return };
+    let Some(name) = given.word(Key::State).or(given.operands.first().map(OsString::as_os_str)).filter(|_| !out.is_mistaken()) else {
+        return;
+    };
     let before = records.tuner.clone();
-    let table = given.has(Key::Table).then_some(&place.table);
-    let run = Run::reload(records, outcomes);
+    // By the words, or by the state; a kept record names none.
+    let named = if given.has(Key::Table) { Some(place.table.clone()) } else { keeper.as_ref().and_then(Keeper::table).cloned() };
+    let table = named.as_ref();
+    let mut run = Run::reload(records, table.unwrap_or(&place.table), outcomes, keeper);
     let kept = given.word(Key::Keep).unwrap_or(name);
     let again = run.records.as_ref().map_or_else(String::new, |records| advice::reload_again(kept, given, records));
     let wish = Wish { hz: 0, rate: 0, table: &place.table, again: again.clone() };
@@ -63,6 +75,18 @@ pub fn run(given: &Given, out: &mut Out) {
     run.keep(files, out);
 }
 
+/// The record of a state.
+fn held(given: &Given, keeper: Option<&Keeper>, out: &mut Out) -> Option<Records> {
+    if !given.operands.is_empty() {
+        out.mistake("--state has the record: give --state or a file that --keep has written");
+    }
+    let keeper = keeper?;
+    if keeper.records().is_none() {
+        out.mistake(&format!("--state {}: no receiver is in it yet: hop makes one", called(keeper.name())));
+    }
+    keeper.records().cloned()
+}
+
 /// The record that the one operand names.
 fn kept(given: &Given, out: &mut Out) -> Option<Records> {
     let [name] = given.operands.as_slice() else {
@@ -72,7 +96,8 @@ fn kept(given: &Given, out: &mut Out) -> Option<Records> {
     if out.is_mistaken() {
         return None;
     }
-    let bytes = files::start(name, record::LOOKED_AT).map_err(|why| out.mistake(&format!("reload {why}"))).ok()?;
+    let read = if given.has(Key::Keep) { files::start_locked(name, record::LOOKED_AT, out) } else { files::start(name, record::LOOKED_AT) };
+    let bytes = read.map_err(|why| out.mistake(&format!("reload {why}"))).ok()?;
     record::judged(&bytes, &format!("reload {}", called(name)), out)
 }
 

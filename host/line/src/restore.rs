@@ -12,8 +12,9 @@ pub const MORE: &[&str] = &[
     "standard input. The list names each register of the chip whose last write was done, once, with",
     "its byte, in runs of at most seven: no list has fewer writes. It leaves those whose last write",
     "failed or that none writes, which `held` tells. Sent behind an open repeater it brings any chip",
-    "there, but for what it leaves: then the exit status is 5. --out writes it as a section. Where a",
-    "section is damaged no list is made.",
+    "there, but for what it leaves: then the exit status is 5. --out writes it as a section. Behind a",
+    "damaged part, which is told by its bytes, nothing is known but what whole sections write: the list",
+    "has these alone, and the exit status is 1.",
 ];
 
 pub const OPTIONS: &[Key] = &[Key::Chip, Key::Out, Key::Json, Key::Quiet];
@@ -47,7 +48,8 @@ fn table(day: &Day, chip: &Chip, out: &mut Out) {
     out.line(&format!("named: {}", told(&named, "")));
     let failed = chip.those(|held| matches!(held, Held::Failed(..)));
     let never = chip.those(|held| matches!(held, Held::Never));
-    for (left, why) in [(failed, ", whose last write failed"), (never, ", never written")] {
+    let damaged = chip.those(|held| matches!(held, Held::Damaged(_)));
+    for (left, why) in [(failed, ", whose last write failed"), (damaged, ", not written behind the damage"), (never, ", never written")] {
         if !left.is_empty() {
             out.line(&format!("left:  {}", told(&left, why)));
         }
@@ -70,6 +72,7 @@ fn json(day: &Day, chip: &Chip, out: &mut Out) {
         ("writes", json::lines(chip.list.iter().enumerate().map(|(at, entry)| rows::step_json(at, &entry)))),
         ("named", json::array(chip.sure())),
         ("failed", json::array(chip.those(|held| matches!(held, Held::Failed(..))))),
+        ("behind_damage", json::array(chip.those(|held| matches!(held, Held::Damaged(_))))),
         ("never", json::array(chip.those(|held| matches!(held, Held::Never)))),
     ]);
     out.line(&json::document(&fields));

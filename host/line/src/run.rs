@@ -4,7 +4,8 @@ use crate::names::{Gain, decibels};
 use crate::out::Out;
 use crate::owed::{Job, Owed, RATE};
 use crate::record::Records;
-use pasetone::{Answer, Board, Driver, Error, Lock, Need, Script, Table, Transcript, Tuner, TunerKind, demod};
+use crate::state::Keeper;
+use pasetone::{Board, Driver, Error, Lock, Need, Receiver, Script, Table, Transcript, Tuner, TunerKind};
 
 /// The calls by the names that are printed.
 #[derive(Clone, Copy, PartialEq, Eq)]
@@ -107,17 +108,25 @@ pub struct Run {
     outcomes: Vec<u8>,
     /// For the tuning, which alone reads.
     replies: Vec<u8>,
+    /// Of `--state`: each call is stored as it is made.
+    keeper: Option<Keeper>,
+    /// Where the run is on its way to.
+    hz: Option<u64>,
 }
 
 impl Run {
     /// Makes all calls that lead to a frequency, over what a run begins with.
-    pub fn hop(start: Start, asked: &Asked, table: &Table, outcomes: Vec<u8>, replies: Vec<u8>) -> Run {
-        let mut run = Run { records: None, made: Vec::new(), steps: 0, outcomes, replies };
+    pub fn hop(start: Start, asked: &Asked, table: &Table, outcomes: Vec<u8>, replies: Vec<u8>, keeper: Option<Keeper>) -> Run {
+        let mut run = Run { records: None, made: Vec::new(), steps: 0, outcomes, replies, keeper, hz: Some(asked.hz) };
         if let Some(mut records) = run.begin(start, asked) {
-            run.sequence(&mut records, asked, table);
+            let ended = run.sequence(&mut records, asked, table);
             // A run that was cut before its tuning was on its way there.
             if run.was_cut() {
                 records.owed.hz = asked.hz;
+            }
+            // A state that could not be written has ended it before its tuning.
+            if ended.is_none() && run.made.last().is_some_and(|made| made.result.is_ok() && made.call != Call::Tune) {
+                (records.owed.hz, records.owed.tune) = (asked.hz, true);
             }
             run.records = Some(records);
         }
@@ -125,10 +134,9 @@ impl Run {
     }
 
     /// Sends a kept record's shadow again.
-    pub fn reload(mut records: Records, outcomes: Vec<u8>) -> Run {
-        let mut run = Run { records: None, made: Vec::new(), steps: 0, outcomes, replies: Vec::new() };
-        let answer = records.tuner.reload(&run.script());
-        run.stepped(Call::Reload, Job::Reload, answer, &mut records);
+    pub fn reload(mut records: Records, table: &Table, outcomes: Vec<u8>, keeper: Option<Keeper>) -> Run {
+        let mut run = Run { records: None, made: Vec::new(), steps: 0, outcomes, replies: Vec::new(), keeper, hz: None };
+        run.make(Call::Reload, pasetone::Call::Reload, Job::Reload, &mut records, table);
         run.records = Some(records);
         run
     }
@@ -162,42 +170,34 @@ impl Run {
     fn sequence(&mut self, records: &mut Records, asked: &Asked, table: &Table) -> Option<()> {
         if let Some(ppm) = asked.ppm {
             let corrected = records.driver.set_ppm(&mut records.tuner, ppm);
-            self.stepped(Call::Correction, Job::Correction, Answer { result: corrected, transcript: Transcript::default() }, records)?;
+            records.owed.made(Job::Correction, corrected, &Transcript::default(), &records.tuner, &records.driver);
+            self.after(Call::Correction, corrected, Transcript::default())?;
         }
         if asked.initialise {
-            let answer = records.tuner.initialize(&self.script());
-            self.stepped(Call::Initialise, Job::Initialise, answer, records)?;
+            self.make(Call::Initialise, pasetone::Call::Initialize, Job::Initialise, records, table)?;
         }
         if let Some(rate) = asked.rate {
-            let answer = records.driver.set_sample_rate(&mut records.tuner, table, rate, &self.script());
-            self.stepped(Call::SampleRate, Job::Rate(rate), answer, records)?;
+            self.make(Call::SampleRate, pasetone::Call::SetSampleRate(rate), Job::Rate(rate), records, table)?;
         }
         if let Some(gain) = asked.gain {
-            let answer = match gain {
-                Gain::Tenths(tenths) => records.tuner.set_gain(decibels(tenths), &self.script()),
-                Gain::Index(index) => records.tuner.set_gain_by_index(usize::from(index), &self.script()),
+            let call = match gain {
+                Gain::Tenths(tenths) => pasetone::Call::SetGain(decibels(tenths)),
+                Gain::Index(index) => pasetone::Call::SetGainByIndex(index.into()),
             };
-            self.stepped(Call::Gain, Job::Gain(gain), answer, records)?;
+            self.make(Call::Gain, call, Job::Gain(gain), records, table)?;
         }
-        self.own_if(records, asked)?;
-        let answer = records.driver.tune_board(&mut records.tuner, table, asked.hz, &self.script());
-        let lock = answer.lock;
-        let ended = self.stepped(Call::Tune, Job::Tune(asked.hz), answer.into(), records);
-        if let Some(made) = self.made.last_mut() {
-            made.lock = Some(lock);
-        }
-        ended
+        self.own_if(records, asked, table)?;
+        self.make(Call::Tune, pasetone::Call::TuneBoard(asked.hz), Job::Tune(asked.hz), records, table)
     }
 
     /// An IF of the site's own, on tuner and demodulator. The tuner's record has it before its first write is tried, so one that was cut is made again
     /// whatever the record says.
-    fn own_if(&mut self, records: &mut Records, asked: &Asked) -> Option<()> {
+    fn own_if(&mut self, records: &mut Records, asked: &Asked, table: &Table) -> Option<()> {
         let cut = records.owed.if_hz.is_some();
         let Some(hz) = asked.if_hz.filter(|hz| cut || u64::from(*hz) != records.tuner.if_freq()) else { return Some(()) };
-        let answer = records.tuner.set_if_freq(hz.into(), &self.script());
-        self.stepped(Call::If, Job::If(hz), answer, records)?;
-        let answer = demod::set_if_freq_xtal(hz, records.driver.corrected_xtal_hz(), &self.script());
-        self.stepped(Call::DemodIf, Job::DemodIf(hz), answer, records)
+        self.make(Call::If, pasetone::Call::SetIfFreq(hz.into()), Job::If(hz), records, table)?;
+        let xtal = records.driver.corrected_xtal_hz();
+        self.make(Call::DemodIf, pasetone::Call::SetIfFreqXtal { hz, xtal }, Job::DemodIf(hz), records, table)
     }
 
     /// What is left of the script for the next call: no call needs more than `Script` has.
@@ -206,10 +206,22 @@ impl Run {
         Script::new(left(&self.outcomes, self.steps, Script::OUTCOMES), left(&self.replies, 0, Script::REPLIES))
     }
 
-    fn stepped<T>(&mut self, call: Call, job: Job, answer: Answer<T>, records: &mut Records) -> Option<()> {
+    /// A call over the records, which are the next ones then; with a state it is stored too, and where that cannot be done the run is at its end.
+    fn make(&mut self, call: Call, made: pasetone::Call, job: Job, records: &mut Records, table: &Table) -> Option<()> {
+        let mut receiver = Receiver::of(records.tuner.clone(), records.driver.clone(), table.clone());
+        let answer = made.make(&mut receiver, &self.script());
+        let (tuner, driver, _) = receiver.parts();
+        let mut next = Records { tuner, driver, owed: records.owed.clone() };
         let result = answer.result.map(drop);
-        records.owed.made(job, result, &answer.transcript, &records.tuner, &records.driver);
-        self.after(call, result, answer.transcript)
+        next.owed.made(job, result, &answer.transcript, &next.tuner, &next.driver);
+        let hz = self.hz;
+        let is_kept = self.keeper.as_mut().is_none_or(|keeper| keeper.made(made, &answer, records, &next, table, hz));
+        *records = next;
+        let ended = self.after(call, result, answer.transcript);
+        if let (Call::Tune, Some(last)) = (call, self.made.last_mut()) {
+            last.lock = Some(answer.lock);
+        }
+        ended.filter(|()| is_kept)
     }
 
     /// Behind a call: what it made. `None` where the run is at its end.
@@ -236,8 +248,12 @@ impl Run {
         self.made.iter().flat_map(|made| made.transcript.bytes()).copied().collect()
     }
 
-    /// The sections and the record into their files, also of a run that stopped.
-    pub fn keep(&self, files: Kept, out: &mut Out) {
+    /// The sections and the record into their files, also of a run that stopped. A state has the calls already; what had no steps, or was not come to, it gets here.
+    pub fn keep(&mut self, files: Kept, out: &mut Out) {
         files.end(&self.sections(), self.records.as_ref(), out);
+        if let Some(mut keeper) = self.keeper.take() {
+            keeper.last(self.records.as_ref());
+            keeper.end(out);
+        }
     }
 }

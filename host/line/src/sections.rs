@@ -11,7 +11,7 @@ use pasetone::Transcript;
 
 pub const ENTRY: usize = 16;
 pub const TRAILER: usize = 8;
-const MOST: usize = 4096;
+pub const MOST: usize = 4096;
 
 /// What is wrong with a damaged part.
 #[derive(Debug, PartialEq)]

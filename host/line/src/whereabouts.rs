@@ -2,15 +2,17 @@
 use crate::advice;
 use crate::boards::Place;
 use crate::command::{Given, Key};
-use crate::files::{self, called, is_standard};
+use crate::files::{self, called, is_standard, shown};
 use crate::json;
 use crate::names;
 use crate::out::Out;
 use crate::record::{self, Records};
 use crate::standing::Standing;
+use crate::state::Keeper;
 use crate::station::Station;
 use pasetone::Table;
 use std::ffi::OsStr;
+use std::fs;
 
 pub const MORE: &[&str] = &[
     "RECORD is a file that --keep has written. The oscillator is told by the bytes last sent to 0x10,",
@@ -19,35 +21,57 @@ pub const MORE: &[&str] = &[
     "25 kHz / m of what was asked (m 32: 782 Hz); where it is further off the line says BESIDE",
     "and by how much. Of the demodulator the record knows nothing: what was cut there is owed, and then",
     "the station is UNKNOWN. The exit status is 0 where the receiver stands on its station, locked.",
-    "A record does not name a table: give --table again.",
+    "A record does not name a table: give --table again. With --state no RECORD is named.",
 ];
 
-pub const OPTIONS: &[Key] = &[Key::Table, Key::Json, Key::Quiet];
+pub const OPTIONS: &[Key] = &[Key::Table, Key::State, Key::Json, Key::Quiet];
 
 pub fn run(given: &Given, out: &mut Out) {
-    let [name] = given.operands.as_slice() else {
-        return out.mistake("where wants one file that --keep has written, or - for standard input");
+    // What is only looked at is not made.
+    if let Some(state) = given.word(Key::State).filter(|state| !is_standard(state) && fs::metadata(state).is_err()) {
+        return out.mistake(&format!("--state {}: there is no such file: name one that is there", shown(state)));
+    }
+    let keeper = Keeper::open(given, out);
+    let name = match (given.word(Key::State), given.operands.as_slice()) {
+        (Some(state), []) => state,
+        (Some(_), _) => return out.mistake("--state has the record: give --state or a file that --keep has written"),
+        (None, [name]) => name.as_os_str(),
+        (None, _) => return out.mistake("where wants one file that --keep has written, or - for standard input"),
     };
-    if out.is_mistaken() {
-        return;
-    }
-    if is_standard(name) && given.word(Key::Table).is_some_and(is_standard) {
-        return out.mistake("standard input can be read once: give - to the record or to --table");
-    }
-    let bytes = files::start(name, record::LOOKED_AT).map_err(|why| out.mistake(&format!("where {why}"))).ok();
-    let records = bytes.and_then(|bytes| record::judged(&bytes, &format!("where {}", called(name)), out));
-    let Some(records) = records else { return };
+    let records = if given.has(Key::State) { held(keeper.as_ref(), out) } else { kept(name, given, out) };
+    let Some(records) = records.filter(|_| !out.is_mistaken()) else { return };
     let place = Place::given(given, records.driver.board(), out);
     if out.is_mistaken() {
         return;
     }
-    let table = given.has(Key::Table).then_some(&place.table);
+    let table = if given.has(Key::Table) { Some(&place.table) } else { keeper.as_ref().and_then(Keeper::table) };
     if given.has(Key::Json) {
         json(&records, table, out);
     } else if !given.has(Key::Quiet) {
         lines(&records, table, out);
     }
     tell(name, given, &records, table, out);
+}
+
+/// The record of a state.
+fn held(keeper: Option<&Keeper>, out: &mut Out) -> Option<Records> {
+    let keeper = keeper?;
+    if keeper.records().is_none() {
+        out.mistake(&format!("--state {}: no receiver is in it yet: hop makes one", called(keeper.name())));
+    }
+    keeper.records().cloned()
+}
+
+/// The record that a file holds.
+fn kept(name: &OsStr, given: &Given, out: &mut Out) -> Option<Records> {
+    if is_standard(name) && given.word(Key::Table).is_some_and(is_standard) {
+        out.mistake("standard input can be read once: give - to the record or to --table");
+    }
+    if out.is_mistaken() {
+        return None;
+    }
+    let bytes = files::start(name, record::LOOKED_AT).map_err(|why| out.mistake(&format!("where {why}"))).ok()?;
+    record::judged(&bytes, &format!("where {}", called(name)), out)
 }
 
 /// What is not right, with what to do.

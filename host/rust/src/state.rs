@@ -96,6 +96,7 @@ pub struct State {
     note: Vec<u8>,
     night: u64,
     receiver: Receiver,
+    synced: bool,
 }
 
 /// What a state's file held when it was opened.
@@ -196,7 +197,7 @@ impl State {
         }
         let mut bytes = vec![0; HEAD + 2 * LEAF + 1];
         let length = read_up_to(&file, &mut bytes)?;
-        let mut state = State { file, number: 0, leaf: 1, key: key.into(), note: Vec::new(), night: 0, receiver: fresh };
+        let mut state = State { file, number: 0, leaf: 1, key: key.into(), note: Vec::new(), night: 0, receiver: fresh, synced: true };
         let Some((leaf, at)) = read(&bytes[..length])? else { return Ok((state, Found::New)) };
         (state.number, state.leaf) = (leaf.number, at);
         if leaf.key != state.key {
@@ -293,13 +294,27 @@ impl State {
         Ok(driven)
     }
 
-    /// Stores the receiver, the note and the night's length, with no call under way, and syncs them.
+    /// Stores the receiver, the note and the night's length, with no call under way.
     ///
     /// # Errors
     ///
     /// The file could not be written: it has what it had.
     pub fn keep(&mut self) -> io::Result<()> {
         self.store(None)?;
+        if self.synced { self.sync() } else { Ok(()) }
+    }
+
+    /// Whether each call's end is synced, as it is from the opening on. A host that makes many calls a second may rather [`State::sync`] now and then.
+    pub fn set_synced(&mut self, synced: bool) {
+        self.synced = synced;
+    }
+
+    /// Hands what was stored to the disk.
+    ///
+    /// # Errors
+    ///
+    /// The disk did not take it.
+    pub fn sync(&self) -> io::Result<()> {
         self.file.sync_data()
     }
 
