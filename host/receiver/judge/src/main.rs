@@ -49,8 +49,10 @@ fn judged(words: &[&str], found: &[Found]) -> Option<Tally> {
         }
         ["hop"] => tally = hop::run(first),
         ["sweep", which, lie, stride] => {
-            for settle in [1, 3, 1_000] {
-                tally.add(sweep::run(first, kind(which)?, settle, Lie::of(lie)?, stride.parse().ok()?));
+            let lie = Lie::of(lie)?;
+            // The lock at try 1, at try 3, never. A wrong host is found with the first.
+            for settle in [1, 3, 1_000].into_iter().take(if lie == Lie::Nothing { 3 } else { 1 }) {
+                tally.add(sweep::run(first, kind(which)?, settle, lie, stride.parse().ok()?));
             }
         }
         ["kills", seed, calls] => tally = killed::storm(first, seed.parse().ok()?, calls.parse().ok()?),

@@ -29,9 +29,10 @@ pub fn drawn(random: &mut Random) -> usize {
     }
 }
 
-/// A receiver of its own kind by the seed: its crystal, which the host knows, what a reset leaves, whether its VCO asks for another divider.
+/// A receiver of its own kind by the seed: its crystal, which the host knows, what a reset leaves, how late a transfer lands, whether its VCO asks for another divider.
 fn own(start: &mut Start, kind: TunerKind, seed: u64) {
     start.chip.set("resets", seed % 3);
+    start.chip.set("afterwards", 1 + seed * 7 % 39);
     start.chip.set("repair", if seed % 5 == 4 { (u64::from(u32::MAX) * (seed / 5 % 2)) | 1 } else { 0 });
     start.host.receiver = fresh(kind);
     start.host.receiver.set_ppm((seed % 101) as i32 - 50).expect("a correction");
