@@ -371,7 +371,7 @@ impl Given {
         // With a state it is the state's.
         let name = self.target(Key::Append, out).filter(|_| !out.is_mistaken() && !self.has(Key::State));
         let append = name.and_then(|name| Sink::open_behind(name).map_err(|why| out.mistake(&format!("--append {why}"))).ok());
-        Kept { section, append, record }
+        Kept { section, append, record, begun: false }
     }
 
     /// The name of a file to be written.
@@ -390,11 +390,27 @@ pub struct Kept {
     pub section: Option<Sink>,
     pub append: Option<Sink>,
     pub record: Option<Sink>,
+    /// Whether the record says that a run is under way.
+    pub begun: bool,
 }
 
 impl Kept {
+    /// Before a night gets the first sections of a run whose record is kept too: the record says that a run is under way. Killed between the two files, the run
+    /// would else leave a record that calls registers sure which the night's last writes have changed. Where that cannot be written the night gets nothing.
+    fn begin(&mut self, records: Option<&Records>, out: &mut Out) {
+        let (Some(_), Some(record), Some(records), false) = (&self.append, &self.record, records, self.begun) else { return };
+        self.begun = true;
+        if let Err(why) = files::put(record.name(), &record::write(&record::under_way(records))) {
+            out.mistake(&format!("--keep {why}"));
+            self.append = None;
+        }
+    }
+
     /// Some of the sections, before the last. A file that cannot be written any more is told of once.
-    pub fn add(&mut self, sections: &[u8], out: &mut Out) {
+    pub fn add(&mut self, sections: &[u8], records: Option<&Records>, out: &mut Out) {
+        if !sections.is_empty() {
+            self.begin(records, out);
+        }
         for (sink, option) in [(&mut self.section, "--section"), (&mut self.append, "--append")] {
             if let Some(Err(why)) = sink.as_mut().map(|sink| sink.add(sections)) {
                 out.mistake(&format!("{option} {why}"));
@@ -404,7 +420,10 @@ impl Kept {
     }
 
     /// The last sections and the records, also of a run that stopped.
-    pub fn end(self, sections: &[u8], records: Option<&Records>, out: &mut Out) {
+    pub fn end(mut self, sections: &[u8], records: Option<&Records>, out: &mut Out) {
+        if !sections.is_empty() {
+            self.begin(records, out);
+        }
         for (sink, option) in [(self.section, "--section"), (self.append, "--append")] {
             if let Some(sink) = sink {
                 sink.keep_or_tell(sections, option, out);

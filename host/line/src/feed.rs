@@ -256,7 +256,7 @@ impl Line<'_> {
             Err(_) => self.count.refused += 1,
         }
         self.print(&fed.command, &made, &told, out);
-        self.files.add(made.transcript.bytes(), out);
+        self.files.add(made.transcript.bytes(), Some(&self.records), out);
     }
 
     fn done(&self, made: &Made, value: u64) -> Told {

@@ -176,6 +176,20 @@ pub fn read_only(name: &OsStr) -> String {
     format!("{}: it is read-only, and stays: have its owner allow it, or name another file", shown(name))
 }
 
+/// Bytes into a file where it lies, in one write, or into a new one: whoever waits for the file's lock waits on.
+pub fn put(name: &OsStr, bytes: &[u8]) -> Result<(), String> {
+    if !fs::metadata(name).is_ok_and(|is| is.is_file()) {
+        return Sink::open(name)?.keep(bytes);
+    }
+    let written = || {
+        let file = OpenOptions::new().write(true).open(name)?;
+        file.write_all_at(bytes, 0)?;
+        file.set_len(bytes.len() as u64)?;
+        file.sync_data()
+    };
+    written().map_err(|error| unwritten(name, &error))
+}
+
 /// A file to be written: what is to stand there is first written beside it, and takes its place at once when it is whole and on the disk. A device or a pipe has no
 /// place to be taken, and is written as it is. It is opened before a run, so that a name that cannot be written is told before anything is done.
 pub struct Sink {
@@ -229,6 +243,11 @@ impl Sink {
                 opened => return Ok(Sink { name, file: opened?, place: Some(Place { beside, real }), behind: false }),
             }
         }
+    }
+
+    /// What it is called.
+    pub fn name(&self) -> &OsStr {
+        &self.name
     }
 
     /// A file that is written behind what it holds, and made where it is not there: a night's sections, hop by hop. It is not written anew, so that a long

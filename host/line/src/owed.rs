@@ -60,6 +60,13 @@ impl Owed {
         Owed { initialise: true, rate: Some(RATE), gain: Some(GAIN), tune: true, board: true, ..Owed::default() }
     }
 
+    /// Everything, with the values that records have.
+    pub fn all(&self, tuner: &Tuner, driver: &Driver) -> Owed {
+        let mut owed = Owed { initialise: true, board: true, ..self.clone() };
+        owed.reset(tuner, driver);
+        owed
+    }
+
     /// Behind a call over these records, of which `tuner` and `driver` are the next ones.
     pub fn made(&mut self, job: Job, result: Result<(), Error>, sent: &Transcript, tuner: &Tuner, driver: &Driver) {
         match result {

@@ -48,6 +48,20 @@ pub fn read(bytes: &[u8]) -> Result<Records, String> {
     })
 }
 
+/// Where a tuner's record has its marks (include/pasetone.h).
+const DOUBTFUL: usize = 51;
+
+/// The same receiver while a run is under way: nothing is sure, and every call is owed. It stands in the file from before the night gets the run's sections to
+/// after it, so that a run which is killed in between leaves a record that calls nothing sure.
+pub fn under_way(records: &Records) -> Records {
+    let Records { tuner, driver, owed } = records;
+    let mut bytes = *tuner.as_bytes();
+    bytes[DOUBTFUL..].fill(1);
+    let tuner = Tuner::from_bytes(&bytes).unwrap_or_else(|_| tuner.clone());
+    let owed = owed.all(&tuner, driver);
+    Records { tuner, driver: driver.clone(), owed }
+}
+
 /// The same, told as a mistake of what `named` the file.
 pub fn judged(bytes: &[u8], named: &str, out: &mut Out) -> Option<Records> {
     read(bytes).map_err(|why| out.mistake(&format!("{named}: {why}"))).ok()
@@ -92,6 +106,12 @@ mod tests {
             assert!(read(&vec![0; length]).unwrap_err().contains(&format!("here are {length}, as an older version kept")));
         }
         assert!(read(&[0; LOOKED_AT]).unwrap_err().contains("here are more: "));
+        // While a run is under way every register is doubtful and the station unknown, whatever it was before.
+        let known = Records { owed: Owed { hz: 102_300_000, ..Owed::default() }, ..read(&bytes).unwrap() };
+        let under_way = under_way(&known);
+        assert_eq!((under_way.tuner.doubtful().count(), under_way.owed.is_station_known(), under_way.owed.hz), (27, false, 102_300_000));
+        assert_eq!(under_way.owed.calls(), ["initialise", "sample rate 9", "gain 0.0 dB", "IF 2300000 Hz", "tune"]);
+        assert_eq!(read(&write(&under_way)), Ok(under_way));
         let spoiled = |at: usize| {
             let mut bytes = bytes.clone();
             bytes[at] = 9;
