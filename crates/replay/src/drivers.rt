@@ -40,6 +40,20 @@ pub fn corrected_xtal_hz(c: &[u8]) -> Verdict {
     handed::bare(c, d.corrected_xtal_hz())
 }
 
+// The recording's centre (44), by both records and a table.
+pub fn centre(c: &[u8]) -> Verdict {
+    let d = records::decode_driver(layout::part(c, layout::DRIVER));
+    let t = records::decode_tuner(layout::part(c, layout::TUNER));
+    let whole = d.ok & t.ok;
+    if !whole {
+        return handed::refused(c, &[]);
+    }
+    handed::bare(
+        c,
+        centre::centre(d.driver, t.tuner, layout::part(c, layout::INPUT)),
+    )
+}
+
 fn rate(c: &[u8], t: Tuner, d: Driver, n: usize, space: &mut [u8]) -> Rated
     requires { ⌜ n ≤ length (now space) ⌝ }
 {

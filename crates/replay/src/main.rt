@@ -42,6 +42,8 @@ fn judge(c: &[u8]) -> Verdict {
         40 => leaves::plan_pll_by_worksheet(c),
         41 => drivers::set_ppm(c),
         42 => drivers::tune_board(c),
+        43 => tuners::oscillator(c),
+        44 => drivers::centre(c),
         _ => Verdict::Later,
     }
 }

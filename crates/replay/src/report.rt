@@ -35,7 +35,7 @@ fn record_name(call: u64) {
     }
 }
 
-// Calls 21 to 40: the demodulator, GPIO, and what takes no record. From 41 on: what document 02 added.
+// Calls 21 to 40: the demodulator, GPIO, and what takes no record. 41 and 42: what document 02 added. From 43 on: which station a receiver stands on, ours.
 fn other_name(call: u64) {
     match call {
         21 => text(b"init_baseband"),
@@ -60,6 +60,8 @@ fn other_name(call: u64) {
         40 => text(b"plan_pll_by_worksheet"),
         41 => text(b"set_ppm of both"),
         42 => text(b"board-level tune"),
+        43 => text(b"oscillator"),
+        44 => text(b"centre"),
         _ => text(b"no such call"),
     }
 }
@@ -147,7 +149,7 @@ fn row(tally: &[u64; 192], call: usize)
 
 pub fn rows(tally: &[u64; 192]) {
     let mut call = 1;
-    while call < 43 {
+    while call < 45 {
         row(tally, call);
         call += 1;
     }

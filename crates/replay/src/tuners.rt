@@ -118,6 +118,16 @@ pub fn get_if_freq(c: &[u8]) -> Verdict {
     handed::bare(c, t.get_if_freq())
 }
 
+// Where the oscillator stands by the record's registers (43).
+pub fn oscillator(c: &[u8]) -> Verdict {
+    let read = records::decode_tuner(layout::part(c, layout::TUNER));
+    if !read.ok {
+        return handed::refused(c, &[]);
+    }
+    let t = read.tuner;
+    handed::bare(c, station::oscillator(t))
+}
+
 pub fn get_gain_table(c: &[u8]) -> Verdict {
     let read = records::decode_tuner(layout::part(c, layout::TUNER));
     let n = layout::two(c, layout::ROOM);

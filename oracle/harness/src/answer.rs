@@ -12,10 +12,10 @@ use rusb::rec::Entry;
 use std::sync::Arc;
 
 pub fn takes_tuner(call: u8) -> bool {
-    matches!(call, 2..=11 | 13..=15 | 19 | 20 | 41 | 42)
+    matches!(call, 2..=11 | 13..=15 | 19 | 20 | 41..=44)
 }
 pub fn takes_driver(call: u8) -> bool {
-    matches!(call, 18 | 19 | 41 | 42)
+    matches!(call, 18 | 19 | 41 | 42 | 44)
 }
 
 /// The records of a case, taken apart; a call that takes none has a stand-in that is not looked at.

@@ -7,6 +7,7 @@ mod lists;
 mod refused;
 mod rest;
 mod shadow;
+mod standing;
 mod tune;
 
 use crate::answer::{takes_driver, takes_tuner};
@@ -182,6 +183,7 @@ pub fn random(call: u8, dice: &mut Dice) -> Case {
             (case.a, case.b, case.c) = (lo, tuner.corrected as u64, dice.below(2));
         }
         42 => boards::random(&mut case, dice),
+        44 => case.input = built_in(1),
         _ => {}
     }
     // More than is needed may be lent; it is not looked at.
@@ -244,5 +246,6 @@ pub fn calls() -> Vec<Case> {
     shadow::follows(&mut all);
     correction::both(&mut all);
     boards::boards(&mut all);
+    standing::standing(&mut all);
     all
 }

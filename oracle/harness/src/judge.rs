@@ -63,7 +63,7 @@ pub fn all(paper: Paper, case: &Case, found: &Answer, tally: &mut Tally) {
 fn shape(case: &Case, found: &Answer, tally: &mut Tally) {
     let made = entries(found);
     if found.section.is_none() {
-        let silent = matches!(case.call, 1 | 8 | 10 | 11 | 13..=16 | 18 | 33..=41) || found.refusal != 0;
+        let silent = matches!(case.call, 1 | 8 | 10 | 11 | 13..=16 | 18 | 33..=41 | 43 | 44) || found.refusal != 0;
         tally.that(silent && (found.count == 0 || case.call == 38), || format!("no section: {case:?}"));
         let nothing = found.tuner.is_none() && found.driver.is_none() && found.answered.is_empty() && found.value == 0 && found.index == 0;
         tally.that(found.refusal == 0 || nothing, || format!("refused, yet something changed: {case:?}"));

@@ -7,6 +7,7 @@ use crate::judge;
 use crate::page;
 use crate::records::{Driver, FIRST, Tuner, attempts};
 use crate::run::{self, run};
+use crate::standing;
 use original::tuner::Tuner as Calls;
 use original::tuners::r82xx::SEEN_INIT;
 use rusb::rec::Entry;
@@ -31,8 +32,15 @@ pub fn answer(case: &Case) -> Answer {
         39 | 40 => figures(case),
         41 => correction(case),
         42 => hops::answer(case),
+        43 => told(standing::of_record(&case.tuner)),
+        44 => told(standing::centre(&case.driver, &case.tuner, &case.input)),
         _ => answer::answer(case),
     }
+}
+
+/// What the original never asks, by the second writing alone.
+fn told(result: Result<u64, u32>) -> Answer {
+    result.map_or_else(|refusal| Answer::refused(refusal as u8, By::Page), |value| Answer { value, by: By::Page, ..Answer::default() })
 }
 
 /// #106: "writes to 0x14, 0x15 and 0x16 go through the shadow, and `initialize` puts each chunk's bytes into the shadow as it is tried". So whatever a

@@ -6,7 +6,7 @@ fn answered(name: &str, cases: Vec<Case>) -> Vec<u8> {
     let all: Vec<(Case, Answer)> = cases.into_iter().map(|case| (case.clone(), answer(&case))).collect();
     let by = |who: By| all.iter().filter(|(_, answer)| answer.by == who).count();
     let entries: usize = all.iter().filter(|(_, answer)| answer.section.is_some()).map(|(_, answer)| answer.count).sum();
-    let refusals: Vec<String> = (0..=19)
+    let refusals: Vec<String> = (0..=20)
         .map(|number| (number, all.iter().filter(|(_, answer)| answer.refusal == number).count()))
         .filter(|&(_, count)| count > 0)
         .map(|(number, count)| format!("{number}:{count}"))

@@ -32,7 +32,7 @@ fn short(case: &Case) -> Vec<Case> {
 }
 
 /// Records that document 01 refuses with 1, and two NaN-like patterns that it takes (the last two).
-fn damaged_tuners() -> Vec<Vec<u8>> {
+pub fn damaged_tuners() -> Vec<Vec<u8>> {
     let good = Tuner::fresh(1, 28_800_000, 0x74).bytes();
     let mut all = Vec::new();
     let mut with = |places: &[(usize, u8)]| {
@@ -64,7 +64,7 @@ fn damaged_tuners() -> Vec<Vec<u8>> {
     all
 }
 
-fn damaged_drivers() -> Vec<Vec<u8>> {
+pub fn damaged_drivers() -> Vec<Vec<u8>> {
     let good = Driver { board: 1, nominal: 28_800_000, ppm: 5, frequency: TUNED, rate: 2_048_000, actual: 2_048_000 };
     let changed = |change: &dyn Fn(&mut Driver)| {
         let mut next = good.clone();
