@@ -125,10 +125,14 @@ pub fn hop_again(given: &Given, hz: u64, run: &Run) -> String {
 /// A reload that did not end well, or that leaves a call owed: once more where a register is doubtful, then what is owed.
 pub fn reload_again(record: &OsStr, given: &Given, records: &Records) -> String {
     let owed = &records.owed;
-    if owed.words().is_none() && records.tuner.has_lock() {
-        return reload(record, given);
+    if owed.words().is_some() || !records.tuner.has_lock() {
+        return over(record, &hertz(owed), records, given, false);
     }
-    over(record, &hertz(owed), records, given, false)
+    // Nothing is wrong but that the board's table is not at hand.
+    if owed.table && !given.has(Key::Table) && records.tuner.doubtful().next().is_none() {
+        return String::from("give the board's table: --table FILE");
+    }
+    reload(record, given)
 }
 
 /// The same receiver set up from nothing: what a record has is said by words.

@@ -80,11 +80,7 @@ fn held(given: &Given, keeper: Option<&Keeper>, out: &mut Out) -> Option<Records
     if !given.operands.is_empty() {
         out.mistake("--state has the record: give --state or a file that --keep has written");
     }
-    let keeper = keeper?;
-    if keeper.records().is_none() {
-        out.mistake(&format!("--state {}: no receiver is in it yet: hop makes one", called(keeper.name())));
-    }
-    keeper.records().cloned()
+    Keeper::needed(keeper, out)
 }
 
 /// The record that the one operand names.

@@ -143,6 +143,15 @@ impl Keeper {
         Ok((Records { tuner: fresh, driver: next, owed }, before.table().clone()))
     }
 
+    /// The records that a command needs; told where there are none yet.
+    pub fn needed(keeper: Option<&Keeper>, out: &mut Out) -> Option<Records> {
+        let keeper = keeper?;
+        if keeper.records().is_none() {
+            out.mistake(&format!("--state {}: no receiver is in it yet: hop makes one", shown(&keeper.name)));
+        }
+        keeper.records().cloned()
+    }
+
     /// The records that the file held.
     pub fn records(&self) -> Option<&Records> {
         self.kept.as_ref().map(|(records, _)| records)

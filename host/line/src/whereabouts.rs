@@ -38,7 +38,7 @@ pub fn run(given: &Given, out: &mut Out) {
         (None, [name]) => name.as_os_str(),
         (None, _) => return out.mistake("where wants one file that --keep has written, or - for standard input"),
     };
-    let records = if given.has(Key::State) { held(keeper.as_ref(), out) } else { kept(name, given, out) };
+    let records = if given.has(Key::State) { Keeper::needed(keeper.as_ref(), out) } else { kept(name, given, out) };
     let Some(records) = records.filter(|_| !out.is_mistaken()) else { return };
     let place = Place::given(given, records.driver.board(), out);
     if out.is_mistaken() {
@@ -51,15 +51,6 @@ pub fn run(given: &Given, out: &mut Out) {
         lines(&records, table, out);
     }
     tell(name, given, &records, table, out);
-}
-
-/// The record of a state.
-fn held(keeper: Option<&Keeper>, out: &mut Out) -> Option<Records> {
-    let keeper = keeper?;
-    if keeper.records().is_none() {
-        out.mistake(&format!("--state {}: no receiver is in it yet: hop makes one", called(keeper.name())));
-    }
-    keeper.records().cloned()
 }
 
 /// The record that a file holds.
