@@ -150,7 +150,8 @@ fn from_nothing(given: &Given, hz: &str, records: &Records) -> String {
     let if_hz = owed.if_hz.map(u64::from).or(Some(tuner.if_freq()).filter(|hz| *hz != own_if(rate)));
     words.extend(if_hz.filter(|_| !given.has(Key::If)).map(|hz| format!("--if {hz}")));
     words.extend(options(given, &[Key::Record, Key::Initialise]));
-    words.push(String::from("--keep FILE"));
+    // The file that the record came from is no longer the receiver's: what the line leads to takes its place.
+    words.extend(given.word(Key::Record).filter(|name| !is_standard(name)).map(|name| format!("--keep {}", file(name))));
     words.join(" ")
 }
 
