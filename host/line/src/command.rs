@@ -4,7 +4,9 @@
 use crate::files::{self, Sink, Source, is_standard, shown};
 use crate::out::{End, Out};
 use crate::record::{self, Records};
-use crate::{entries, feed, held, help, hop, packets, parting, plan, reload, restore, settings, show, table, whereabouts, worksheet};
+use crate::{
+    devices, entries, feed, held, help, hop, packets, parting, plan, reload, restore, settings, show, start, table, whereabouts, worksheet,
+};
 use std::ffi::{OsStr, OsString};
 use std::os::unix::ffi::OsStrExt;
 
@@ -151,6 +153,24 @@ pub const COMMANDS: &[Command] = &[
         run: entries::run,
     },
     Command {
+        name: "devices",
+        operands: "",
+        about: "the receivers that are plugged in",
+        more: devices::MORE,
+        example: "devices",
+        options: &[Key::Json, Key::Quiet],
+        run: devices::run,
+    },
+    Command {
+        name: "start",
+        operands: "[HZ] --device N --state FILE",
+        about: "a receiver on the bus, from power on",
+        more: start::MORE,
+        example: "start 102.3M --device 0 --state state --append night",
+        options: start::OPTIONS,
+        run: start::run,
+    },
+    Command {
         name: "help",
         operands: "[COMMAND]",
         about: "this page, or a command's",
@@ -185,6 +205,8 @@ pub enum Key {
     Append,
     Out,
     State,
+    Device,
+    Detach,
     Record,
     Keep,
     Json,
@@ -238,6 +260,8 @@ pub const OPTIONS: &[Opt] = &[
     row(Key::Replies, "--replies", Some("FILE"), A_SCRIPT, "what is read: 3 bytes where hop's board has paths, then 35 a tuning", "a lock"),
     row(Key::Cut, "--cut", Some("N"), "a number from 1", "so many bytes are fed at once; what is printed is the same", "as it is read"),
     row(Key::State, "--state", Some("FILE"), A_FILE, "one file for the receiver, in place of --record and --keep", "none"),
+    row(Key::Device, "--device", Some("N|SERIAL"), "a receiver's number, serial or port, as `devices` lists them", "the receiver on the bus that the steps go to; with --state", "none"),
+    row(Key::Detach, "--detach", None, "", "a driver of the kernel that holds the receiver is detached, for good", ""),
     row(Key::Record, "--record", Some("FILE"), A_SCRIPT, "the record to start from, as --keep has left it", "a fresh one"),
     row(Key::Keep, "--keep", Some("FILE"), A_FILE, "the record is written there at the end, also of a stopped run", "none"),
     row(Key::Section, "--section", Some("FILE"), A_FILE, "the sections, end to end, are written there; a file there is replaced", "none"),

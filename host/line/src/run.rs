@@ -23,6 +23,14 @@ pub enum Call {
     /// The tuner's own, without its board.
     TunerTune,
     Bandwidth,
+    /// Those of a bring-up on the bus.
+    PowerOn,
+    Gpio,
+    LowIf,
+    Spectrum,
+    Reset,
+    DemodRate,
+    Streaming,
     /// A command of a line that is none.
     Unknown,
 }
@@ -41,6 +49,13 @@ impl Call {
             Call::Tune | Call::TunerTune => "tune",
             Call::Reload => "reload",
             Call::Bandwidth => "bandwidth",
+            Call::PowerOn => "power on",
+            Call::Gpio => "GPIO",
+            Call::LowIf => "low IF",
+            Call::Spectrum => "spectrum",
+            Call::Reset => "demod reset",
+            Call::DemodRate => "demod rate",
+            Call::Streaming => "streaming",
             Call::Unknown => "command",
         }
     }
@@ -109,12 +124,17 @@ pub struct Run {
     /// For the tuning, which alone reads.
     replies: Vec<u8>,
     /// Of `--state`: each call is stored as it is made.
-    keeper: Option<Keeper>,
+    pub keeper: Option<Keeper>,
     /// Where the run is on its way to.
     hz: Option<u64>,
 }
 
 impl Run {
+    /// A run on a receiver, before its first call: live.rs makes them.
+    pub fn live(keeper: Keeper) -> Run {
+        Run { records: None, made: Vec::new(), steps: 0, outcomes: Vec::new(), replies: Vec::new(), keeper: Some(keeper), hz: None }
+    }
+
     /// Makes all calls that lead to a frequency, over what a run begins with.
     pub fn hop(start: Start, asked: &Asked, table: &Table, outcomes: Vec<u8>, replies: Vec<u8>, keeper: Option<Keeper>) -> Run {
         let mut run = Run { records: None, made: Vec::new(), steps: 0, outcomes, replies, keeper, hz: Some(asked.hz) };
@@ -225,7 +245,7 @@ impl Run {
     }
 
     /// Behind a call: what it made. `None` where the run is at its end.
-    fn after(&mut self, call: Call, result: Result<(), Error>, transcript: Transcript) -> Option<()> {
+    pub fn after(&mut self, call: Call, result: Result<(), Error>, transcript: Transcript) -> Option<()> {
         let first = self.steps;
         let left = Need { outcomes: self.outcomes.len().saturating_sub(first), replies: self.replies.len() };
         self.steps += transcript.len();
@@ -251,6 +271,11 @@ impl Run {
     /// The sections and the record into their files, also of a run that stopped. A state has the calls already; what had no steps, or was not come to, it gets here.
     pub fn keep(&mut self, files: Kept, out: &mut Out) {
         files.end(&self.sections(), self.records.as_ref(), out);
+        self.keep_state(out);
+    }
+
+    /// The last of it into the state, where there is one.
+    pub fn keep_state(&mut self, out: &mut Out) {
         if let Some(mut keeper) = self.keeper.take() {
             keeper.last(self.records.as_ref());
             keeper.end(out);
