@@ -90,9 +90,14 @@ impl Told {
 /// The told entries beside the transfers that came, in order, the read behind a demodulator write that was done with them. Whether they have the same packets; whether those
 /// that do were whole exactly where the entry is not failed; and whether what was read is what came.
 fn matches(transcript: &Transcript, came: &[Came], gone: bool) -> (bool, bool, bool) {
+    entries(transcript.iter(), came, gone)
+}
+
+/// The same of entries, whatever calls they are of.
+pub fn entries<'a>(told: impl Iterator<Item = Entry<'a>>, came: &[Came], gone: bool) -> (bool, bool, bool) {
     let (mut sent, mut ended, mut read) = (true, true, true);
     let mut rest = came.iter();
-    for entry in transcript {
+    for entry in told {
         let packets = entry.packets().expect("a step of a call has packets");
         for (behind, packet) in Packet::all(&packets).enumerate() {
             let Some(transfer) = rest.next() else {
