@@ -5,6 +5,7 @@
 mod advice;
 mod answer;
 mod boards;
+mod clock;
 mod command;
 mod day;
 mod entries;
@@ -15,6 +16,7 @@ mod held;
 mod help;
 mod hop;
 mod json;
+mod log;
 mod names;
 mod numbers;
 mod out;

@@ -24,7 +24,7 @@ pub const MORE: &[&str] = &[
 ];
 
 pub const OPTIONS: &[Key] =
-    &[Key::Table, Key::Fail, Key::Outcomes, Key::State, Key::Keep, Key::Section, Key::Append, Key::Json, Key::Quiet];
+    &[Key::Table, Key::Fail, Key::Outcomes, Key::State, Key::Keep, Key::Section, Key::Append, Key::Log, Key::Name, Key::Json, Key::Quiet];
 
 pub fn run(given: &Given, out: &mut Out) {
     let fail = script::fail(given, out);

@@ -3,6 +3,7 @@
 //! `crashed`'s order. So whenever the program dies, the next run with the state recovers the call before it does anything else, and night and record agree.
 use crate::command::{Given, Key};
 use crate::files::{self, Sink, is_read_only, read_only, shown, unwritten};
+use crate::log::{Line, Log};
 use crate::names::{Gain, counted};
 use crate::out::{End, Out};
 use crate::owed::{Job, Owed};
@@ -21,6 +22,9 @@ pub struct Keeper {
     state: State,
     name: OsString,
     night: Option<Sink>,
+    log: Option<Log>,
+    /// Whether each call's line is written with its section; else by [`Keeper::sync`].
+    synced: bool,
     /// What the file held; `None` where it is new.
     kept: Option<(Records, Table)>,
     /// What could not be stored: from there on nothing is.
@@ -68,6 +72,8 @@ impl Keeper {
             state,
             name: name.to_os_string(),
             night,
+            log: Log::open(given, out),
+            synced: true,
             kept: None,
             fault: None,
             is_recovered: matches!(found, Found::Cut(_) | Found::Other(_)),
@@ -97,6 +103,9 @@ impl Keeper {
         if let Some(job) = job(cut.call) {
             records.owed.made(job, result.map(drop), transcript, &records.tuner, &records.driver);
         }
+        // A run on its way to another frequency than it stood on was a hop's.
+        let to = Some(self.read()?.0.owed.hz).filter(|hz| *hz > 0 && *hz != records.driver.frequency());
+        let line = Line::of(cut.call, &cut.made, &records, &table, to);
         let (name, from) = (shown(&self.name), self.state.night());
         match &mut self.night {
             Some(night) if from != NO_NIGHT => night.mend(from, transcript.bytes()).map_err(|why| format!("--append {why}"))?,
@@ -109,6 +118,7 @@ impl Keeper {
             _ => {}
         }
         self.keep(&records).map_err(|error| format!("--state {}", unwritten(&self.name, &error)))?;
+        self.note(line);
         let known = transcript.iter().filter(|entry| !entry.failed).count();
         let doubtful: Vec<u8> = records.tuner.doubtful().collect();
         let doubt = if doubtful.is_empty() { String::from("no register doubtful") } else { format!("doubtful: {}", runs(&doubtful)) };
@@ -171,8 +181,21 @@ impl Keeper {
     pub fn made(&mut self, call: Call, made: &Made, before: &Records, next: &Records, table: &Table, hz: Option<u64>) -> bool {
         if self.fault.is_none() {
             self.fault = self.stored(call, made, before, next, table, hz).err();
+            if self.fault.is_none() {
+                self.note(Line::of(call, made, next, table, hz));
+            }
         }
         self.fault.is_none()
+    }
+
+    /// The line of a section that the night has got.
+    fn note(&mut self, line: Option<Line>) {
+        let (Some(night), Some(log), true) = (&self.night, &mut self.log, line.is_some()) else { return };
+        log.note(line);
+        log.placed(night.placed());
+        if self.synced {
+            log.write(night);
+        }
     }
 
     fn stored(&mut self, call: Call, made: &Made, before: &Records, next: &Records, table: &Table, hz: Option<u64>) -> Result<(), String> {
@@ -237,6 +260,7 @@ impl Keeper {
     /// Many calls come: what is stored is handed to the disk by [`Keeper::sync`].
     pub fn seldom_synced(&mut self) {
         self.state.set_synced(false);
+        self.synced = false;
     }
 
     pub fn sync(&mut self) {
@@ -244,6 +268,9 @@ impl Keeper {
             let night = self.night.as_ref().map_or(Ok(()), Sink::sync).map_err(|why| format!("--append {why}"));
             let state = self.state.sync().map_err(|error| format!("--state {}", unwritten(&self.name, &error)));
             self.fault = night.and(state).err();
+        }
+        if let (Some(night), Some(log), None) = (&self.night, &mut self.log, &self.fault) {
+            log.write(night);
         }
     }
 
@@ -261,6 +288,9 @@ impl Keeper {
         self.sync();
         if let Some(why) = &self.fault {
             out.mistake(why);
+        }
+        if let Some(log) = self.log {
+            log.end(out);
         }
     }
 }
