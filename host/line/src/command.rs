@@ -2,6 +2,7 @@
 //!
 //! A new command is a file with its `run`, a row in `COMMANDS`, and a row in `OPTIONS` for an option that none has yet.
 use crate::files::{self, Sink, Source, is_standard, shown};
+use crate::log::{self, Line, Log};
 use crate::out::{End, Out};
 use crate::record::{self, Records};
 use crate::{
@@ -203,6 +204,8 @@ pub enum Key {
     Cut,
     Section,
     Append,
+    Log,
+    Name,
     Out,
     State,
     Device,
@@ -266,6 +269,8 @@ pub const OPTIONS: &[Opt] = &[
     row(Key::Keep, "--keep", Some("FILE"), A_FILE, "the record is written there at the end, also of a stopped run", "none"),
     row(Key::Section, "--section", Some("FILE"), A_FILE, "the sections, end to end, are written there; a file there is replaced", "none"),
     row(Key::Append, "--append", Some("FILE"), A_FILE, "the sections are written there behind what the file holds", "none"),
+    row(Key::Log, "--log", Some("FILE"), A_FILE, "a line of JSON for each section of --append, as `night` joins it", "none"),
+    row(Key::Name, "--name", Some("NAME"), "a name of at most 64 characters", "the receiver's, for the lines of --log", "none"),
     row(Key::Out, "--out", Some("FILE"), A_FILE, "the answer's bytes are written there; a file there is replaced", "none"),
     row(Key::Json, "--json", None, "", "the same as JSON in place of the table", ""),
     row(Key::Quiet, "--quiet", None, "", "print nothing but what went wrong; the exit status tells the rest", ""),
@@ -286,6 +291,8 @@ pub enum Asked {
 
 /// The words behind a command: operands, and options with their values. Of an option that is given twice the last counts.
 pub struct Given {
+    /// The command's name.
+    pub command: &'static str,
     pub operands: Vec<OsString>,
     options: Vec<(Key, OsString)>,
 }
@@ -377,12 +384,13 @@ impl Given {
 
     /// Told where two of the files that a run writes are one.
     pub fn names_other_files(&self, out: &mut Out) {
-        let written = [Key::Section, Key::Append, Key::Keep, Key::State];
+        let written = [Key::Section, Key::Append, Key::Log, Key::Keep, Key::State];
         for (at, key) in written.iter().enumerate().filter(|(_, key)| self.has(**key)) {
             for other in written[at + 1..].iter().filter(|other| self.word(**other) == self.word(*key)) {
                 out.mistake(&format!("{} and {} name one file: name two", option(*key).name, option(*other).name));
             }
         }
+        log::judge(self, out);
     }
 
     /// The files that a run writes, opened before its first call. One that is written behind what it holds comes last: to open it makes it.
@@ -395,7 +403,8 @@ impl Given {
         // With a state it is the state's.
         let name = self.target(Key::Append, out).filter(|_| !out.is_mistaken() && !self.has(Key::State));
         let append = name.and_then(|name| Sink::open_behind(name).map_err(|why| out.mistake(&format!("--append {why}"))).ok());
-        Kept { section, append, record, begun: false }
+        let log = append.as_ref().and_then(|_| Log::open(self, out));
+        Kept { section, append, log, record, begun: false }
     }
 
     /// The name of a file to be written.
@@ -413,6 +422,7 @@ impl Given {
 pub struct Kept {
     pub section: Option<Sink>,
     pub append: Option<Sink>,
+    pub log: Option<Log>,
     pub record: Option<Sink>,
     /// Whether the record says that a run is under way.
     pub begun: bool,
@@ -441,22 +451,41 @@ impl Kept {
                 *sink = None;
             }
         }
+        if let (Some(night), Some(log), false) = (&self.append, &mut self.log, sections.is_empty()) {
+            log.placed(night.placed());
+        }
+    }
+
+    /// Lines for the log, of sections that are handed on next.
+    pub fn note(&mut self, lines: impl IntoIterator<Item = Line>) {
+        if let Some(log) = &mut self.log {
+            lines.into_iter().for_each(|line| log.note(Some(line)));
+        }
+    }
+
+    /// Hands the night's sections to the disk, then their lines.
+    pub fn log(&mut self) {
+        if let (Some(night), Some(log)) = (&self.append, &mut self.log) {
+            log.write(night);
+        }
     }
 
     /// The last sections and the records, also of a run that stopped.
     pub fn end(mut self, sections: &[u8], records: Option<&Records>, out: &mut Out) {
-        if !sections.is_empty() {
-            self.begin(records, out);
-        }
+        self.add(sections, records, out);
+        self.log();
         for (sink, option) in [(self.section, "--section"), (self.append, "--append")] {
             if let Some(sink) = sink {
-                sink.keep_or_tell(sections, option, out);
+                sink.keep_or_tell(&[], option, out);
             }
         }
         match (self.record, records) {
             (Some(sink), Some(records)) => sink.keep_or_tell(&record::write(records), "--keep", out),
             (Some(_), None) => out.tell(End::Refused, "--keep: no record was made, so none is written: see the answer"),
             (None, _) => {}
+        }
+        if let Some(log) = self.log {
+            log.end(out);
         }
     }
 }
@@ -495,7 +524,7 @@ fn behind(command: &'static Command, words: Vec<OsString>, out: &mut Out) -> Ask
     if options().any(|word| word == "--version") {
         return Asked::Version;
     }
-    let mut given = Given { operands: Vec::new(), options: Vec::new() };
+    let mut given = Given { command: command.name, operands: Vec::new(), options: Vec::new() };
     let mut words = words.into_iter();
     while let Some(word) = words.next() {
         if word == "--" {

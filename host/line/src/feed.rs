@@ -6,6 +6,7 @@ use crate::command::{Given, Kept, Key};
 use crate::device::Link;
 use crate::files::{Source, is_standard};
 use crate::live::{Live, Wanted};
+use crate::log::Line as Logged;
 use crate::names::{Gain, counted};
 use crate::out::{End, Out};
 use crate::owed::{Job, Owed};
@@ -60,6 +61,8 @@ pub const OPTIONS: &[Key] = &[
     Key::Keep,
     Key::Section,
     Key::Append,
+    Key::Log,
+    Key::Name,
     Key::Json,
     Key::Quiet,
 ];
@@ -121,6 +124,7 @@ pub fn run(given: &Given, out: &mut Out) {
     while !block.is_empty() && !out.is_closed() {
         block.chunks(cut).for_each(|chunk| line.chunk(chunk, out));
         line.keeper().into_iter().for_each(Keeper::sync);
+        line.files.log();
         out.flush();
         block = if line.is_ended() { Vec::new() } else { next(out) };
     }
@@ -402,9 +406,12 @@ impl Line<'_> {
 
     /// A command that was made, into the state: it is there before the next one is read.
     fn store(&mut self, command: Command, before: &Records, made: &Made, value: u64) {
-        let Some(keeper) = &mut self.keeper else { return };
         let Made { result, transcript, lock, .. } = made;
         let made = pasetone::Made { result: result.map(|()| value), transcript: transcript.clone(), lock: lock.unwrap_or_default() };
+        let Some(keeper) = &mut self.keeper else {
+            let line = stored(command).and_then(|call| Logged::of(call, &made, &self.records, &self.place.table, None));
+            return self.files.note(line);
+        };
         match stored(command) {
             Some(call) => drop(keeper.made(call, &made, before, &self.records, &self.place.table, None)),
             None => keeper.last(Some(&self.records)),

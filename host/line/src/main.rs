@@ -5,6 +5,7 @@
 mod advice;
 mod answer;
 mod boards;
+mod clock;
 mod command;
 mod day;
 mod device;
@@ -18,6 +19,7 @@ mod help;
 mod hop;
 mod json;
 mod live;
+mod log;
 mod names;
 mod numbers;
 mod out;

@@ -37,6 +37,8 @@ pub const OPTIONS: &[Key] = &[
     Key::Keep,
     Key::Section,
     Key::Append,
+    Key::Log,
+    Key::Name,
     Key::Json,
     Key::Quiet,
 ];

@@ -1,5 +1,6 @@
 //! The calls of a run, one after the other over the same records. Each is made only while none before it was refused or stopped.
 use crate::command::Kept;
+use crate::log::Line;
 use crate::names::{Gain, decibels};
 use crate::out::Out;
 use crate::owed::{Job, Owed, RATE};
@@ -125,6 +126,8 @@ pub struct Run {
     replies: Vec<u8>,
     /// Of `--state`: each call is stored as it is made.
     pub keeper: Option<Keeper>,
+    /// Of `--log`, without a state: a line for each section, in their order.
+    lines: Vec<Line>,
     /// Where the run is on its way to.
     hz: Option<u64>,
 }
@@ -132,12 +135,13 @@ pub struct Run {
 impl Run {
     /// A run on a receiver, before its first call: live.rs makes them.
     pub fn live(keeper: Keeper) -> Run {
-        Run { records: None, made: Vec::new(), steps: 0, outcomes: Vec::new(), replies: Vec::new(), keeper: Some(keeper), hz: None }
+        let (made, lines, outcomes, replies) = (Vec::new(), Vec::new(), Vec::new(), Vec::new());
+        Run { records: None, made, steps: 0, outcomes, replies, keeper: Some(keeper), lines, hz: None }
     }
 
     /// Makes all calls that lead to a frequency, over what a run begins with.
     pub fn hop(start: Start, asked: &Asked, table: &Table, outcomes: Vec<u8>, replies: Vec<u8>, keeper: Option<Keeper>) -> Run {
-        let mut run = Run { records: None, made: Vec::new(), steps: 0, outcomes, replies, keeper, hz: Some(asked.hz) };
+        let mut run = Run { records: None, made: Vec::new(), steps: 0, outcomes, replies, keeper, lines: Vec::new(), hz: Some(asked.hz) };
         if let Some(mut records) = run.begin(start, asked) {
             let ended = run.sequence(&mut records, asked, table);
             // A run that was cut before its tuning was on its way there.
@@ -155,7 +159,7 @@ impl Run {
 
     /// Sends a kept record's shadow again.
     pub fn reload(mut records: Records, table: &Table, outcomes: Vec<u8>, keeper: Option<Keeper>) -> Run {
-        let mut run = Run { records: None, made: Vec::new(), steps: 0, outcomes, replies: Vec::new(), keeper, hz: None };
+        let mut run = Run { records: None, made: Vec::new(), steps: 0, outcomes, replies: Vec::new(), keeper, lines: Vec::new(), hz: None };
         run.make(Call::Reload, pasetone::Call::Reload, Job::Reload, &mut records, table);
         run.records = Some(records);
         run
@@ -236,6 +240,7 @@ impl Run {
         next.owed.made(job, result, &answer.transcript, &next.tuner, &next.driver);
         let hz = self.hz;
         let is_kept = self.keeper.as_mut().is_none_or(|keeper| keeper.made(made, &answer, records, &next, table, hz));
+        self.lines.extend(Line::of(made, &answer, &next, table, hz));
         *records = next;
         let ended = self.after(call, result, answer.transcript);
         if let (Call::Tune, Some(last)) = (call, self.made.last_mut()) {
@@ -269,7 +274,8 @@ impl Run {
     }
 
     /// The sections and the record into their files, also of a run that stopped. A state has the calls already; what had no steps, or was not come to, it gets here.
-    pub fn keep(&mut self, files: Kept, out: &mut Out) {
+    pub fn keep(&mut self, mut files: Kept, out: &mut Out) {
+        files.note(self.lines.drain(..));
         files.end(&self.sections(), self.records.as_ref(), out);
         self.keep_state(out);
     }

@@ -29,6 +29,8 @@ pub const OPTIONS: &[Key] = &[
     Key::Detach,
     Key::State,
     Key::Append,
+    Key::Log,
+    Key::Name,
     Key::Kind,
     Key::Address,
     Key::Board,

@@ -5,6 +5,7 @@
 use crate::command::{Given, Key};
 use crate::device::{self, Link};
 use crate::files::{self, Sink, is_read_only, read_only, shown, unwritten};
+use crate::log::{Line, Log};
 use crate::names::{Gain, counted};
 use crate::out::{End, Out};
 use crate::owed::{Job, Owed, own_if};
@@ -23,6 +24,9 @@ pub struct Keeper {
     state: State,
     name: OsString,
     night: Option<Sink>,
+    log: Option<Log>,
+    /// Whether each call's line is written with its section; else by [`Keeper::sync`].
+    synced: bool,
     /// What the file held; `None` where it is new.
     kept: Option<(Records, Table)>,
     /// What could not be stored: from there on nothing is.
@@ -83,15 +87,21 @@ impl Keeper {
             return None;
         }
         let night = given.target(Key::Append, out);
-        Keeper::opened(name, night, link, purpose, out).map_err(|why| out.mistake(&why)).ok()
+        Keeper::opened((name, night), |out| Log::open(given, out), link, purpose, out).map_err(|why| out.mistake(&why)).ok()
     }
 
     /// The state and the night of a receiver that is open.
-    pub fn of(state: &OsStr, night: &OsStr, link: &Link, out: &mut Out) -> Result<Keeper, String> {
-        Keeper::opened(state, Some(night), Some(link), Use::Calls, out)
+    pub fn of(state: &OsStr, night: &OsStr, log: Log, link: &Link, out: &mut Out) -> Result<Keeper, String> {
+        Keeper::opened((state, Some(night)), |_| Some(log), Some(link), Use::Calls, out)
     }
 
-    fn opened(name: &OsStr, night: Option<&OsStr>, link: Option<&Link>, purpose: Use, out: &mut Out) -> Result<Keeper, String> {
+    fn opened(
+        (name, night): (&OsStr, Option<&OsStr>),
+        log: impl FnOnce(&mut Out) -> Option<Log>,
+        link: Option<&Link>,
+        purpose: Use,
+        out: &mut Out,
+    ) -> Result<Keeper, String> {
         let told = |why: String| format!("--state {why}");
         if is_read_only(name) {
             return Err(told(read_only(name)));
@@ -114,6 +124,8 @@ impl Keeper {
             state,
             name: name.to_os_string(),
             night,
+            log: log(out),
+            synced: true,
             kept: None,
             fault: None,
             is_recovered: matches!(found, Found::Cut(_) | Found::Other(_)),
@@ -147,6 +159,9 @@ impl Keeper {
         if let Some(job) = job(cut.call) {
             records.owed.made(job, result.map(drop), transcript, &records.tuner, &records.driver);
         }
+        // A run on its way to another frequency than it stood on was a hop's.
+        let to = Some(self.read()?.0.owed.hz).filter(|hz| *hz > 0 && *hz != records.driver.frequency());
+        let line = Line::of(cut.call, &cut.made, &records, &table, to);
         let (name, from) = (shown(&self.name), self.state.night());
         match &mut self.night {
             Some(night) if from != NO_NIGHT => night.mend(from, transcript.bytes()).map_err(|why| format!("--append {why}"))?,
@@ -159,6 +174,7 @@ impl Keeper {
             _ => {}
         }
         self.keep(&records).map_err(|error| format!("--state {}", unwritten(&self.name, &error)))?;
+        self.note(line);
         let known = transcript.iter().filter(|entry| !entry.failed).count();
         let doubtful: Vec<u8> = records.tuner.doubtful().collect();
         let doubt = if doubtful.is_empty() { String::from("no register doubtful") } else { format!("doubtful: {}", runs(&doubtful)) };
@@ -246,8 +262,21 @@ impl Keeper {
     pub fn made(&mut self, call: Call, made: &Made, before: &Records, next: &Records, table: &Table, hz: Option<u64>) -> bool {
         if self.fault.is_none() {
             self.fault = self.stored(call, made, before, next, table, hz).err();
+            if self.fault.is_none() {
+                self.note(Line::of(call, made, next, table, hz));
+            }
         }
         self.fault.is_none()
+    }
+
+    /// The line of a section that the night has got.
+    fn note(&mut self, line: Option<Line>) {
+        let (Some(night), Some(log), true) = (&self.night, &mut self.log, line.is_some()) else { return };
+        log.note(line);
+        log.placed(night.placed());
+        if self.synced {
+            log.write(night);
+        }
     }
 
     fn stored(&mut self, call: Call, made: &Made, before: &Records, next: &Records, table: &Table, hz: Option<u64>) -> Result<(), String> {
@@ -296,7 +325,9 @@ impl Keeper {
             return None;
         }
         let driven = self.driven(call, records, table, hz, link).map_err(|why| self.fault = Some(why)).ok();
-        if driven.is_none() {
+        if let Some(driven) = &driven {
+            self.note(Line::of(call, &driven.answer, records, table, hz));
+        } else {
             // What was sent is doubtful by the state's own record, and the call is owed.
             let (tuner, driver, _) = self.state.receiver().clone().parts();
             if let Some(job) = job(call) {
@@ -377,6 +408,7 @@ impl Keeper {
     /// Many calls come: what is stored is handed to the disk by [`Keeper::sync`].
     pub fn seldom_synced(&mut self) {
         self.state.set_synced(false);
+        self.synced = false;
     }
 
     pub fn sync(&mut self) {
@@ -384,6 +416,9 @@ impl Keeper {
             let night = self.night.as_ref().map_or(Ok(()), Sink::sync).map_err(|why| format!("--append {why}"));
             let state = self.state.sync().map_err(|error| format!("--state {}", unwritten(&self.name, &error)));
             self.fault = night.and(state).err();
+        }
+        if let (Some(night), Some(log), None) = (&self.night, &mut self.log, &self.fault) {
+            log.write(night);
         }
     }
 
@@ -401,6 +436,9 @@ impl Keeper {
         self.sync();
         if let Some(why) = &self.fault {
             out.mistake(why);
+        }
+        if let Some(log) = self.log {
+            log.end(out);
         }
     }
 }
