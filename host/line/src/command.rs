@@ -6,7 +6,8 @@ use crate::log::{self, Line, Log};
 use crate::out::{End, Out};
 use crate::record::{self, Records};
 use crate::{
-    devices, entries, feed, held, help, hop, packets, parting, plan, reload, restore, settings, show, start, table, whereabouts, worksheet,
+    devices, entries, feed, held, help, hop, nightly, packets, parting, plan, reload, restore, settings, show, start, table, whereabouts,
+    worksheet,
 };
 use std::ffi::{OsStr, OsString};
 use std::os::unix::ffi::OsStrExt;
@@ -172,6 +173,15 @@ pub const COMMANDS: &[Command] = &[
         run: start::run,
     },
     Command {
+        name: "run",
+        operands: "SCHEDULE --folder DIR",
+        about: "a night of many receivers",
+        more: nightly::MORE,
+        example: "run schedule --folder tonight",
+        options: nightly::OPTIONS,
+        run: nightly::run,
+    },
+    Command {
         name: "help",
         operands: "[COMMAND]",
         about: "this page, or a command's",
@@ -210,6 +220,10 @@ pub enum Key {
     State,
     Device,
     Detach,
+    Folder,
+    From,
+    Hours,
+    Speed,
     Record,
     Keep,
     Json,
@@ -265,6 +279,10 @@ pub const OPTIONS: &[Opt] = &[
     row(Key::State, "--state", Some("FILE"), A_FILE, "one file for the receiver, in place of --record and --keep", "none"),
     row(Key::Device, "--device", Some("N|SERIAL"), "a receiver's number, serial or port, as `devices` lists them", "the receiver on the bus that the steps go to; with --state", "none"),
     row(Key::Detach, "--detach", None, "", "a driver of the kernel that holds the receiver is detached, for good", ""),
+    row(Key::Folder, "--folder", Some("DIR"), "a folder's name", "the receivers' states, nights and logs are there; it is made", "must be given"),
+    row(Key::From, "--from", Some("HH:MM"), "a time of day, as 20:00", "the night's clock begins at this time", "now, UTC"),
+    row(Key::Hours, "--hours", Some("N"), "a number from 1 to 240", "it ends after so many hours", "24"),
+    row(Key::Speed, "--speed", Some("N"), "a number from 1 to 1000000", "the night's clock goes so many times as fast", "1"),
     row(Key::Record, "--record", Some("FILE"), A_SCRIPT, "the record to start from, as --keep has left it", "a fresh one"),
     row(Key::Keep, "--keep", Some("FILE"), A_FILE, "the record is written there at the end, also of a stopped run", "none"),
     row(Key::Section, "--section", Some("FILE"), A_FILE, "the sections, end to end, are written there; a file there is replaced", "none"),
