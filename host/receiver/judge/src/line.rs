@@ -109,7 +109,6 @@ impl Line {
         // It may be gone behind its last step, at the read that nobody looks at.
         let (Some(0), Some(receiver), 0) = (status, kept(&self.path("state")), self.chip.get("gone")) else { return };
         station(tally, &self.chip, &receiver, hz, name);
-        tally.stations += 1;
         tally.that(self.chip.get("locked") == 1, "status 0, and the PLL has no lock", name);
         tally.that(receiver.tuner().doubtful().next().is_none(), "status 0, and a register is doubtful", name);
     }
