@@ -70,10 +70,11 @@ impl<'a> Live<'a> {
     }
 
     fn sequence(&mut self, wanted: &Wanted, out: &mut Out) -> Option<()> {
-        self.ready(out)?;
+        // The correction comes first, so that whatever stops the run its record goes by the receiver's own reference.
         if let Some(ppm) = wanted.ppm.filter(|ppm| *ppm != self.records.driver.ppm()) {
             self.correct(ppm)?;
         }
+        self.ready(out)?;
         if wanted.initialise || self.records.owed.initialise {
             self.make(Call::Initialise, pasetone::Call::Initialize, out)?;
         }
@@ -137,10 +138,11 @@ impl<'a> Live<'a> {
     }
 
     /// The order of the Rust's `Driver::with_index`, in the parts that document 01 has: of the tuner's kind nothing is asked, and the waits are ours.
+    /// As there the demodulator is set by the nominal reference; the sample rate behind it goes by the corrected one.
     fn bring_up(&mut self, out: &mut Out) -> Option<()> {
         use pasetone::Call as C;
         let spectrum = C::WriteRegDirect { page: 1, address: 0x15, value: 1 };
-        let xtal = self.records.driver.corrected_xtal_hz();
+        let xtal = self.records.driver.nominal();
         self.make(Call::PowerOn, C::PowerOn, out)?;
         thread::sleep(Duration::from_millis(100));
         if self.records.driver.board() == Board::V4 {

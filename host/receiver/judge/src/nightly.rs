@@ -27,8 +27,10 @@ struct Watched {
     rate: u32,
     /// Its PLL is never locked, or asks for another divider: no hop of it is right.
     is_wrong: bool,
-    /// It was plugged in anew, and no hop was made since: what the night has is of before.
+    /// It was plugged in anew, and no hop was made since: what the state has is of before.
     is_new: bool,
+    /// So long was its night then: a receiver without power has forgotten what the sections before say.
+    from: usize,
 }
 
 /// What came of all hops.
@@ -77,7 +79,17 @@ fn watched(at: usize, found: &Found, hours: usize, seed: u64, per_mille: u64) ->
     chip.set("odds", 65_536 * per_mille * 12 / 7 / 1_000);
     let rate = if at % 3 == 2 { 2_400_000 } else { 2_048_000 };
     let is_wrong = is_deaf || is_moved;
-    Watched { name: format!("rx{at:02}"), chip, number: found.number, stations: stations(at, hours), ppm, rate, is_wrong, is_new: true }
+    Watched {
+        name: format!("rx{at:02}"),
+        chip,
+        number: found.number,
+        stations: stations(at, hours),
+        ppm,
+        rate,
+        is_wrong,
+        is_new: true,
+        from: 0,
+    }
 }
 
 fn schedule(all: &[Watched], found: &[Found]) -> String {
@@ -91,7 +103,7 @@ fn schedule(all: &[Watched], found: &[Found]) -> String {
 
 impl Watched {
     /// It is pulled out, and plugged in again: another node, whose chips hold anything.
-    fn again(&mut self) {
+    fn again(&mut self, folder: &Path) {
         let node = PathBuf::from(std::env::var("RECEIVER_FOLDER").expect("the folder")).join(format!("dev/bus/usb/001/{:03}", self.number));
         self.chip.set("gone", 0);
         let (new, old) = (node.with_extension("new"), node.with_extension("old"));
@@ -101,6 +113,11 @@ impl Watched {
         fs::rename(&new, &node).expect("a node");
         self.chip = Simulated::open(self.number);
         self.is_new = true;
+        self.from = fs::read(self.night(folder)).unwrap_or_default().len();
+    }
+
+    fn night(&self, folder: &Path) -> PathBuf {
+        folder.join(format!("{}.night", self.name))
     }
 
     fn receiver(&self, folder: &Path) -> Option<Receiver> {
@@ -122,7 +139,7 @@ impl Night<'_> {
             }
         }
         for row in self.all.iter_mut().filter(|row| row.chip.get("gone") != 0) {
-            row.again();
+            row.again(&self.folder.join("tonight"));
             self.count.unplugged += 1;
         }
     }
@@ -194,9 +211,10 @@ impl Night<'_> {
 
 /// What the night's file alone says of the centre is the chips' own, where it is sure; and it is sure where a hop was told as right. Whether it was.
 fn proven(tally: &mut Tally, row: &Watched, receiver: &Receiver, folder: &Path, is_right: bool) -> bool {
-    let sections = fs::read(folder.join(format!("{}.night", row.name))).unwrap_or_default();
+    let night = fs::read(row.night(folder)).unwrap_or_default();
+    let sections = night.get(row.from..).unwrap_or_default();
     let xtal = receiver.tuner().corrected();
-    let told = evidence(&sections, receiver.tuner().address(), xtal, receiver.driver().corrected_xtal_hz());
+    let told = evidence(sections, receiver.tuner().address(), xtal, receiver.driver().corrected_xtal_hz());
     tally.that(told.is_ok(), "the night's file is no sections", NAME);
     let centre = told.ok().and_then(|told| told.centre.sure());
     tally.that(centre.is_some() || !is_right, "told on its station, and its sections do not say so", NAME);
