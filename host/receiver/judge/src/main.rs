@@ -10,7 +10,7 @@
 //!   judge night PROGRAM HOURS N SEED      all receivers through `run`, N of 1,000 transfers failing, the program killed, receivers plugged in anew
 //!   judge numbers                         the calls of usbfs as crate pasetone-usb has them
 //!
-//! KIND is r828d or r820t. LIE is `nothing`, or what a wrong host does: short, timeout, stall, hurry, before, bold. Exit status 1 where a fault was found.
+//! KIND is r828d or r820t. LIE is `nothing`, or what a wrong host does: short, timeout, stall, hurry, before, bold, filled, early, mute. Exit status 1 where a fault was found.
 mod calls;
 mod file;
 mod held;
@@ -79,8 +79,8 @@ fn main() -> ExitCode {
         return ExitCode::SUCCESS;
     }
     let found = Found::all().expect("sysfs");
-    if let (["child", number, path], Some(first)) = (words.as_slice(), found.first()) {
-        let done = killed::child(first, number.parse().expect("a number"), path.as_ref());
+    if let (["child", number, lie, path], Some(first)) = (words.as_slice(), found.first()) {
+        let done = killed::child(first, number.parse().expect("a number"), path.as_ref(), Lie::of(lie).expect("a lie"));
         return ExitCode::from(if done { 0 } else { 3 });
     }
     let Some(tally) = judged(&words, &found) else {
