@@ -21,21 +21,22 @@ use std::ffi::{OsStr, OsString};
 use std::fs;
 
 pub const MORE: &[&str] = &[
-    "FILE is a night's file of one receiver, as --append writes it. A hop is a tuning with what led to it",
-    "and all that was sent up to the next one. Its line has what was asked, the recording's centre and rate",
-    "by the bytes sent, the lock and its tries, how many registers are doubtful, and a verdict:",
-    "  right       asked, sure in everything, every call done, locked, and the centre where a tuning leaves it",
-    "  beside ..   oscillator and IF are sure, and the centre is off by more: within 25 kHz / m is right",
+    "FILE is a night's file of one receiver, as --append writes it. A hop is a tuning, with what led to",
+    "it and all that was sent up to the next one. Its line has what was asked, the recording's centre",
+    "and rate by the bytes sent, the lock and its tries, the count of doubtful registers, and a verdict:",
+    "  right       asked; all sure; every call done; locked; the centre where a tuning leaves it",
+    "  beside ..   oscillator and IF are sure, and the centre is off by more than 25 kHz / m (FM: 782 Hz)",
     "  not locked  all but the lock: its last status is without the bit, or was not read since",
     "  doubtful    a call was not done, or a byte was sent in vain, and not again since",
-    "  unknown     what was asked, or a section's answer, no log tells; or a register was never sent here",
-    "What was asked and answered stands in the log that --log of hop, feed and reload writes: FILE.log, or",
-    "--log. Without a log give --asked, a frequency for each hop, and where they are not the usual ones",
-    "--address, --reference, --board or --table. The same frequency again within two minutes, where the hop",
-    "was not right, is another attempt: the last counts, and the line says how many there were. A file with",
-    "bytes that are no section is not judged. The exit status is 0 only where every hop of every file is right:",
-    "4 where the worst is not locked, 5 beside, doubtful or unknown, 1 a damaged file or a log of another.",
-    "--json prints a line for each hop, one for each receiver and one for all.",
+    "  unknown     no log tells what was asked or answered, or something was never sent in this file",
+    "What was asked and answered stands in the log that --log of hop, feed and reload writes: FILE.log,",
+    "or --log. Without one give --asked, a frequency for each hop, and where they are others than usual",
+    "--address, --reference, --board or --table. The same frequency again within two minutes of a hop",
+    "that was not right is another attempt at it: the last counts, and a line says how many there were.",
+    "A file with bytes that are no section is not judged. The exit status is 0 only where every hop of",
+    "every file is right; 4 where the worst is not locked; 5 beside, doubtful, unknown or no hop; 1 a",
+    "damaged file, or a log that is not the file's. --json prints a line for each hop, one for each",
+    "receiver and one for all.",
 ];
 
 pub const OPTIONS: &[Key] =
@@ -66,10 +67,12 @@ pub fn run(given: &Given, out: &mut Out) {
     if out.is_mistaken() {
         return;
     }
-    head(given, out);
     let mut receivers: Vec<Receiver> = Vec::new();
     for name in &given.operands {
         receivers.extend(judged(name, given, &unlogged, out));
+    }
+    if receivers.is_empty() {
+        return;
     }
     in_all(&receivers, given, out);
     if let Some(Err(why)) = page.map(|sink| page::write(&receivers, sink)) {
@@ -119,6 +122,7 @@ fn judged(name: &OsStr, given: &Given, unlogged: &Unlogged, out: &mut Out) -> Op
         receiver.told(given, "DAMAGED: not judged", out);
         return Some(receiver);
     }
+    receiver.head(given, out);
     let log = read.and_then(|read| joined(read, log.as_deref().unwrap_or_default(), &parts, &receiver.file, out));
     receiver.hops(&parts, log.as_ref(), given, unlogged, out).map_err(|why| out.mistake(&format!("night {why}"))).ok()?;
     let hops: usize = receiver.count.iter().sum();
@@ -177,6 +181,13 @@ impl Receiver {
         Ok(())
     }
 
+    fn head(&self, given: &Given, out: &mut Out) {
+        if !given.has(Key::Json) && !given.has(Key::Quiet) {
+            out.line(&self.logged.as_ref().map_or_else(|| format!("{}, no log", self.file), |log| format!("{}, log {log}", self.file)));
+            out.line(" hop time (UTC)          asked     centre    rate lock     doubt  verdict");
+        }
+    }
+
     /// What it came to.
     fn told(&self, given: &Given, fault: &str, out: &mut Out) {
         if given.has(Key::Json) {
@@ -189,24 +200,17 @@ impl Receiver {
             fields.extend(count_json(&self.count));
             out.line(&json::object(&fields));
         } else if !given.has(Key::Quiet) {
-            let log = self.logged.as_ref().map_or_else(|| String::from("no log"), |log| format!("log {log}"));
             let came = if fault.is_empty() { count_words(&self.count) } else { out.loud(fault) };
-            out.line(&format!("{} ({}, {log}): {came}", self.name, self.file));
+            out.line(&format!("{}: {came}", self.name));
             out.line("");
         }
-    }
-}
-
-fn head(given: &Given, out: &mut Out) {
-    if !given.has(Key::Json) && !given.has(Key::Quiet) {
-        out.line(" hop  time (UTC)                  asked        centre       off       rate  lock         doubtful  verdict");
     }
 }
 
 pub fn lock_words(lock: Lock, tries: u32) -> String {
     match lock {
         Lock::Locked => format!("at try {tries}"),
-        Lock::Without => format!("NO, {}", if tries == 1 { String::from("1 try") } else { format!("{tries} tries") }),
+        Lock::Without => format!("NO at {tries}"),
         Lock::Unread => String::from("not read"),
     }
 }
@@ -232,6 +236,7 @@ fn tell(hop: &Hop, receiver: &str, file: &str, given: &Given, out: &mut Out) {
         out.line(&hop_json(hop, receiver, file));
     } else if !given.has(Key::Quiet) {
         out.line(&row(hop, out));
+        notes(hop).iter().for_each(|note| out.line(&format!("     {note}")));
     } else if hop.verdict != Verdict::Right {
         let time = hop.began.map_or_else(String::new, |time| format!(" ({})", clock::words(time)));
         let why = notes(hop).iter().map(|note| format!("; {note}")).collect::<String>();
@@ -242,13 +247,11 @@ fn tell(hop: &Hop, receiver: &str, file: &str, given: &Given, out: &mut Out) {
 
 fn row(hop: &Hop, out: &Out) -> String {
     let dash = |value: Option<String>| value.unwrap_or_else(|| String::from("-"));
-    let (time, asked) = (dash(hop.began.map(clock::words)), dash(hop.asked.map(|hz| hz.to_string())));
-    let (centre, off) = (dash(hop.centre.map(|hz| hz.to_string())), dash(off(hop).map(|off| format!("{off:+}"))));
+    let time = dash(hop.began.map(|time| clock::words(time)[5..19].replace('T', " ")));
+    let (asked, centre) = (dash(hop.asked.map(|hz| hz.to_string())), dash(hop.centre.map(|hz| hz.to_string())));
     let (rate, lock) = (dash(hop.rate.map(|rate| rate.to_string())), lock_words(hop.lock, hop.tries));
     let words = if hop.verdict == Verdict::Right { hop.verdict.words() } else { out.loud(&hop.verdict.words()) };
-    let notes = notes(hop);
-    let notes = if notes.is_empty() { String::new() } else { format!(" ({})", notes.join("; ")) };
-    format!("{:>4}  {time:<20} {asked:>13} {centre:>13} {off:>9} {rate:>10}  {lock:<12} {:>8}  {words}{notes}", hop.number, hop.doubtful)
+    format!("{:>4} {time:<14} {asked:>10} {centre:>10} {rate:>7} {lock:<8} {:>5}  {words}", hop.number, hop.doubtful)
 }
 
 fn hop_json(hop: &Hop, receiver: &str, file: &str) -> String {

@@ -17,21 +17,23 @@ const CLASSES: [&str; 5] = ["right", "beside", "unlocked", "doubtful", "unknown"
 const STYLE: &str = "
 body { font: 15px/1.4 sans-serif; margin: 1.5em; color: #111; background: #fff }
 table { border-collapse: collapse; margin: 1em 0 }
-th, td { border: 1px solid #bbb; padding: .2em .4em; text-align: left; vertical-align: top }
-th { background: #eee; white-space: nowrap }
-td a { display: block; padding: .1em .3em; margin: .1em 0; text-decoration: none; white-space: nowrap; border-radius: .2em }
+th, td { border: 1px solid #bbb; padding: .15em; text-align: left; vertical-align: top; font-size: 13px; line-height: 1.25 }
+th { background: #eee; white-space: nowrap; padding: .15em .4em }
+th[scope=row] { position: sticky; left: 0 }
+td a { display: block; padding: .1em .3em; margin: .05em 0; text-decoration: none; white-space: nowrap; border-radius: .2em }
+td a:hover, td a:focus { outline: 3px solid #111 }
 .right { background: #cfe8f3; color: #0b3c5d }
 .beside { background: #b3261e; color: #fff; font-weight: bold }
 .unlocked { background: #ffd24d; color: #111; font-weight: bold }
 .doubtful { background: #6b3fa0; color: #fff; font-weight: bold }
 .unknown { background: #555; color: #fff }
 .legend span { padding: .1em .5em; margin-right: .6em; border-radius: .2em; display: inline-block }
-.hop { display: none; border-top: 3px solid #bbb; padding-top: .5em }
-.hop:target { display: block }
+.hop { display: none }
+.hop:target { display: block; position: fixed; inset: 3vh 3vw; overflow: auto; background: #fff; border: 3px solid #111; padding: .5em 1.5em; z-index: 1 }
 .hop h2 span { padding: 0 .4em; border-radius: .2em }
 pre { background: #f6f6f6; padding: .5em; overflow-x: auto; font-size: 13px }
 .wide { overflow-x: auto }
-@media print { .hop { display: block } }
+@media print { .hop, .hop:target { display: block; position: static; border: 0 } }
 ";
 
 /// What a page shows of text: nothing of it is a tag.
@@ -97,7 +99,7 @@ fn head(receivers: &[Receiver]) -> String {
     format!(
         "<!DOCTYPE html>\n<html lang=\"en\">\n<head>\n<meta charset=\"utf-8\">\n<meta name=\"viewport\" content=\"width=device-width\">\n<title>Night: {title}</title>\n\
          <style>{STYLE}</style>\n</head>\n<body>\n<h1 id=\"night\">Night: {title}</h1>\n<p class=\"legend\">{legend}</p>\n\
-         <p>By what was sent, in UTC. A cell is a hop: its frequency, and its verdict; click it for its steps.</p>\n"
+         <p>By what was sent, in UTC. A cell is a hop: the MHz that were asked for, and the verdict; click it for its steps.</p>\n"
     )
 }
 
@@ -106,7 +108,7 @@ fn grid(receivers: &[Receiver]) -> String {
     let heads: String = columns.iter().map(|column| format!("<th scope=\"col\">{}</th>", column.words())).collect();
     let mut page = format!("<div class=\"wide\">\n<table>\n<tr><th scope=\"col\">receiver</th>{heads}</tr>\n");
     for (row, receiver) in receivers.iter().enumerate() {
-        page += &format!("<tr><th scope=\"row\">{}</th>", escaped(&receiver.name));
+        page += &format!("<tr id=\"r{row}\"><th scope=\"row\">{}</th>", escaped(&receiver.name));
         if receiver.parts.is_none() {
             page += &format!("<td class=\"unknown\" colspan=\"{}\">DAMAGED: not judged</td>", columns.len().max(1));
         }
@@ -123,7 +125,7 @@ fn grid(receivers: &[Receiver]) -> String {
 fn megahertz(hz: u64) -> String {
     let digits = format!("{}.{:06}", hz / 1_000_000, hz % 1_000_000);
     let digits = digits.trim_end_matches('0');
-    format!("{} MHz", digits.strip_suffix('.').unwrap_or(digits))
+    digits.strip_suffix('.').map_or_else(|| digits.to_string(), |whole| format!("{whole}.0"))
 }
 
 fn cell(row: usize, hop: &Hop) -> String {
@@ -142,7 +144,7 @@ fn details<'a>(
     let number = |value: Option<i128>, unit: &str| value.map_or_else(|| String::from("not known"), |value| format!("{value}{unit}"));
     let (class, words) = (CLASSES[hop.verdict.at()], hop.verdict.words());
     let mut page = format!(
-        "<section class=\"hop\" id=\"r{row}h{}\">\n<h2>{}, hop {}: <span class=\"{class}\">{words}</span></h2>\n<p><a href=\"#night\">back to the night</a></p>\n",
+        "<section class=\"hop\" id=\"r{row}h{}\">\n<h2>{}, hop {}: <span class=\"{class}\">{words}</span></h2>\n<p><a href=\"#r{row}\">back to the night</a></p>\n",
         hop.number,
         escaped(&receiver.name),
         hop.number
@@ -179,7 +181,7 @@ fn sections<'a>(receiver: &Receiver, hop: &Hop, lines: &mut std::iter::Peekable<
         let line = lines.next_if(|line| line.at == at);
         page += &format!("<h3>{}</h3>\n<pre>", line.map_or_else(|| format!("byte {at}: no line in a log"), call_words));
         let Ok((_, transcript)) = Transcript::read(&bytes[start..end]) else { continue };
-        page += &escaped(&transcript.iter().map(|entry| format!("{entry}\n")).collect::<String>());
+        page += &escaped(&transcript.iter().map(|entry| format!("{entry}\n")).collect::<String>()).replace("FAILED", "<b>FAILED</b>");
         page += "</pre>\n";
     }
     Ok(page)

@@ -316,6 +316,7 @@ fn judged(night: &Night, truths: &[Vec<Truth>]) -> Judged {
     }
     assert_eq!(hops.next(), None);
     assert_eq!(ran.status.success(), judged.wrong + judged.held_back == 0);
+    page(night, &files, judged.hops);
     // Without their logs nothing is called right, and the same centres are told.
     fs::rename(night.folder.join("night.0.log"), night.folder.join("away")).unwrap();
     let told = String::from_utf8(run(&["--json"]).stdout).unwrap();
@@ -326,6 +327,38 @@ fn judged(night: &Night, truths: &[Vec<Truth>]) -> Judged {
     );
     fs::rename(night.folder.join("away"), night.folder.join("night.0.log")).unwrap();
     judged
+}
+
+/// The page of the same night: every hop is a cell with its verdict in words, and has its steps; nothing is asked for from elsewhere; each tag is closed.
+fn page(night: &Night, files: &[String], hops: usize) {
+    let ran = Command::new(BIN).args(["night", "--quiet", "--html", "page"]).args(files).current_dir(&night.folder).output().unwrap();
+    assert!(ran.stdout.is_empty());
+    let page = fs::read_to_string(night.folder.join("page")).unwrap();
+    let mut open: Vec<&str> = Vec::new();
+    for piece in page.split('<').skip(1) {
+        let (tag, text) = piece.split_once('>').expect("a tag ends");
+        assert!(!text.contains('>'), "{piece}");
+        let name = tag.split_whitespace().next().unwrap();
+        match name.strip_prefix('/') {
+            Some(name) => assert_eq!(open.pop(), Some(name), "{piece}"),
+            None if matches!(name, "!DOCTYPE" | "meta" | "br") => {}
+            None => open.push(name),
+        }
+        for member in tag.split_whitespace().skip(1).filter(|member| member.starts_with("href")) {
+            let id = member.strip_prefix("href=\"#").and_then(|rest| rest.split('"').next()).expect("a link within the page");
+            assert_eq!(page.matches(&format!("id=\"{id}\"")).count(), 1, "{id}");
+        }
+    }
+    assert_eq!(open, Vec::<&str>::new());
+    let cells =
+        ["right", "beside", "unlocked", "doubtful", "unknown"].map(|class| page.matches(&format!("<a class=\"{class}\" href=")).count());
+    let words = ["right", "beside", "not locked", "doubtful", "unknown"].map(|word| page.matches(&format!("<br>{word}</a>")).count());
+    assert_eq!((cells.iter().sum::<usize>(), cells), (hops, words));
+    assert_eq!(page.matches("<section class=\"hop\"").count(), hops);
+    for elsewhere in ["http", "src=", "url(", "@import", "<script", "javascript", "<link", "<iframe"] {
+        assert!(!page.contains(elsewhere), "{elsewhere}");
+    }
+    assert!(page.contains("<th scope=\"row\">rx &lt;0&gt;</th>") && !page.contains("rx <"));
 }
 
 fn size() -> (u64, u64) {
