@@ -68,8 +68,9 @@ fn options(given: &Given, without: &[Key]) -> Vec<String> {
 fn reload(record: &OsStr, given: &Given) -> String {
     let mut words = vec![program(), String::from("reload")];
     words.push(if given.has(Key::State) { format!("--state {}", file(record)) } else { format!("{0} --keep {0}", file(record)) });
-    words.extend([Key::Device, Key::Append].into_iter().filter_map(|key| given.word(key).map(|value| option_words(key, value))));
-    words.extend(given.word(Key::Quiet).map(|value| option_words(Key::Quiet, value)));
+    for key in [Key::Device, Key::Append, Key::Log, Key::Name, Key::Quiet] {
+        words.extend(given.word(key).map(|value| option_words(key, value)));
+    }
     words.join(" ")
 }
 

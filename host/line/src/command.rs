@@ -6,8 +6,8 @@ use crate::log::{self, Line, Log};
 use crate::out::{End, Out};
 use crate::record::{self, Records};
 use crate::{
-    devices, entries, feed, held, help, hop, nightly, packets, parting, plan, reload, restore, settings, show, start, table, whereabouts,
-    worksheet,
+    devices, entries, feed, held, help, hop, night, nightly, packets, parting, plan, reload, restore, settings, show, start, table,
+    whereabouts, worksheet,
 };
 use std::ffi::{OsStr, OsString};
 use std::os::unix::ffi::OsStrExt;
@@ -63,6 +63,15 @@ pub const COMMANDS: &[Command] = &[
         example: "feed line --record record --keep record --append sections",
         options: feed::OPTIONS,
         run: feed::run,
+    },
+    Command {
+        name: "night",
+        operands: "FILE..",
+        about: "what each recording is, by what was sent",
+        more: night::MORE,
+        example: "night sections --html night.html",
+        options: night::OPTIONS,
+        run: night::run,
     },
     Command {
         name: "show",
@@ -216,6 +225,12 @@ pub enum Key {
     Append,
     Log,
     Name,
+    /// The log that is joined, the receiver that it is of, and the chip, where a night is judged.
+    Joined,
+    Whose,
+    Tuner,
+    Asked,
+    Html,
     Out,
     State,
     Device,
@@ -289,6 +304,11 @@ pub const OPTIONS: &[Opt] = &[
     row(Key::Append, "--append", Some("FILE"), A_FILE, "the sections are written there behind what the file holds", "none"),
     row(Key::Log, "--log", Some("FILE"), A_FILE, "a line of JSON for each section of --append, as `night` joins it", "none"),
     row(Key::Name, "--name", Some("NAME"), "a name of at most 64 characters", "the receiver's, for the lines of --log", "none"),
+    row(Key::Joined, "--log", Some("FILE"), A_FILE, "the log of the one FILE", "FILE.log beside it, if there"),
+    row(Key::Whose, "--name", Some("NAME"), "a receiver's name", "the receiver, where the log is of several", "all"),
+    row(Key::Asked, "--asked", Some("HZ,HZ.."), "frequencies with commas between, as 102.3M,7.1M", "what each hop was asked, without a log", "none"),
+    row(Key::Tuner, "--address", Some("N"), "a number to 255 (0xff)", "the chip's address, without a log", "the first written to"),
+    row(Key::Html, "--html", Some("FILE"), A_FILE, "the same as a page for a browser; a file there is replaced", "none"),
     row(Key::Out, "--out", Some("FILE"), A_FILE, "the answer's bytes are written there; a file there is replaced", "none"),
     row(Key::Json, "--json", None, "", "the same as JSON in place of the table", ""),
     row(Key::Quiet, "--quiet", None, "", "print nothing but what went wrong; the exit status tells the rest", ""),

@@ -137,7 +137,7 @@ fn opened(name: &OsStr, most: u64) -> io::Result<(Vec<u8>, bool)> {
     file.take(most).read_to_end(&mut bytes).map(|_| (bytes, true))
 }
 
-fn unread(name: &OsStr, error: &io::Error) -> String {
+pub fn unread(name: &OsStr, error: &io::Error) -> String {
     let name = called(name);
     match error.kind() {
         ErrorKind::NotFound => format!("{name}: there is no such file: name one that is there, or - for standard input"),

@@ -93,33 +93,35 @@ impl Line {
     }
 }
 
-/// The call's name in the Rust host.
-pub fn name(call: Call) -> &'static str {
-    match call {
-        Call::Initialize => "initialize",
-        Call::SetFrequency(_) => "set_frequency",
-        Call::SetGain(_) => "set_gain",
-        Call::SetGainByIndex(_) => "set_gain_by_index",
-        Call::SetBandwidth(_) => "set_bandwidth",
-        Call::SetIfFreq(_) => "set_if_freq",
-        Call::SetInputPath(_) => "set_input_path",
-        Call::ApplyInputPath(_) => "apply_input_path",
-        Call::Reload => "reload",
-        Call::SetSampleRate(_) => "set_sample_rate",
-        Call::TuneBoard(_) => "tune_board",
-        Call::InitBaseband => "init_baseband",
-        Call::PowerOn => "power_on",
-        Call::ResetDemod => "reset_demod",
-        Call::SetTunerLowIf => "set_tuner_low_if",
-        Call::SetTunerZeroIf => "set_tuner_zero_if",
-        Call::StartStreaming => "start_streaming",
-        Call::StopStreaming => "stop_streaming",
-        Call::WriteRegDirect { .. } => "write_reg_direct",
-        Call::SetIfFreqXtal { .. } => "set_if_freq_xtal",
-        Call::SetSampleRateXtal { .. } => "set_sample_rate_xtal",
-        Call::SetGpioOutput(_) => "set_gpio_output",
-        Call::SetGpioBit(..) => "set_gpio_bit",
-    }
+/// The calls by their numbers (`Call::bytes`), as the Rust host names them.
+pub const CALLS: [&str; 23] = [
+    "initialize",
+    "set_frequency",
+    "set_gain",
+    "set_gain_by_index",
+    "set_bandwidth",
+    "set_if_freq",
+    "set_input_path",
+    "apply_input_path",
+    "reload",
+    "set_sample_rate",
+    "tune_board",
+    "init_baseband",
+    "power_on",
+    "reset_demod",
+    "set_tuner_low_if",
+    "set_tuner_zero_if",
+    "start_streaming",
+    "stop_streaming",
+    "write_reg_direct",
+    "set_if_freq_xtal",
+    "set_sample_rate_xtal",
+    "set_gpio_output",
+    "set_gpio_bit",
+];
+
+fn name(call: Call) -> &'static str {
+    CALLS[usize::from(call.bytes()[0]) - 1]
 }
 
 /// Hz for a tuning, samples a second for a rate.

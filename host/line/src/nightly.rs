@@ -27,8 +27,9 @@ pub const MORE: &[&str] = &[
     "             [ppm N] [rate N] [gain DB] [if HZ]                                   (in one line)",
     "        20:00 102.3M",
     "        21:00 98.5M",
-    "NAME is written into the log and names three files in the folder: NAME.state, NAME.night and NAME.log,",
-    "which are as --state, --append and --log of hop have them. DEVICE is as --device takes it; the settings",
+    "NAME is written into the log, and names three files in the folder: NAME.state, NAME.night and",
+    "NAME.night.log, as --state, --append and --log of hop have them: `night` judges the last two. DEVICE is",
+    "as --device takes it; the settings",
     "are start's. Times are UTC, and hold every day. When it begins each receiver goes to the station of",
     "that time, and then to each at its time, for --hours. A receiver is opened for each hop, and brought up",
     "where its state does not know it; a call that a step stopped is made again behind a reload, three times",
@@ -199,7 +200,7 @@ fn hop(row: &Row, hz: u64, folder: &Path, detach: bool) -> Hop {
 fn made(row: &Row, hz: u64, folder: &Path, detach: bool, own: &mut Out) -> Result<(End, String), String> {
     let file = |end: &str| OsString::from(folder.join(format!("{}.{end}", row.name)));
     let link = Link::of(OsStr::new(&row.device), detach)?;
-    let log = Log::of(&file("log"), &row.name, "run")?;
+    let log = Log::of(&file("night.log"), &row.name, "run")?;
     let mut keeper = Keeper::of(&file("state"), &file("night"), log, &link, own)?;
     let table = row.board_table();
     if keeper.records().is_some_and(|records| {
