@@ -198,6 +198,15 @@ impl Log {
         Ok(Log { path: path.to_os_string(), file, is_file, receiver: None, command: "", lines: Vec::new(), fault: None })
     }
 
+    /// Whether its end has a line for the section at this byte already: a run died behind it.
+    pub fn has(&self, at: u64) -> bool {
+        const END: u64 = 4096;
+        let length = self.file.metadata().map_or(0, |is| is.len());
+        let mut bytes = vec![0; length.min(END) as usize];
+        let read = self.file.read_exact_at(&mut bytes, length.saturating_sub(END));
+        read.is_ok() && String::from_utf8_lossy(&bytes).contains(&format!("\"at\":{at},"))
+    }
+
     /// A line for a section that is about to stand in the night's file, or stands there: [`Log::placed`] tells where.
     pub fn note(&mut self, line: Option<Line>) {
         self.lines.extend(line);

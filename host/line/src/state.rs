@@ -174,7 +174,8 @@ impl Keeper {
             _ => {}
         }
         self.keep(&records).map_err(|error| format!("--state {}", unwritten(&self.name, &error)))?;
-        self.note(line);
+        let placed = self.night.as_ref().and_then(Sink::placed);
+        self.note(line.filter(|_| !placed.is_some_and(|at| self.log.as_ref().is_some_and(|log| log.has(at)))));
         let known = transcript.iter().filter(|entry| !entry.failed).count();
         let doubtful: Vec<u8> = records.tuner.doubtful().collect();
         let doubt = if doubtful.is_empty() { String::from("no register doubtful") } else { format!("doubtful: {}", runs(&doubtful)) };
@@ -325,9 +326,7 @@ impl Keeper {
             return None;
         }
         let driven = self.driven(call, records, table, hz, link).map_err(|why| self.fault = Some(why)).ok();
-        if let Some(driven) = &driven {
-            self.note(Line::of(call, &driven.answer, records, table, hz));
-        } else {
+        if driven.is_none() {
             // What was sent is doubtful by the state's own record, and the call is owed.
             let (tuner, driver, _) = self.state.receiver().clone().parts();
             if let Some(job) = job(call) {
@@ -352,7 +351,7 @@ impl Keeper {
         let noted = Owed { hz: hz.unwrap_or(records.owed.hz), ..records.owed.clone() };
         let length = self.night.as_ref().map_or(Ok(NO_NIGHT), Sink::length).map_err(|why| format!("--append {why}"))?;
         state.set_note(&noted.bytes(), length).map_err(unkept)?;
-        let (night, mut why, mut next) = (&mut self.night, None, None);
+        let (night, log, synced, mut why, mut next) = (&mut self.night, &mut self.log, self.synced, None, None);
         let ended = state.drive_to(
             call,
             |step| link.take(step),
@@ -371,7 +370,15 @@ impl Keeper {
                     owed.made(job, answer.result.map(drop), &answer.transcript, &tuner, &driver);
                 }
                 state.set_note(&owed.bytes(), length)?;
-                next = Some(Records { tuner, driver, owed });
+                let records = next.insert(Records { tuner, driver, owed });
+                // While the call is under way yet: killed behind this, the run has its line, and killed before it the next one writes it.
+                if let (Some(night), Some(log), Some(line)) = (night, log, Line::of(call, answer, records, table, hz)) {
+                    log.note(Some(line));
+                    log.placed(night.placed());
+                    if synced {
+                        log.write(night);
+                    }
+                }
                 Ok(())
             },
         );
