@@ -148,11 +148,16 @@ fn told(tally: &mut Tally, chip: &Simulated, told: &Told, name: &'static str) {
 
 /// A station that was tuned to is the centre that the chips have by their own registers: 25 kHz by the divider, and the step of the IF's word.
 pub fn station(tally: &mut Tally, chip: &Simulated, receiver: &Receiver, hz: u64, name: &'static str) {
+    tally.stations += 1;
+    tally.that(is_on(chip, receiver, hz), "the call is done and the receiver beside its station", name);
+}
+
+/// Whether the chips stand there, by their own registers.
+pub fn is_on(chip: &Simulated, receiver: &Receiver, hz: u64) -> bool {
     let wanted = receiver.table().plan_tuning(hz).expect("a plan").hz as i64;
     let divider = 2i64 << (chip.bytes("chip.tuner")[0x10] >> 5);
     let off = (chip.get("centre") >> 23) - wanted;
-    tally.stations += 1;
-    tally.that((-25_000 / divider - 1..=18_000 / divider + 8).contains(&off), "the call is done and the receiver beside its station", name);
+    (-25_000 / divider - 1..=18_000 / divider + 8).contains(&off)
 }
 
 /// All of it, behind a call: `from` is the number of its first transfer.

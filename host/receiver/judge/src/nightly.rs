@@ -1,7 +1,7 @@
 //! A night of receivers through `run`, hour by hour, with transfers failing by chance, the program killed and receivers plugged in anew. What it tells is held to the chips' own
 //! centre, and so is what the nights' sections say (evidence): nothing is told as right that is not.
 use crate::file::Simulated;
-use crate::held::{Tally, registers, station};
+use crate::held::{Tally, is_on, registers, station};
 use crate::host::fresh;
 use crate::line::kept;
 use crate::storm::Random;
@@ -31,6 +31,8 @@ struct Watched {
     is_new: bool,
     /// So long was its night then: a receiver without power has forgotten what the sections before say.
     from: usize,
+    /// Of each hour: whether the chips stood on its station at its end, and whether `run` told so; none where the receiver was gone.
+    truth: Vec<Option<(bool, bool)>>,
 }
 
 /// What came of all hops.
@@ -41,6 +43,8 @@ struct Count {
     unplugged: u64,
     sure: u64,
     runs: u64,
+    /// Those that `night` calls right, by the files alone.
+    by_night: u64,
 }
 
 struct Night<'a> {
@@ -89,6 +93,7 @@ fn watched(at: usize, found: &Found, hours: usize, seed: u64, per_mille: u64) ->
         is_wrong,
         is_new: true,
         from: 0,
+        truth: Vec::new(),
     }
 }
 
@@ -188,6 +193,10 @@ impl Night<'_> {
                 registers(tally, &row.chip, &receiver, NAME);
                 count.sure += u64::from(proven(tally, row, &receiver, &folder, is_right));
             }
+            if ended.is_some() {
+                let on = row.receiver(&folder).filter(|_| !gone).map(|receiver| is_on(&row.chip, &receiver, hz) && !row.is_wrong);
+                row.truth.push(on.map(|on| (on && row.chip.get("locked") == 1, is_right)));
+            }
             if is_right && !gone {
                 let receiver = row.receiver(&folder).expect("a state");
                 tally.that(!row.is_wrong, "a receiver without a lock, or with another divider, is told as on its station", NAME);
@@ -205,6 +214,31 @@ impl Night<'_> {
                 "the count is another",
                 NAME,
             );
+        }
+    }
+}
+
+/// The value of a line's member, as it stands there.
+fn member<'a>(line: &'a str, name: &str) -> Option<&'a str> {
+    let (_, rest) = line.split_once(&format!("\"{name}\": "))?;
+    rest.split([',', '}']).next()
+}
+
+impl Night<'_> {
+    /// The nights by `night`, from their files alone: of an hour's hops the last counts, and what it calls right was so. What `run` has told as right it calls right too.
+    fn by_files(&mut self) {
+        let folder = self.folder.join("tonight");
+        for row in &self.all {
+            let output = Command::new(self.program).args(["night", "--json"]).arg(row.night(&folder)).output().expect("the program runs");
+            let text = String::from_utf8_lossy(&output.stdout).into_owned();
+            for (hz, truth) in row.stations.iter().zip(&row.truth) {
+                let last = text.lines().rev().find(|line| member(line, "asked") == Some(&hz.to_string()));
+                let is_right = last.and_then(|line| member(line, "verdict")) == Some("\"right\"");
+                let Some((on, told)) = truth else { continue };
+                self.tally.that(*on || !is_right, "night calls a recording right that is not", NAME);
+                self.tally.that(is_right || !told, "run tells a hop as right that night does not call right", NAME);
+                self.count.by_night += u64::from(is_right);
+            }
         }
     }
 }
@@ -231,9 +265,10 @@ pub fn run(program: &str, found: &[Found], hours: usize, per_mille: u64, seed: u
     let mut night = Night { program, folder, all, tally: Tally::default(), count: Count::default() };
     let mut random = Random(seed);
     (0..hours).for_each(|hour| night.hour(hour, &mut random));
-    let Count { right, not, unplugged, sure, runs } = night.count;
+    night.by_files();
+    let Count { right, not, unplugged, sure, runs, by_night } = night.count;
     println!(
-        "judge: a night of {} receivers and {hours} hours, {per_mille} of 1,000 transfers failing: {runs} runs of the program, {} of them killed; {unplugged} receivers plugged in anew; {} hops, {right} told as on their station, {not} not; the centre by sections sure {sure} times",
+        "judge: a night of {} receivers and {hours} hours, {per_mille} of 1,000 transfers failing: {runs} runs of the program, {} of them killed; {unplugged} receivers plugged in anew; {} hops, {right} told as on their station, {not} not, {by_night} right by `night`; the centre by sections sure {sure} times",
         night.all.len(),
         night.tally.kills,
         right + not
