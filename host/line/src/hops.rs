@@ -14,6 +14,9 @@ use pasetone::{EntryKind, Evidence, Table, Transcript, evidence};
 /// So many seconds behind an attempt the same frequency is asked for again.
 const AGAIN: u64 = 120;
 
+/// A window that is longer has only those sections more that touch the oscillator or its lock: what others send to the demodulator is summed up.
+const LONG: usize = 1 << 20;
+
 /// A hop that is judged.
 #[derive(Clone)]
 pub struct Hop {
@@ -72,6 +75,7 @@ pub struct Hops<'a> {
     /// The last attempts before the window, and the sections of the window: from the last one on that has planned a lock.
     before: Vec<u8>,
     window: Vec<u8>,
+    is_folded: bool,
     owed: Vec<&'static str>,
     open: Option<Open>,
     /// Of the sections before the first hop, those without a line.
@@ -91,6 +95,7 @@ impl<'a> Hops<'a> {
             before: places.section(),
             places,
             window: Vec::new(),
+            is_folded: false,
             owed: Vec::new(),
             open: None,
             preface: 0,
@@ -109,11 +114,12 @@ impl<'a> Hops<'a> {
         }
         self.take(&transcript);
         let has_failed = line.is_none() && transcript.iter().any(|entry| entry.failed);
-        let told = line.is_none().then(|| self.told()).flatten();
+        let tunes = line.is_none() && transcript.iter().any(|entry| places::tunes(&entry, self.address.unwrap_or(0)));
+        let told = if tunes { self.told() } else { None };
         match (&mut self.open, line) {
             (Some(open), None) => {
                 (open.unlogged, open.has_failed) = (open.unlogged + 1, open.has_failed || has_failed);
-                if transcript.iter().any(|entry| places::tunes(&entry, self.address.unwrap_or(0))) {
+                if tunes {
                     open.is_running = false;
                     open.tuned = told.map(|told| (told.rate.sure(), told.centre.sure()));
                 }
@@ -172,8 +178,13 @@ impl<'a> Hops<'a> {
         if transcript.iter().any(|entry| places::plans(&entry, address)) {
             self.before = self.places.section();
             self.window.clear();
+            self.is_folded = false;
         }
-        self.window.extend_from_slice(transcript.bytes());
+        if self.window.len() < LONG || transcript.iter().any(|entry| places::touches(&entry, address)) {
+            self.window.extend_from_slice(transcript.bytes());
+        } else {
+            self.is_folded = true;
+        }
         transcript.iter().for_each(|entry| self.places.see(&entry));
     }
 
@@ -208,7 +219,8 @@ impl<'a> Hops<'a> {
 
     /// What the sections up to here say. No reference is 0, and all are sections, so that the library refuses none of it.
     fn told(&self) -> Option<Evidence> {
-        let sections = [&self.before[..], &self.window].concat();
+        let behind = if self.is_folded { self.places.demod_section() } else { Vec::new() };
+        let sections = [&self.before[..], &self.window, &behind].concat();
         evidence(&sections, self.address.unwrap_or(0), self.references.0, self.references.1).ok()
     }
 
