@@ -4,14 +4,18 @@
 //! - A tuning of a line (`feed`), or one without a line in the log, begins a hop. All sections up to the next one belong to it: what moves its recording is its own.
 //! - The same frequency again within two minutes, where the hop has not come out right, is another attempt at it. The last attempt counts, and how many there were is told.
 //! - What stands before the first hop belongs to it.
+//! - Behind a tuning without a line nobody can tell whether a rate was for it or for the next one: what it has moved is not known then.
 use crate::logged::Line;
 use crate::places::{self, Places};
 use crate::verdict::{Case, Verdict};
 use pasetone::evidence::Lock;
-use pasetone::{EntryKind, Table, Transcript, evidence};
+use pasetone::{EntryKind, Evidence, Table, Transcript, evidence};
 
 /// So many seconds behind an attempt the same frequency is asked for again.
 const AGAIN: u64 = 120;
+
+/// A window that is longer has only those sections more that touch the oscillator or its lock: what others send to the demodulator is summed up.
+const LONG: usize = 1 << 20;
 
 /// A hop that is judged.
 #[derive(Clone)]
@@ -48,6 +52,8 @@ struct Open {
     /// Whether a run is on its way to the tuning.
     is_running: bool,
     unlogged: usize,
+    /// Rate and centre at the end of a tuning without a line.
+    tuned: Option<(Option<u64>, Option<u64>)>,
     /// Whether a step of a section without a line failed: then its call was not done.
     has_failed: bool,
 }
@@ -69,6 +75,7 @@ pub struct Hops<'a> {
     /// The last attempts before the window, and the sections of the window: from the last one on that has planned a lock.
     before: Vec<u8>,
     window: Vec<u8>,
+    is_folded: bool,
     owed: Vec<&'static str>,
     open: Option<Open>,
     /// Of the sections before the first hop, those without a line.
@@ -88,6 +95,7 @@ impl<'a> Hops<'a> {
             before: places.section(),
             places,
             window: Vec::new(),
+            is_folded: false,
             owed: Vec::new(),
             open: None,
             preface: 0,
@@ -106,8 +114,16 @@ impl<'a> Hops<'a> {
         }
         self.take(&transcript);
         let has_failed = line.is_none() && transcript.iter().any(|entry| entry.failed);
+        let tunes = line.is_none() && transcript.iter().any(|entry| places::tunes(&entry, self.address.unwrap_or(0)));
+        let told = if tunes { self.told() } else { None };
         match (&mut self.open, line) {
-            (Some(open), None) => (open.unlogged, open.has_failed) = (open.unlogged + 1, open.has_failed || has_failed),
+            (Some(open), None) => {
+                (open.unlogged, open.has_failed) = (open.unlogged + 1, open.has_failed || has_failed);
+                if tunes {
+                    open.is_running = false;
+                    open.tuned = told.map(|told| (told.rate.sure(), told.centre.sure()));
+                }
+            }
             (None, None) => self.preface += 1,
             (_, Some(line)) => self.called(line),
         }
@@ -132,8 +148,10 @@ impl<'a> Hops<'a> {
             Some(Line { to: Some(to), .. }) => (!is_running(*to)).then_some(Some(*to)),
             Some(line) => line.is_tuning().then_some(line.asked),
             None => {
+                // Of a run that is on its way it is the tuning.
+                let is_due = self.open.as_ref().is_some_and(|open| open.is_running && open.tuned.is_none());
                 let tunes = transcript.iter().any(|entry| places::tunes(&entry, self.address.unwrap_or(0)));
-                tunes.then(|| self.unlogged.asked.get(self.count).copied())
+                (tunes && !is_due).then(|| self.unlogged.asked.get(self.count).copied())
             }
         }
     }
@@ -160,8 +178,13 @@ impl<'a> Hops<'a> {
         if transcript.iter().any(|entry| places::plans(&entry, address)) {
             self.before = self.places.section();
             self.window.clear();
+            self.is_folded = false;
         }
-        self.window.extend_from_slice(transcript.bytes());
+        if self.window.len() < LONG || transcript.iter().any(|entry| places::touches(&entry, address)) {
+            self.window.extend_from_slice(transcript.bytes());
+        } else {
+            self.is_folded = true;
+        }
         transcript.iter().for_each(|entry| self.places.see(&entry));
     }
 
@@ -194,11 +217,15 @@ impl<'a> Hops<'a> {
         }
     }
 
+    /// What the sections up to here say. No reference is 0, and all are sections, so that the library refuses none of it.
+    fn told(&self) -> Option<Evidence> {
+        let behind = if self.is_folded { self.places.demod_section() } else { Vec::new() };
+        let sections = [&self.before[..], &self.window, &behind].concat();
+        evidence(&sections, self.address.unwrap_or(0), self.references.0, self.references.1).ok()
+    }
+
     /// A hop as the sections up to here leave it.
     fn close(&self, open: &Open) -> Hop {
-        let (tuner_xtal, driver_xtal) = self.references;
-        let sections = [&self.before[..], &self.window].concat();
-        let told = evidence(&sections, self.address.unwrap_or(0), tuner_xtal, driver_xtal);
         let is_named = !self.unlogged.asked.is_empty();
         let shift = if is_named { open.asked.and_then(|hz| self.shift(hz)) } else { open.shift };
         let owed: &[&str] = if is_named && open.has_failed { &["a call, by its steps"] } else { &self.owed };
@@ -219,11 +246,16 @@ impl<'a> Hops<'a> {
             verdict: Verdict::Unknown,
             why: Vec::new(),
         };
-        // No reference is 0, and all are sections: the library refuses nothing of it.
-        let Ok(told) = told else { return hop };
-        let case = Case { told, places: &self.places, driver_xtal, asked: open.asked, shift, owed, unlogged };
+        let Some(told) = self.told() else { return hop };
+        let case = Case { told, places: &self.places, driver_xtal: self.references.1, asked: open.asked, shift, owed, unlogged };
         (hop.centre, hop.rate, hop.lock, hop.tries) = (case.centre(), told.rate.sure(), told.lock, told.tries);
         (hop.verdict, hop.why) = case.judge();
+        if let Some((rate, centre)) = open.tuned.filter(|tuned| *tuned != (told.rate.sure(), told.centre.sure())) {
+            hop.rate = hop.rate.filter(|_| rate == told.rate.sure());
+            hop.centre = hop.centre.filter(|_| centre == told.centre.sure());
+            hop.verdict = Verdict::Unknown;
+            hop.why.push(String::from("rate or IF sent behind it, and no log tells for which hop"));
+        }
         hop
     }
 

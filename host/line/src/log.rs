@@ -215,7 +215,9 @@ impl Log {
     /// The sections of the lines without a place stand one behind the other from this byte on, in the order that they were noted.
     pub fn placed(&mut self, from: Option<u64>) {
         let Some(mut from) = from else {
-            self.fault.get_or_insert_with(|| String::from("what --append names is no file, so no section has a place in it: name a file"));
+            self.fault.get_or_insert_with(|| {
+                format!("{}: what --append names is no file, so no section has a place in it: name a file", shown(&self.path))
+            });
             return;
         };
         for line in self.lines.iter_mut().filter(|line| line.at.is_none()) {

@@ -105,11 +105,9 @@ impl Log {
     /// What is wrong with it, in words.
     pub fn told(&self, path: &OsStr) -> Option<String> {
         let (first, count) = self.torn?;
-        let lines = counted(count, "line");
-        Some(format!(
-            "{}: {lines} of it, the first of them {first}, cannot be read: a run died there; a section has none then",
-            called(path)
-        ))
+        let which =
+            if count == 1 { format!("line {first}") } else { format!("{}, the first of them line {first},", counted(count, "line")) };
+        Some(format!("{}: {which} cannot be read: a run died there, and a section that it tells of has no line", called(path)))
     }
 }
 

@@ -60,6 +60,9 @@ pub fn run(given: &Given, out: &mut Out) {
     for key in [Key::Joined, Key::Asked].into_iter().filter(|key| given.has(*key) && given.operands.len() > 1) {
         out.mistake(&format!("{} is of one file: give one", crate::command::option(key).name));
     }
+    if given.operands.iter().any(|name| is_standard(name)) && given.word(Key::Table).is_some_and(is_standard) {
+        out.mistake("standard input can be read once: give - to the night or to --table");
+    }
     if out.is_mistaken() {
         return;
     }

@@ -47,8 +47,9 @@ impl Parts {
             return Ok(None);
         }
         let file = File::open(name)?;
-        let is_file = file.metadata()?.is_file();
-        Ok(is_file.then_some(file))
+        let is = file.metadata()?;
+        // What says that it has no bytes may have some all the same, as files that the system makes up.
+        Ok((is.is_file() && is.len() > 0).then_some(file))
     }
 
     pub fn read(&self, at: u64, length: usize) -> Result<Vec<u8>, String> {

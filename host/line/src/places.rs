@@ -86,17 +86,30 @@ impl Places {
             let (byte, failed) = told(self.chip(*register))?;
             Some([2, failed, self.address, 2, 0, 0, 0, 0, *register, byte, 0, 0, 0, 0, 0, 0])
         });
-        let demod = self.demod.iter().zip(DEMODULATOR).filter_map(|(last, register)| {
+        closed(chip.flatten().chain(self.demod_writes()).collect())
+    }
+
+    /// The same of the demodulator alone: behind other sections it says nothing of a lock.
+    pub fn demod_section(&self) -> Vec<u8> {
+        closed(self.demod_writes().collect())
+    }
+
+    fn demod_writes(&self) -> impl Iterator<Item = u8> {
+        let writes = self.demod.iter().zip(DEMODULATOR).filter_map(|(last, register)| {
             let (byte, failed) = told(*last)?;
             let [low, high] = register.to_le_bytes();
             Some([4, failed, 1, 1, low, high, 0, 0, byte, 0, 0, 0, 0, 0, 0, 0])
         });
-        let mut section: Vec<u8> = chip.chain(demod).flatten().collect();
-        let distance = section.len() as u32;
-        section.extend((distance / 16).to_le_bytes());
-        section.extend(distance.to_le_bytes());
-        section
+        writes.flatten()
     }
+}
+
+/// Entries with their trailer.
+fn closed(mut section: Vec<u8>) -> Vec<u8> {
+    let distance = section.len() as u32;
+    section.extend((distance / 16).to_le_bytes());
+    section.extend(distance.to_le_bytes());
+    section
 }
 
 fn told(last: Last) -> Option<(u8, u8)> {
@@ -125,6 +138,12 @@ fn shakes(entry: &Entry) -> bool {
 /// Whether it names a register that the tries are counted from.
 pub fn plans(entry: &Entry, address: u8) -> bool {
     entry.kind == EntryKind::I2cWrite && entry.target == address && entry.registers().any(|(register, _)| PLANNED.contains(&register))
+}
+
+/// Whether it may change what is known of the oscillator or its lock.
+pub fn touches(entry: &Entry, address: u8) -> bool {
+    let is_status = entry.kind == EntryKind::I2cRead && entry.bytes.len() == 3;
+    entry.target == address && (is_status || entry.registers().any(|(register, _)| OSCILLATOR.contains(&register)))
 }
 
 /// Whether a step is a tuning's own: one that writes the PLL or the filter before it by itself. Initialise and reload write all registers, some at once.
@@ -198,18 +217,25 @@ mod tests {
         let (mut random, mut told) = (Random(38), std::collections::HashSet::new());
         for _ in 0..2_000 {
             let (mut whole, mut places, mut before, mut window) = (Vec::new(), Places::new(0x74), None, Vec::new());
+            let mut touching: Vec<u8> = Vec::new();
             for _ in 0..1 + random.below(24) {
                 let section = random.section();
                 whole.extend_from_slice(&section);
                 let (_, transcript) = Transcript::read(&section).unwrap();
                 if transcript.iter().any(|entry| plans(&entry, 0x74)) {
-                    (before, window) = (Some(places.section()), Vec::new());
+                    (before, window, touching) = (Some(places.section()), Vec::new(), Vec::new());
                 }
                 window.extend_from_slice(&section);
+                if transcript.iter().any(|entry| touches(&entry, 0x74)) {
+                    touching.extend_from_slice(&section);
+                }
                 transcript.iter().for_each(|entry| places.see(&entry));
                 let all = evidence(&whole, 0x74, 28_800_000, 28_799_914).unwrap();
                 if let Some(before) = &before {
                     assert_eq!(evidence(&[before, &window[..]].concat(), 0x74, 28_800_000, 28_799_914), Ok(all));
+                    // A long window without those that touch neither oscillator nor lock: what they sent to the demodulator is summed up behind the others.
+                    let folded = [before, &touching[..], &places.demod_section()].concat();
+                    assert_eq!(evidence(&folded, 0x74, 28_800_000, 28_799_914), Ok(all));
                 }
                 // By the last attempts alone everything but the waiting for a lock.
                 let summed = evidence(&places.section(), 0x74, 28_800_000, 28_799_914).unwrap();
