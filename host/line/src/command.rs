@@ -174,7 +174,7 @@ pub const COMMANDS: &[Command] = &[
     },
     Command {
         name: "start",
-        operands: "[HZ] --device N --state FILE",
+        operands: "[HZ] --device N",
         about: "a receiver on the bus, from power on",
         more: start::MORE,
         example: "start 102.3M --device 0 --state state --append night",

@@ -5,11 +5,12 @@ use crate::out::{End, Out};
 use pasetone_usb::{Found, Holder};
 
 pub const MORE: &[&str] = &[
-    "A line for each receiver that sysfs lists (0bda:2838 and 0bda:2832): the number, which --device takes",
-    "and which is another when receivers are plugged in or out; bus and device; id; port, which stays the",
-    "same while it is plugged in there; serial; who has it, and what it says of itself. --device takes the",
-    "serial and the port too. A driver of the kernel that has it is refused, or detached by --detach; what",
-    "another program has is refused. The exit status is 1 where none is plugged in.",
+    "A line for each receiver that sysfs lists (0bda:2838 and 0bda:2832): the number, which --device",
+    "takes and which is another when receivers are plugged in or out; bus and device; id; port, which",
+    "stays the same while it is plugged in there; serial; who has it; what it says of itself.",
+    "--device takes the serial and the port too. A driver of the kernel that has it is refused, or",
+    "detached by --detach; what another program has is refused. The exit status is 1 where none is",
+    "plugged in.",
 ];
 
 pub fn run(given: &Given, out: &mut Out) {

@@ -21,22 +21,22 @@ use std::thread;
 use std::time::{Duration, Instant};
 
 pub const MORE: &[&str] = &[
-    "SCHEDULE is a text; what stands behind # is a comment. A line for each receiver, and behind it one for",
-    "each of its stations:",
+    "SCHEDULE is a text; what stands behind # is a comment. It has a line for each receiver, and",
+    "behind it one for each of its stations:",
     "    receiver NAME DEVICE [kind r820t] [address N] [board generic] [table FILE] [reference HZ]",
-    "             [ppm N] [rate N] [gain DB] [if HZ]                                   (in one line)",
+    "             [ppm N] [rate N] [gain DB] [if HZ]                              (all in one line)",
     "        20:00 102.3M",
     "        21:00 98.5M",
     "NAME is written into the log, and names three files in the folder: NAME.state, NAME.night and",
-    "NAME.night.log, as --state, --append and --log of hop have them: `night` judges the last two. DEVICE is",
-    "as --device takes it; the settings",
-    "are start's. Times are UTC, and hold every day. When it begins each receiver goes to the station of",
-    "that time, and then to each at its time, for --hours. A receiver is opened for each hop, and brought up",
-    "where its state does not know it; a call that a step stopped is made again behind a reload, three times",
-    "at most. A line is printed for each hop, a count at the end. INT, TERM and HUP end it behind the calls",
-    "under way. Killed and run again it recovers every receiver, and goes on by the clock.",
-    "The exit status is 0 only where every hop was made, is done, locked and on its station. --from and",
-    "--speed are for a dry run on simulated receivers (docs/RECEIVER.md).",
+    "NAME.night.log, as --state, --append and --log of hop have them; `night` judges the last two.",
+    "DEVICE is as --device takes it; the settings are start's. Times are UTC, and hold every day.",
+    "When it begins each receiver goes to the station of that time, and then to each at its time, for",
+    "--hours. A receiver is opened for each hop, and brought up where its state does not know it; a",
+    "call that a step stopped is made again behind a reload, three times at most. A line is printed",
+    "for each hop, a count at the end. INT, TERM and HUP end it behind the calls under way. Killed",
+    "and run again it recovers every receiver, and goes on by the clock.",
+    "The exit status is 0 only where every hop was made, is done, locked and on its station. --from",
+    "and --speed are for a dry run on simulated receivers (docs/RECEIVER.md).",
 ];
 
 pub const OPTIONS: &[Key] = &[Key::Folder, Key::From, Key::Hours, Key::Speed, Key::Detach, Key::Quiet];
@@ -63,6 +63,8 @@ struct Clock {
 /// What a hop came to.
 struct Hop {
     end: End,
+    /// Whether the receiver was there.
+    is_made: bool,
     text: String,
     /// What went wrong on its way, in lines.
     told: Vec<String>,
@@ -76,7 +78,10 @@ struct Count {
     doubtful: usize,
     refused: usize,
     stopped: usize,
+    /// The receiver was not there, or not to be opened.
     unmade: usize,
+    /// A signal came before.
+    unreached: usize,
 }
 
 pub fn run(given: &Given, out: &mut Out) {
@@ -87,7 +92,8 @@ pub fn run(given: &Given, out: &mut Out) {
     let counts: Vec<Count> = thread::scope(|scope| {
         let night = |row: &Row| watch(row, &row.hops(from, hours), (&folder, detach), &clock, (&printer, given.has(Key::Quiet)));
         let threads: Vec<_> = rows.iter().map(|row| scope.spawn(move || night(row))).collect();
-        threads.into_iter().map(|thread| thread.join().unwrap_or(Count { unmade: 1, ..Count::default() })).collect()
+        // A thread that has panicked has told nothing of its hops.
+        threads.into_iter().map(|thread| thread.join().unwrap_or(Count { stopped: 1, ..Count::default() })).collect()
     });
     summary(&rows, &counts, given, out);
 }
@@ -161,12 +167,16 @@ fn watch(
     let mut count = Count::default();
     for (at, (second, hz)) in hops.iter().enumerate() {
         if !clock.reaches(*second) {
-            count.unmade += hops.len() - at;
+            count.unreached += hops.len() - at;
             break;
         }
         let (time, late) = clock.words(*second);
         let hop = hop(row, *hz, folder, detach);
-        count.add(hop.end);
+        if hop.is_made {
+            count.add(hop.end)
+        } else {
+            count.unmade += 1
+        }
         let late = if late >= Duration::from_secs(2) { format!(", begun {} s late", late.as_secs()) } else { String::new() };
         let mut out = printer.lock().unwrap_or_else(PoisonError::into_inner);
         for line in &hop.told {
@@ -191,9 +201,9 @@ fn hop(row: &Row, hz: u64, folder: &Path, detach: bool) -> Hop {
     match made(row, hz, folder, detach, &mut own) {
         Ok((end, text)) => {
             let end = end.max(own.end());
-            Hop { end, text, told: own.told() }
+            Hop { end, is_made: true, text, told: own.told() }
         }
-        Err(why) => Hop { end: own.end().max(End::Stopped), text: format!("NOT MADE: {why}"), told: own.told() },
+        Err(why) => Hop { end: own.end().max(End::Stopped), is_made: false, text: format!("NOT MADE: {why}"), told: own.told() },
     }
 }
 
@@ -250,15 +260,19 @@ fn told(run: &crate::run::Run, done: bool, table: &Table, own: &mut Out) -> (End
     }
     let standing = Standing::of(records, Some(table));
     let lock = run.lock().map_or_else(String::new, |lock| format!("{lock}"));
-    let centre = Station::of(records, Some(table)).line();
+    let centre = Station::of(records, Some(table)).centre();
+    let centre = centre.map_or_else(
+        || String::from("centre UNKNOWN"),
+        |centre| format!("centre {centre} Hz ({:+} Hz)", i128::from(centre) - i128::from(records.owed.hz)),
+    );
     let again = run.made.iter().filter(|made| made.result.is_err()).count();
     let again = if again > 0 { format!(", {} made again", counted(again, "call")) } else { String::new() };
     match standing.end() {
-        End::Done => (End::Done, format!("on station, {lock}; {centre}{again}")),
+        End::Done => (End::Done, format!("on station, {lock}, {centre}{again}")),
         end => {
             let words = if end == End::NotLocked { "NOT LOCKED" } else { "DOUBTFUL" };
             standing.tell("the next hop makes what is owed", own);
-            (end, format!("{words}, {lock}; {centre}{again}"))
+            (end, format!("{words}, {lock}, {centre}{again}"))
         }
     }
 }
@@ -275,15 +289,21 @@ impl Count {
     }
 
     fn all(&self) -> usize {
-        self.right + self.not_locked + self.doubtful + self.refused + self.stopped + self.unmade
+        self.right + self.not_locked + self.doubtful + self.refused + self.stopped + self.unmade + self.unreached
     }
 
     fn words(&self) -> String {
-        let Count { right, not_locked, doubtful, refused, stopped, unmade } = self;
-        let all = counted(self.all(), "hop");
-        format!(
-            "{all}: {right} on station, {not_locked} not locked, {doubtful} doubtful, {refused} refused, {stopped} stopped, {unmade} not made"
-        )
+        let Count { right, not_locked, doubtful, refused, stopped, unmade, unreached } = self;
+        let others = [
+            (not_locked, "not locked"),
+            (doubtful, "doubtful"),
+            (refused, "refused"),
+            (stopped, "stopped"),
+            (unmade, "not made"),
+            (unreached, "not come to"),
+        ];
+        let others: String = others.iter().filter(|(count, _)| **count > 0).map(|(count, what)| format!(", {count} {what}")).collect();
+        format!("{}: {right} on station{others}", counted(self.all(), "hop"))
     }
 }
 
@@ -296,13 +316,18 @@ fn summary(rows: &[Row], counts: &[Count], given: &Given, out: &mut Out) {
         sum.refused += count.refused;
         sum.stopped += count.stopped;
         sum.unmade += count.unmade;
+        sum.unreached += count.unreached;
         if count.right < count.all() && !given.has(Key::Quiet) {
             out.line(&format!("{}: {}", row.name, count.words()));
         }
     }
+    // Whatever was told of a hop: what is not right is no status 0.
+    if sum.stopped + sum.unmade > 0 {
+        out.ends(End::Stopped);
+    }
     let line = format!("{}, {}", counted(rows.len(), "receiver"), sum.words());
-    if sum.unmade > 0 {
-        out.tell(End::Refused, &format!("ended by a signal: {} not made", counted(sum.unmade, "hop")));
+    if sum.unreached > 0 {
+        out.tell(End::Refused, &format!("ended by a signal: {} not come to", counted(sum.unreached, "hop")));
     }
     if !given.has(Key::Quiet) {
         out.line(&line);

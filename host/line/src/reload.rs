@@ -23,8 +23,8 @@ pub const MORE: &[&str] = &[
     "receiver: outcomes stand in for one. The record's file stays as it is; --keep writes the next",
     "record, and may name the same file. A record does not name a table: give --table again. With",
     "--state no RECORD is named: the state has it, with its table. With --device the steps go to that",
-    "receiver on the bus, three times more where one fails; one that was plugged in anew has nothing to be",
-    "sent again, and is told: start or hop brings it up.",
+    "receiver on the bus, three times more where one fails; one that was plugged in anew has nothing",
+    "to be sent again, and is told: start or hop brings it up.",
 ];
 
 pub const OPTIONS: &[Key] = &[

@@ -14,14 +14,16 @@ use crate::state::Keeper;
 use crate::{advice, device, hop, json, numbers};
 
 pub const MORE: &[&str] = &[
-    "The order is that of the Rust's Driver::with_index, in the parts that document 01 has: power on, a wait",
-    "of 100 ms; on a V4 GPIO 4 and 5, a wait of 250 ms; initialise, low IF, spectrum, IF, reset of the",
-    "demodulator, its IF and rate, spectrum, streaming. Then set_ppm, sample rate, gain and IF by the words,",
-    "as hop has them, and with HZ the tuning. Nothing asks the chip for its kind: give --kind r820t where",
-    "it is one, or the first write to the tuner is refused. The board is the V4, or by --board.",
-    "A call that a step stopped is made again (behind a reload, once the tuner is initialised), three times",
-    "at most. --state is made where it is not there; where it has a receiver that one's words are taken, and",
-    "its record is begun anew. Without HZ the exit status is 0 where all but the tuning is done.",
+    "The order is that of the Rust's Driver::with_index, in the parts that document 01 has: power on,",
+    "a wait of 100 ms; on a V4 GPIO 4 and 5, a wait of 250 ms; initialise, low IF, spectrum, IF,",
+    "reset of the demodulator, its IF and rate, spectrum, streaming. Then sample rate, gain and IF by",
+    "the words, as hop has them, and with HZ the tuning; a correction comes first. Nothing asks the",
+    "chip for its kind: give --kind r820t where it is one, or the first write to the tuner is",
+    "refused. The board is the V4, or by --board.",
+    "A call that a step stopped is made again (behind a reload, once the tuner is initialised), three",
+    "times at most. --state is made where it is not there; where it has a receiver that one's words",
+    "are taken, and its record is begun anew. Without HZ the exit status is 0 where all but the",
+    "tuning is done. INT, TERM and HUP end it behind the call under way.",
 ];
 
 pub const OPTIONS: &[Key] = &[

@@ -210,7 +210,7 @@ impl Night<'_> {
             self.count.not += self.all.len() as u64 - right;
             self.tally.that((ended == Some(0)) == (right == self.all.len() as u64), "status 0 is not where every hop is right", NAME);
             self.tally.that(
-                text.lines().last().is_some_and(|line| line.contains(&format!(": {right} on station, "))),
+                text.lines().last().is_some_and(|line| line.contains(&format!(": {right} on station"))),
                 "the count is another",
                 NAME,
             );
