@@ -68,8 +68,9 @@ fn options(given: &Given, without: &[Key]) -> Vec<String> {
 fn reload(record: &OsStr, given: &Given) -> String {
     let mut words = vec![program(), String::from("reload")];
     words.push(if given.has(Key::State) { format!("--state {}", file(record)) } else { format!("{0} --keep {0}", file(record)) });
-    words.extend(given.word(Key::Append).map(|name| option_words(Key::Append, name)));
-    words.extend(given.word(Key::Quiet).map(|value| option_words(Key::Quiet, value)));
+    for key in [Key::Device, Key::Append, Key::Log, Key::Name, Key::Quiet] {
+        words.extend(given.word(key).map(|value| option_words(key, value)));
+    }
     words.join(" ")
 }
 
@@ -94,7 +95,17 @@ fn hop_over(record: &OsStr, hz: &str, owed: &Owed, given: &Given) -> String {
 /// The way back over a kept record: every register again where a call was cut or some are doubtful, then the tuning with every call that is owed.
 pub fn over(record: &OsStr, hz: &str, records: &Records, given: &Given, was_cut: bool) -> String {
     let hop = hop_over(record, hz, &records.owed, given);
-    if was_cut || records.tuner.doubtful().next().is_some() { format!("{}; {hop}", reload(record, given)) } else { hop }
+    // On a receiver of the bus a hop reloads by itself.
+    let reloads = !given.has(Key::Device) && (was_cut || records.tuner.doubtful().next().is_some());
+    if reloads { format!("{}; {hop}", reload(record, given)) } else { hop }
+}
+
+/// A command made again with all of its words.
+pub fn same(command: &str, given: &Given) -> String {
+    let mut words = vec![program(), String::from(command)];
+    words.extend(given.operands.iter().map(|word| quoted_if_needed(word)));
+    words.extend(options(given, &[]));
+    words.join(" ")
 }
 
 /// The frequency that a record was last asked for.

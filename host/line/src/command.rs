@@ -2,9 +2,13 @@
 //!
 //! A new command is a file with its `run`, a row in `COMMANDS`, and a row in `OPTIONS` for an option that none has yet.
 use crate::files::{self, Sink, Source, is_standard, shown};
+use crate::log::{self, Line, Log};
 use crate::out::{End, Out};
 use crate::record::{self, Records};
-use crate::{entries, feed, held, help, hop, packets, parting, plan, reload, restore, settings, show, table, whereabouts, worksheet};
+use crate::{
+    devices, entries, feed, held, help, hop, night, nightly, packets, parting, plan, reload, restore, settings, show, start, table,
+    whereabouts, worksheet,
+};
 use std::ffi::{OsStr, OsString};
 use std::os::unix::ffi::OsStrExt;
 
@@ -59,6 +63,15 @@ pub const COMMANDS: &[Command] = &[
         example: "feed line --record record --keep record --append sections",
         options: feed::OPTIONS,
         run: feed::run,
+    },
+    Command {
+        name: "night",
+        operands: "FILE..",
+        about: "what each recording is, by what was sent",
+        more: night::MORE,
+        example: "night sections --html night.html",
+        options: night::OPTIONS,
+        run: night::run,
     },
     Command {
         name: "show",
@@ -151,6 +164,33 @@ pub const COMMANDS: &[Command] = &[
         run: entries::run,
     },
     Command {
+        name: "devices",
+        operands: "",
+        about: "the receivers that are plugged in",
+        more: devices::MORE,
+        example: "devices",
+        options: &[Key::Json, Key::Quiet],
+        run: devices::run,
+    },
+    Command {
+        name: "start",
+        operands: "[HZ] --device N",
+        about: "a receiver on the bus, from power on",
+        more: start::MORE,
+        example: "start 102.3M --device 0 --state state --append night",
+        options: start::OPTIONS,
+        run: start::run,
+    },
+    Command {
+        name: "run",
+        operands: "SCHEDULE --folder DIR",
+        about: "a night of many receivers",
+        more: nightly::MORE,
+        example: "run schedule --folder tonight",
+        options: nightly::OPTIONS,
+        run: nightly::run,
+    },
+    Command {
         name: "help",
         operands: "[COMMAND]",
         about: "this page, or a command's",
@@ -183,8 +223,22 @@ pub enum Key {
     Cut,
     Section,
     Append,
+    Log,
+    Name,
+    /// The log that is joined, the receiver that it is of, and the chip, where a night is judged.
+    Joined,
+    Whose,
+    Tuner,
+    Asked,
+    Html,
     Out,
     State,
+    Device,
+    Detach,
+    Folder,
+    From,
+    Hours,
+    Speed,
     Record,
     Keep,
     Json,
@@ -238,10 +292,23 @@ pub const OPTIONS: &[Opt] = &[
     row(Key::Replies, "--replies", Some("FILE"), A_SCRIPT, "what is read: 3 bytes where hop's board has paths, then 35 a tuning", "a lock"),
     row(Key::Cut, "--cut", Some("N"), "a number from 1", "so many bytes are fed at once; what is printed is the same", "as it is read"),
     row(Key::State, "--state", Some("FILE"), A_FILE, "one file for the receiver, in place of --record and --keep", "none"),
+    row(Key::Device, "--device", Some("N|SERIAL"), "a receiver's number, serial or port, as `devices` lists them", "the receiver on the bus that the steps go to; with --state", "none"),
+    row(Key::Detach, "--detach", None, "", "a driver of the kernel that holds the receiver is detached, for good", ""),
+    row(Key::Folder, "--folder", Some("DIR"), "a folder's name", "the receivers' states, nights and logs are there; it is made", "must be given"),
+    row(Key::From, "--from", Some("HH:MM"), "a time of day, as 20:00", "the night's clock begins at this time", "now, UTC"),
+    row(Key::Hours, "--hours", Some("N"), "a number from 1 to 240", "it ends after so many hours", "24"),
+    row(Key::Speed, "--speed", Some("N"), "a number from 1 to 1000000", "the night's clock goes so many times as fast", "1"),
     row(Key::Record, "--record", Some("FILE"), A_SCRIPT, "the record to start from, as --keep has left it", "a fresh one"),
     row(Key::Keep, "--keep", Some("FILE"), A_FILE, "the record is written there at the end, also of a stopped run", "none"),
     row(Key::Section, "--section", Some("FILE"), A_FILE, "the sections, end to end, are written there; a file there is replaced", "none"),
     row(Key::Append, "--append", Some("FILE"), A_FILE, "the sections are written there behind what the file holds", "none"),
+    row(Key::Log, "--log", Some("FILE"), A_FILE, "a line of JSON for each section of --append, as `night` joins it", "none"),
+    row(Key::Name, "--name", Some("NAME"), "a name of at most 64 characters", "the receiver's, for the lines of --log", "none"),
+    row(Key::Joined, "--log", Some("FILE"), A_FILE, "the log of the one FILE", "FILE.log beside it, if there"),
+    row(Key::Whose, "--name", Some("NAME"), "a receiver's name", "the receiver, where the log is of several", "all"),
+    row(Key::Asked, "--asked", Some("HZ,HZ.."), "frequencies with commas between, as 102.3M,7.1M", "what each hop was asked, without a log", "none"),
+    row(Key::Tuner, "--address", Some("N"), "a number to 255 (0xff)", "the chip's address, without a log", "the first written to"),
+    row(Key::Html, "--html", Some("FILE"), A_FILE, "the same as a page for a browser; a file there is replaced", "none"),
     row(Key::Out, "--out", Some("FILE"), A_FILE, "the answer's bytes are written there; a file there is replaced", "none"),
     row(Key::Json, "--json", None, "", "the same as JSON in place of the table", ""),
     row(Key::Quiet, "--quiet", None, "", "print nothing but what went wrong; the exit status tells the rest", ""),
@@ -262,6 +329,8 @@ pub enum Asked {
 
 /// The words behind a command: operands, and options with their values. Of an option that is given twice the last counts.
 pub struct Given {
+    /// The command's name.
+    pub command: &'static str,
     pub operands: Vec<OsString>,
     options: Vec<(Key, OsString)>,
 }
@@ -353,12 +422,13 @@ impl Given {
 
     /// Told where two of the files that a run writes are one.
     pub fn names_other_files(&self, out: &mut Out) {
-        let written = [Key::Section, Key::Append, Key::Keep, Key::State];
+        let written = [Key::Section, Key::Append, Key::Log, Key::Keep, Key::State];
         for (at, key) in written.iter().enumerate().filter(|(_, key)| self.has(**key)) {
             for other in written[at + 1..].iter().filter(|other| self.word(**other) == self.word(*key)) {
                 out.mistake(&format!("{} and {} name one file: name two", option(*key).name, option(*other).name));
             }
         }
+        log::judge(self, out);
     }
 
     /// The files that a run writes, opened before its first call. One that is written behind what it holds comes last: to open it makes it.
@@ -371,7 +441,8 @@ impl Given {
         // With a state it is the state's.
         let name = self.target(Key::Append, out).filter(|_| !out.is_mistaken() && !self.has(Key::State));
         let append = name.and_then(|name| Sink::open_behind(name).map_err(|why| out.mistake(&format!("--append {why}"))).ok());
-        Kept { section, append, record, begun: false }
+        let log = append.as_ref().and_then(|_| Log::open(self, out));
+        Kept { section, append, log, record, begun: false }
     }
 
     /// The name of a file to be written.
@@ -389,6 +460,7 @@ impl Given {
 pub struct Kept {
     pub section: Option<Sink>,
     pub append: Option<Sink>,
+    pub log: Option<Log>,
     pub record: Option<Sink>,
     /// Whether the record says that a run is under way.
     pub begun: bool,
@@ -417,22 +489,41 @@ impl Kept {
                 *sink = None;
             }
         }
+        if let (Some(night), Some(log), false) = (&self.append, &mut self.log, sections.is_empty()) {
+            log.placed(night.placed());
+        }
+    }
+
+    /// Lines for the log, of sections that are handed on next.
+    pub fn note(&mut self, lines: impl IntoIterator<Item = Line>) {
+        if let Some(log) = &mut self.log {
+            lines.into_iter().for_each(|line| log.note(Some(line)));
+        }
+    }
+
+    /// Hands the night's sections to the disk, then their lines.
+    pub fn log(&mut self) {
+        if let (Some(night), Some(log)) = (&self.append, &mut self.log) {
+            log.write(night);
+        }
     }
 
     /// The last sections and the records, also of a run that stopped.
     pub fn end(mut self, sections: &[u8], records: Option<&Records>, out: &mut Out) {
-        if !sections.is_empty() {
-            self.begin(records, out);
-        }
+        self.add(sections, records, out);
+        self.log();
         for (sink, option) in [(self.section, "--section"), (self.append, "--append")] {
             if let Some(sink) = sink {
-                sink.keep_or_tell(sections, option, out);
+                sink.keep_or_tell(&[], option, out);
             }
         }
         match (self.record, records) {
             (Some(sink), Some(records)) => sink.keep_or_tell(&record::write(records), "--keep", out),
             (Some(_), None) => out.tell(End::Refused, "--keep: no record was made, so none is written: see the answer"),
             (None, _) => {}
+        }
+        if let Some(log) = self.log {
+            log.end(out);
         }
     }
 }
@@ -471,7 +562,7 @@ fn behind(command: &'static Command, words: Vec<OsString>, out: &mut Out) -> Ask
     if options().any(|word| word == "--version") {
         return Asked::Version;
     }
-    let mut given = Given { operands: Vec::new(), options: Vec::new() };
+    let mut given = Given { command: command.name, operands: Vec::new(), options: Vec::new() };
     let mut words = words.into_iter();
     while let Some(word) = words.next() {
         if word == "--" {

@@ -3,7 +3,10 @@
 use crate::answer::{self, Told};
 use crate::boards::Place;
 use crate::command::{Given, Kept, Key};
+use crate::device::Link;
 use crate::files::{Source, is_standard};
+use crate::live::{Live, Wanted};
+use crate::log::Line as Logged;
 use crate::names::{Gain, counted};
 use crate::out::{End, Out};
 use crate::owed::{Job, Owed};
@@ -17,7 +20,7 @@ use crate::standing::Standing;
 use crate::state::Keeper;
 use crate::station::Station;
 use crate::{advice, hop, json, numbers, signals, terminal};
-use pasetone::{Board, Command, Driver, EntryKind, Error, Fed, Stream, Tuner};
+use pasetone::{Board, Command, Driver, EntryKind, Error, Fed, Stream, Table, Transcript, Tuner};
 use std::sync::{Arc, Condvar, Mutex, PoisonError};
 use std::thread;
 use std::time::Duration;
@@ -37,6 +40,8 @@ pub const MORE: &[&str] = &[
     "It talks to no receiver: outcomes and replies stand in for one, and each command goes on in them",
     "where the ones before have ended. A fresh record is not initialised, so that registers which no",
     "command writes are doubtful and the station is not known: --keep of hop makes one that is.",
+    "With --device the commands go to that receiver on the bus, which is brought up first where the state",
+    "does not know it; a command that a step stopped is made again behind a reload, three times at most.",
 ];
 
 pub const OPTIONS: &[Key] = &[
@@ -50,10 +55,14 @@ pub const OPTIONS: &[Key] = &[
     Key::Outcomes,
     Key::Replies,
     Key::State,
+    Key::Device,
+    Key::Detach,
     Key::Record,
     Key::Keep,
     Key::Section,
     Key::Append,
+    Key::Log,
+    Key::Name,
     Key::Json,
     Key::Quiet,
 ];
@@ -70,10 +79,11 @@ struct Request {
     /// The length of a chunk.
     cut: usize,
     keeper: Option<Keeper>,
+    link: Option<Link>,
 }
 
 pub fn run(given: &Given, out: &mut Out) {
-    let Some(Request { start, place, script, mut source, cut, keeper }) = request(given, out) else { return };
+    let Some(Request { start, place, script, mut source, cut, mut keeper, link }) = request(given, out) else { return };
     // What is read at once is whole chunks, by a thread of its own, so that a signal ends the line while it brings nothing.
     signals::heed();
     let hatch = Arc::new(Hatch::default());
@@ -84,16 +94,37 @@ pub fn run(given: &Given, out: &mut Out) {
     let next = |out: &mut Out| hatch.take().map_err(|why| out.mistake(&format!("feed {why}"))).unwrap_or_default();
     let mut block = next(out);
     let head = Head::of(&start, &place, None);
-    let Some(records) = begun(start, given, out).filter(|_| !out.is_mistaken()) else { return };
+    let table = place.table.clone();
+    let (records, live) = match (link, keeper.take_if(|_| given.has(Key::Device))) {
+        (Some(link), Some(keeper)) => match ready(start, given, &table, keeper, link, out) {
+            Some(live) => (Some(live.records.clone()), Some(live)),
+            None => return,
+        },
+        _ => (begun(start, given, out), None),
+    };
+    let Some(records) = records.filter(|_| !out.is_mistaken()) else { return };
     let files = given.kept_files(out);
     if out.is_mistaken() {
         return;
     }
-    let mut line = Line { given, place, records, script, files, keeper, stream: Stream::new(), count: Count::default(), unfed: 0 };
+    let mut line = Line {
+        given,
+        place,
+        records,
+        script,
+        files,
+        keeper,
+        live,
+        held: Vec::new(),
+        stream: Stream::new(),
+        count: Count::default(),
+        unfed: 0,
+    };
     line.head(&head, out);
     while !block.is_empty() && !out.is_closed() {
         block.chunks(cut).for_each(|chunk| line.chunk(chunk, out));
-        line.keeper.iter_mut().for_each(Keeper::sync);
+        line.keeper().into_iter().for_each(Keeper::sync);
+        line.files.log();
         out.flush();
         block = if line.is_ended() { Vec::new() } else { next(out) };
     }
@@ -158,7 +189,8 @@ fn request(given: &Given, out: &mut Out) -> Option<Request> {
     if file.is_some_and(|file| given.word(Key::Append) == Some(file)) {
         out.mistake("--append names the line itself, which is read while it is written: name another file");
     }
-    let mut keeper = Keeper::open(given, out);
+    let link = Link::open(given, out);
+    let mut keeper = Keeper::open(given, link.as_ref(), out);
     keeper.iter_mut().for_each(Keeper::seldom_synced);
     let (start, place) = hop::begins(given, &receiver, keeper.as_ref(), out);
     let script = Endless::of(given, fail, start.as_ref().map(Start::kind), out);
@@ -169,7 +201,23 @@ fn request(given: &Given, out: &mut Out) -> Option<Request> {
     if out.is_mistaken() {
         return None;
     }
-    Some(Request { start: start?, place, script, source, cut: cut.unwrap_or(BLOCK).min(BLOCK), keeper })
+    Some(Request { start: start?, place, script, source, cut: cut.unwrap_or(BLOCK).min(BLOCK), keeper, link })
+}
+
+/// A receiver on the bus that commands may be sent to: brought up where it is not known, with its registers sent again where one is doubtful, and the tuning made again that a run died in. `None` where that was not
+/// done, which has then been told.
+fn ready<'a>(start: Start, given: &Given, table: &'a Table, keeper: Keeper, link: Link, out: &mut Out) -> Option<Live<'a>> {
+    let wanted = Wanted { hz: None, ppm: None, initialise: false, rate: None, gain: None, if_hz: None };
+    let mut live =
+        Live::new(start, &wanted, table, keeper, link).map_err(|error| answer::refused(given, error, &error.to_string(), out)).ok()?;
+    if live.hop(&wanted, out) && live.tune_again(out).is_some() {
+        live.run.made.clear();
+        return Some(live);
+    }
+    let to_do = advice::same("feed", given);
+    out.tell(End::Stopped, &format!("feed: the receiver is not ready, and no command was fed; to do: {to_do}"));
+    live.end().keep_state(out);
+    None
 }
 
 /// The records that a line begins with; a refusal is told.
@@ -204,6 +252,10 @@ struct Line<'a> {
     files: Kept,
     /// Of `--state`: each command is stored when it is answered.
     keeper: Option<Keeper>,
+    /// Of `--device`: the receiver, with its state.
+    live: Option<Live<'a>>,
+    /// Its bytes that are no whole command yet.
+    held: Vec<u8>,
     stream: Stream,
     count: Count,
     /// Bytes that had come when a signal ended the line.
@@ -213,7 +265,17 @@ struct Line<'a> {
 impl Line<'_> {
     /// Ended by a signal, or since the state cannot be written.
     fn is_ended(&self) -> bool {
-        signals::came() || self.keeper.as_ref().is_some_and(Keeper::is_faulty)
+        let keeper = self.live.as_ref().map_or(self.keeper.as_ref(), |live| live.run.keeper.as_ref());
+        signals::came() || keeper.is_some_and(Keeper::is_faulty)
+    }
+
+    fn keeper(&mut self) -> Option<&mut Keeper> {
+        self.live.as_mut().map_or(self.keeper.as_mut(), |live| live.run.keeper.as_mut())
+    }
+
+    /// How many bytes of a command have come.
+    fn pending(&self) -> usize {
+        if self.live.is_some() { self.held.len() } else { self.stream.pending() }
     }
 
     /// A chunk is handed on up to the end of each command, since its script begins where the steps of the one before have ended.
@@ -223,14 +285,50 @@ impl Line<'_> {
                 self.unfed += chunk.len();
                 return;
             }
-            let (piece, rest) = chunk.split_at(chunk.len().min(Command::SIZE - self.stream.pending()));
+            let (piece, rest) = chunk.split_at(chunk.len().min(Command::SIZE - self.pending()));
             chunk = rest;
+            if self.live.is_some() {
+                self.held.extend(piece);
+                if let Some(command) = self.held.first_chunk().copied() {
+                    self.held.clear();
+                    self.sent(&command, out);
+                }
+                continue;
+            }
             let Line { place, records, script, stream, .. } = self;
             let before = records.clone();
             for fed in stream.feed(&mut records.driver, &mut records.tuner, &place.table, piece, |_| script.script()) {
                 self.answered(fed, &before, out);
             }
         }
+    }
+
+    /// A command to the receiver on the bus. Its tries stand one behind the other; the last one's answer is the command's.
+    fn sent(&mut self, bytes: &[u8; Command::SIZE], out: &mut Out) {
+        let Some(live) = &mut self.live else { return };
+        let command = sent(bytes);
+        let first = live.run.steps;
+        match command.map(|command| (command, stored(command))) {
+            Some((command, Some(to))) => drop(live.make(call(command), to, out)),
+            Some((Command::Correction(ppm), _)) => drop(live.correct(ppm)),
+            _ => drop(live.run.after(Call::Unknown, Err(Error::Command), Transcript::default())),
+        }
+        self.records = live.records.clone();
+        self.script.steps += live.run.steps - first;
+        let mut tries = std::mem::take(&mut live.run.made);
+        // None was made: a signal came, or the state cannot be written.
+        let Some(made) = tries.pop() else {
+            self.unfed += Command::SIZE;
+            return;
+        };
+        let value = match command {
+            Some(Command::Frequency(hz)) => hz,
+            _ => self.records.tuner.gain().to_bits().into(),
+        };
+        if !self.given.has(Key::Json) && !self.given.has(Key::Quiet) {
+            tries.iter().for_each(|made| report::made_rows(made, out));
+        }
+        self.told(bytes, &made, value, out);
     }
 
     fn answered(&mut self, fed: Fed, before: &Records, out: &mut Out) {
@@ -246,16 +344,21 @@ impl Line<'_> {
             owed.made(job(command), made.result, &made.transcript, tuner, driver);
             self.store(command, before, &made, value);
         }
+        self.told(&fed.command, &made, value, out);
+    }
+
+    /// The answer of a command that was made.
+    fn told(&mut self, bytes: &[u8; Command::SIZE], made: &Made, value: u64, out: &mut Out) {
         let told = match made.result {
-            Ok(()) => self.done(&made, value),
-            Err(error) => self.refused(&made, error, &fed.command),
+            Ok(()) => self.done(made, value),
+            Err(error) => self.refused(made, error, bytes),
         };
         match made.result {
             Ok(()) => self.count.done += 1,
             Err(Error::Step { .. }) => self.count.stopped += 1,
             Err(_) => self.count.refused += 1,
         }
-        self.print(&fed.command, &made, &told, out);
+        self.print(bytes, made, &told, out);
         self.files.add(made.transcript.bytes(), Some(&self.records), out);
     }
 
@@ -303,9 +406,12 @@ impl Line<'_> {
 
     /// A command that was made, into the state: it is there before the next one is read.
     fn store(&mut self, command: Command, before: &Records, made: &Made, value: u64) {
-        let Some(keeper) = &mut self.keeper else { return };
         let Made { result, transcript, lock, .. } = made;
         let made = pasetone::Made { result: result.map(|()| value), transcript: transcript.clone(), lock: lock.unwrap_or_default() };
+        let Some(keeper) = &mut self.keeper else {
+            let line = stored(command).and_then(|call| Logged::of(call, &made, &self.records, &self.place.table, None));
+            return self.files.note(line);
+        };
         match stored(command) {
             Some(call) => drop(keeper.made(call, &made, before, &self.records, &self.place.table, None)),
             None => keeper.last(Some(&self.records)),
@@ -346,7 +452,7 @@ impl Line<'_> {
     /// What the line came to; then the files.
     fn end(mut self, out: &mut Out) {
         self.script.tell_faults(out);
-        let pending = self.stream.pending();
+        let pending = self.pending();
         let incomplete =
             (pending > 0).then(|| format!("incomplete: {} of a command at the end, which did nothing", counted(pending, "byte")));
         if self.given.has(Key::Json) {
@@ -365,11 +471,12 @@ impl Line<'_> {
             out.tell(end, &format!("ended {by}, behind {}; {unfed} that had come were not fed", counted(self.count.all(), "command")));
         }
         // Of a line that brought nothing there is nothing to say, unless a call was recovered.
-        if self.count.all() > 0 || self.keeper.as_ref().is_some_and(Keeper::is_recovered) {
+        if self.count.all() > 0 || self.keeper().is_some_and(|keeper| keeper.is_recovered()) {
             Standing::of(&self.records, Some(&self.place.table)).tell(&self.way_back(), out);
         }
         self.files.end(&[], Some(&self.records), out);
-        if let Some(mut keeper) = self.keeper.take() {
+        let keeper = self.live.as_mut().and_then(|live| live.run.keeper.take()).or(self.keeper.take());
+        if let Some(mut keeper) = keeper {
             keeper.last(Some(&self.records));
             keeper.end(out);
         }

@@ -137,7 +137,7 @@ fn opened(name: &OsStr, most: u64) -> io::Result<(Vec<u8>, bool)> {
     file.take(most).read_to_end(&mut bytes).map(|_| (bytes, true))
 }
 
-fn unread(name: &OsStr, error: &io::Error) -> String {
+pub fn unread(name: &OsStr, error: &io::Error) -> String {
     let name = called(name);
     match error.kind() {
         ErrorKind::NotFound => format!("{name}: there is no such file: name one that is there, or - for standard input"),
@@ -198,6 +198,8 @@ pub struct Sink {
     place: Option<Place>,
     /// Whether it is a file that is written behind what it holds.
     behind: bool,
+    /// Where the last bytes that were put behind it begin.
+    placed: u64,
 }
 
 struct Place {
@@ -224,7 +226,7 @@ impl Sink {
                 sink.file.set_permissions(is.permissions())?;
                 Ok(sink)
             }
-            Ok(_) => Ok(Sink { name: owned, file: OpenOptions::new().write(true).open(name)?, place: None, behind: false }),
+            Ok(_) => Ok(Sink { name: owned, file: OpenOptions::new().write(true).open(name)?, place: None, behind: false, placed: 0 }),
             Err(_) => Sink::beside(owned, PathBuf::from(name)),
         }
     }
@@ -240,7 +242,7 @@ impl Sink {
             let beside = folder_of(&real).join(own);
             match OpenOptions::new().write(true).create_new(true).open(&beside) {
                 Err(error) if error.kind() == ErrorKind::AlreadyExists && tries < 1000 => tries += 1,
-                opened => return Ok(Sink { name, file: opened?, place: Some(Place { beside, real }), behind: false }),
+                opened => return Ok(Sink { name, file: opened?, place: Some(Place { beside, real }), behind: false, placed: 0 }),
             }
         }
     }
@@ -268,7 +270,7 @@ impl Sink {
             let with = |read: bool| OpenOptions::new().read(read).append(true).create(true).open(name);
             let file = with(true).or_else(|_| with(false))?;
             let behind = file.metadata()?.is_file();
-            Ok(Sink { name: name.to_os_string(), file, place: None, behind })
+            Ok(Sink { name: name.to_os_string(), file, place: None, behind, placed: 0 })
         };
         opened().map_err(|error| unwritten(name, &error))
     }
@@ -356,6 +358,7 @@ impl Sink {
 
     fn add_locked(&mut self, bytes: &[u8]) -> Result<(), String> {
         let before = self.length()?;
+        self.placed = before;
         let Err(error) = self.file.write_all(bytes) else { return Ok(()) };
         let left = self.length()? - before;
         let why = unwritten(&self.name, &error);
@@ -367,6 +370,11 @@ impl Sink {
                 Err(format!("{why}; {left} bytes from byte {before} on are no whole section: cut them off by `truncate -s {before}`"))
             }
         }
+    }
+
+    /// Where the last bytes that were put behind it begin; `None` where it is no file.
+    pub fn placed(&self) -> Option<u64> {
+        self.behind.then_some(self.placed)
     }
 
     /// How long it is now.
@@ -390,6 +398,7 @@ impl Sink {
         let mut there = vec![0; length.saturating_sub(from).min(section.len() as u64) as usize];
         self.file.read_exact_at(&mut there, from.min(length)).map_err(|error| unread(&self.name, &error))?;
         if there == section {
+            self.placed = from;
             return Ok(());
         }
         // A beginning of it and nothing behind: the run died while it wrote.

@@ -2,7 +2,9 @@
 use crate::answer::{self, Wish};
 use crate::boards::Place;
 use crate::command::{Given, Kept, Key, option};
+use crate::device::{self, Link};
 use crate::files::called;
+use crate::live::{Live, Wanted};
 use crate::out::Out;
 use crate::owed::{GAIN, RATE};
 use crate::receiver::{self, Receiver};
@@ -10,6 +12,7 @@ use crate::report::{self, Head, Report};
 use crate::run::{Asked, Run, Start};
 use crate::state::Keeper;
 use crate::{advice, numbers, record, script};
+use pasetone::Error;
 
 pub const MORE: &[&str] = &[
     "It makes a fresh record and calls set_ppm (where --ppm is given), initialise, sample rate, gain,",
@@ -24,6 +27,11 @@ pub const MORE: &[&str] = &[
     "--state is one file in place of --record and --keep: a new one begins with a fresh record, and each",
     "call is stored in it with its section in --append. A run that died is recovered by the next one with",
     "its state, first of all and in a line; runs at once on one state wait for each other.",
+    "With --device the steps go to a receiver on the bus (docs/RECEIVER.md), by the state: one that",
+    "it does not know, or that was plugged in anew, is brought up whole (see start), doubtful",
+    "registers are sent again, and every call that is owed is made. A call that a step stopped is",
+    "made again behind a reload, three times at most. Not locked, doubtful or beside its station is",
+    "told as without --device.",
     "HZ, --reference, --rate and --if are written as 102300000, 102300k or 102.3M; other numbers are",
     "decimal, or hexadecimal behind 0x. A lock at the first try is 0x0a in every reply (r820t: 0x06).",
 ];
@@ -44,10 +52,14 @@ pub const OPTIONS: &[Key] = &[
     Key::Outcomes,
     Key::Replies,
     Key::State,
+    Key::Device,
+    Key::Detach,
     Key::Record,
     Key::Keep,
     Key::Section,
     Key::Append,
+    Key::Log,
+    Key::Name,
     Key::Json,
     Key::Quiet,
 ];
@@ -64,13 +76,20 @@ struct Request {
     fail: Option<usize>,
     files: Kept,
     keeper: Option<Keeper>,
+    link: Option<Link>,
 }
 
 pub fn run(given: &Given, out: &mut Out) {
     let Some(request) = request(given, out).filter(|_| !out.is_mistaken()) else { return };
-    let Request { asked, start, place, settings, outcomes, replies, fail, files, keeper } = request;
+    let Request { asked, start, place, settings, outcomes, replies, fail, files, keeper, link } = request;
     let head = Head::of(&start, &place, settings);
-    let mut run = Run::hop(start, &asked, &place.table, outcomes, replies, keeper);
+    let mut run = match (link, keeper) {
+        (Some(link), Some(keeper)) => match live(start, &asked, &place, keeper, link, out) {
+            Ok(run) => run,
+            Err(error) => return answer::refused(given, error, &error.to_string(), out),
+        },
+        (_, keeper) => Run::hop(start, &asked, &place.table, outcomes, replies, keeper),
+    };
     if let Some(records) = run.records.as_mut() {
         // A state has the table itself.
         records.owed.table = place.file.is_some() && !given.has(Key::State);
@@ -90,6 +109,18 @@ pub fn run(given: &Given, out: &mut Out) {
     report.run.keep(files, out);
 }
 
+/// The same on a receiver of the bus.
+fn live(start: Start, asked: &Asked, place: &Place, keeper: Keeper, link: Link, out: &mut Out) -> Result<Run, Error> {
+    let Asked { hz, ppm, initialise, rate, gain, if_hz } = *asked;
+    let wanted = Wanted { hz: Some(hz), ppm, initialise, rate, gain, if_hz };
+    let mut live = Live::new(start, &wanted, &place.table, keeper, link)?;
+    if !live.hop(&wanted, out) {
+        // It was on its way there.
+        (live.records.owed.hz, live.records.owed.tune) = (hz, true);
+    }
+    Ok(live.end())
+}
+
 /// Reads all words, and only then opens files, so that one line is told for each mistake.
 fn request(given: &Given, out: &mut Out) -> Option<Request> {
     let words = Receiver::of_words(given, frequency(given, out), out);
@@ -100,12 +131,14 @@ fn request(given: &Given, out: &mut Out) -> Option<Request> {
         Some(kept) => words.filled(kept),
         None => words,
     };
-    let keeper = Keeper::open(given, out);
+    let link = Link::open(given, out);
+    let keeper = Keeper::open(given, link.as_ref(), out);
     let (start, place) = begins(given, &receiver, keeper.as_ref(), out);
     let outcomes = script::outcomes(given, fail, out);
     let replies = script::replies(given, script::lock(start.as_ref().map(Start::kind)), out);
     let Receiver { ppm, rate, gain, if_hz, frequency, .. } = receiver;
-    let asked = if matches!(start, Some(Start::Kept(_))) || given.has(Key::Record) {
+    // A receiver on the bus is initialised by its bring-up, and owes a rate and a gain till then.
+    let asked = if matches!(start, Some(Start::Kept(_))) || given.has(Key::Record) || link.is_some() {
         Asked { hz: frequency?, ppm, initialise: given.has(Key::Initialise), rate, gain, if_hz }
     } else {
         Asked { hz: frequency?, ppm, initialise: true, rate: rate.or(Some(RATE)), gain: gain.or(Some(GAIN)), if_hz }
@@ -115,7 +148,7 @@ fn request(given: &Given, out: &mut Out) -> Option<Request> {
     }
     let files = given.kept_files(out);
     let settings = settings.map(|kept| (given.word(Key::Settings).map(called).unwrap_or_default(), kept.edition));
-    Some(Request { asked, start: start?, place, settings, outcomes, replies, fail, files, keeper })
+    Some(Request { asked, start: start?, place, settings, outcomes, replies, fail, files, keeper, link })
 }
 
 /// The frequency; it may be left out where settings have one.
@@ -156,6 +189,7 @@ fn fresh(receiver: &Receiver) -> Start {
 
 /// Options that do not go together.
 pub fn together(given: &Given, out: &mut Out) {
+    device::together(given, out);
     if given.has(Key::Record) {
         not_beside(given, Key::Record, "record", out);
     }

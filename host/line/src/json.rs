@@ -1,5 +1,7 @@
-//! JSON as text. Objects and arrays are put together from parts that are JSON already.
+//! JSON as text. Objects and arrays are put together from parts that are JSON already; objects of plain values are read back.
 use std::fmt::Display;
+use std::iter::Peekable;
+use std::str::Chars;
 
 /// A string, with what JSON asks to be escaped.
 pub fn string(text: &str) -> String {
@@ -55,9 +57,106 @@ pub fn tenths(value: i32) -> String {
     format!("{}{}.{}", if value < 0 { "-" } else { "" }, value.unsigned_abs() / 10, value.unsigned_abs() % 10)
 }
 
+/// A value of an object that has no others within.
+#[derive(Debug, PartialEq)]
+pub enum Value {
+    Null,
+    Bool(bool),
+    Number(i128),
+    Text(String),
+}
+
+/// The members of an object of plain values, in their order; numbers are whole ones. `None` where the text is something else.
+pub fn flat(text: &str) -> Option<Vec<(String, Value)>> {
+    let (mut rest, mut members) = (text.chars().peekable(), Vec::new());
+    mark(&mut rest, '{')?;
+    if mark(&mut rest, '}').is_none() {
+        loop {
+            let name = text_of(&mut rest)?;
+            mark(&mut rest, ':')?;
+            members.push((name, value(&mut rest)?));
+            if mark(&mut rest, ',').is_none() {
+                break;
+            }
+        }
+        mark(&mut rest, '}')?;
+    }
+    spaces(&mut rest);
+    rest.next().is_none().then_some(members)
+}
+
+fn spaces(rest: &mut Peekable<Chars>) {
+    while rest.next_if(|c| matches!(c, ' ' | '\t' | '\r' | '\n')).is_some() {}
+}
+
+fn mark(rest: &mut Peekable<Chars>, wanted: char) -> Option<char> {
+    spaces(rest);
+    rest.next_if_eq(&wanted)
+}
+
+fn value(rest: &mut Peekable<Chars>) -> Option<Value> {
+    spaces(rest);
+    if rest.peek() == Some(&'"') {
+        return text_of(rest).map(Value::Text);
+    }
+    let mut word = String::new();
+    while let Some(c) = rest.next_if(|c| c.is_ascii_alphanumeric() || *c == '-') {
+        word.push(c);
+    }
+    match word.as_str() {
+        "null" => Some(Value::Null),
+        "true" => Some(Value::Bool(true)),
+        "false" => Some(Value::Bool(false)),
+        number => number.parse().ok().map(Value::Number),
+    }
+}
+
+fn text_of(rest: &mut Peekable<Chars>) -> Option<String> {
+    mark(rest, '"')?;
+    let mut text = String::new();
+    loop {
+        match rest.next()? {
+            '"' => return Some(text),
+            '\\' => text.push(match rest.next()? {
+                'u' => char::from_u32(u32::from_str_radix(&rest.by_ref().take(4).collect::<String>(), 16).ok()?)?,
+                c @ ('"' | '\\' | '/') => c,
+                _ => return None,
+            }),
+            c if c.is_control() => return None,
+            c => text.push(c),
+        }
+    }
+}
+
 #[cfg(test)]
 mod tests {
     use super::*;
+
+    #[test]
+    fn objects_are_read_back() {
+        let name = "a\"b\\c\nd\u{7f}é";
+        let line = object(&[("a", string(name)), ("b", maybe(None::<u8>)), ("c", String::from("-7")), ("d", String::from("true"))]);
+        let wanted = [("a", Value::Text(name.to_string())), ("b", Value::Null), ("c", Value::Number(-7)), ("d", Value::Bool(true))];
+        assert_eq!(flat(&line), Some(wanted.map(|(name, value)| (name.to_string(), value)).into()));
+        assert_eq!(flat(" { } "), Some(Vec::new()));
+        for bad in [
+            "",
+            "{",
+            "{}x",
+            "{\"a\":}",
+            "{\"a\":1,}",
+            "{\"a\":1.5}",
+            "{\"a\":[1]}",
+            "{\"a\":\"\\q\"}",
+            "{\"a\":\"\\ud800\"}",
+            "{\"a",
+            "{a:1}",
+        ] {
+            assert_eq!(flat(bad), None, "{bad}");
+        }
+        // Every beginning of a line is none.
+        assert!((0..line.len()).filter(|at| line.is_char_boundary(*at)).all(|at| flat(&line[..at]).is_none()));
+    }
 
     #[test]
     fn strings_are_escaped() {

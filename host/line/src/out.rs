@@ -40,19 +40,36 @@ pub struct Out {
     fault: Option<ErrorKind>,
     colour: bool,
     end: End,
+    /// Of one that prints nothing: what it was told.
+    kept: Option<Vec<String>>,
 }
 
 impl Out {
+    /// One that prints nothing and keeps what it is told, for who tells it elsewhere.
+    pub fn kept() -> Out {
+        Out { kept: Some(Vec::new()), ..Out::standard() }
+    }
+
+    /// What it was told, line by line.
+    pub fn told(self) -> Vec<String> {
+        self.kept.unwrap_or_default()
+    }
+
+    /// How it would end.
+    pub fn end(&self) -> End {
+        self.end
+    }
+
     pub fn standard() -> Out {
         let plain =
             env::var_os("NO_COLOR").is_some_and(|value| !value.is_empty()) || env::var_os("TERM").is_some_and(|term| term == "dumb");
         let colour = !plain && io::stdout().is_terminal();
-        Out { to: BufWriter::with_capacity(1 << 16, io::stdout()), fault: None, colour, end: End::Done }
+        Out { to: BufWriter::with_capacity(1 << 16, io::stdout()), fault: None, colour, end: End::Done, kept: None }
     }
 
     /// A failure to write is kept for the end, so that a run goes on to its files whatever becomes of what it prints.
     pub fn text(&mut self, text: &str) {
-        if self.fault.is_none() {
+        if self.fault.is_none() && self.kept.is_none() {
             self.fault = self.to.write_all(text.as_bytes()).err().map(|error| error.kind());
         }
     }
@@ -81,8 +98,11 @@ impl Out {
 
     /// One line to standard error, behind what was printed so far.
     pub fn tell(&mut self, end: End, text: &str) {
-        self.flush();
         self.end = self.end.max(end);
+        if let Some(kept) = &mut self.kept {
+            return kept.push(text.to_string());
+        }
+        self.flush();
         // In one write, so that no other program's line falls into it. Where standard error cannot be written either, the exit status is all that is left.
         let _ = io::stderr().write_all(format!("pasetone: {text}\n").as_bytes());
     }

@@ -50,6 +50,8 @@ pub struct Owed {
     pub table: bool,
     /// The last tuning was the tuner's own: no band has shifted its frequency.
     pub plain: bool,
+    /// The bring-up of a receiver on the bus: demodulator and board are not set up.
+    pub setup: bool,
     /// The frequency that was last asked for; 0 where none was.
     pub hz: u64,
 }
@@ -111,7 +113,8 @@ impl Owed {
         }
     }
 
-    fn cut(&mut self, job: Job, tuner: &Tuner, driver: &Driver) {
+    /// Behind a call of which a step failed, or whose end is not known.
+    pub fn cut(&mut self, job: Job, tuner: &Tuner, driver: &Driver) {
         match job {
             Job::Initialise => {
                 self.initialise = true;
@@ -140,12 +143,13 @@ impl Owed {
 
     /// Whether the receiver stands on the frequency that it was last tuned to, as far as calls that are not done tell.
     pub fn is_station_known(&self) -> bool {
-        !self.initialise && self.rate.is_none() && self.if_hz.is_none() && !self.tune && !self.board && self.moved.is_none()
+        !self.setup && !self.initialise && self.rate.is_none() && self.if_hz.is_none() && !self.tune && !self.board && self.moved.is_none()
     }
 
     /// The calls, by name and value.
     pub fn calls(&self) -> Vec<String> {
         let mut calls = Vec::new();
+        calls.extend(self.setup.then(|| String::from("bring-up")));
         calls.extend(self.initialise.then(|| String::from("initialise")));
         calls.extend(self.rate.map(|rate| format!("sample rate {rate}")));
         calls.extend(self.gain.map(|gain| match gain {
@@ -200,7 +204,7 @@ impl Owed {
         };
         let mut bytes = [0; Owed::SIZE];
         bytes[0] = flags.iter().enumerate().map(|(bit, flag)| u8::from(*flag) << bit).sum();
-        (bytes[1], bytes[2], bytes[3]) = (moved, kind, self.plain.into());
+        (bytes[1], bytes[2], bytes[3]) = (moved, kind, u8::from(self.plain) | u8::from(self.setup) << 1);
         bytes[4..8].copy_from_slice(&self.rate.unwrap_or(0).to_le_bytes());
         bytes[8..12].copy_from_slice(&gain.to_le_bytes());
         bytes[12..16].copy_from_slice(&self.if_hz.unwrap_or(0).to_le_bytes());
@@ -232,7 +236,8 @@ impl Owed {
             board: has(6),
             moved,
             table: has(7),
-            plain: bytes[3] == 1,
+            plain: bytes[3] & 1 == 1,
+            setup: bytes[3] >> 1 & 1 == 1,
             hz: u64::from_le_bytes(std::array::from_fn(|k| bytes[20 + k])),
         };
         (owed.bytes() == *bytes).then_some(owed)
@@ -281,11 +286,13 @@ mod tests {
             Owed::fresh(),
             some,
             Owed { gain: Some(Gain::Tenths(-30)), if_hz: Some(0), bandwidth: Some(9), ..Owed::fresh() },
+            Owed { setup: true, ..Owed::default() },
+            Owed { setup: true, plain: true, ..Owed::default() },
         ] {
             assert_eq!(Owed::read(&owed.bytes()), Some(owed));
         }
         // A value without its flag, a gain or a move that is none, a byte that is used by nothing.
-        for (at, byte) in [(4, 1), (8, 1), (12, 1), (16, 1), (1, 3), (2, 1), (3, 2)] {
+        for (at, byte) in [(4, 1), (8, 1), (12, 1), (16, 1), (1, 3), (2, 1), (3, 4)] {
             let mut bytes = Owed::default().bytes();
             bytes[at] = byte;
             assert_eq!(Owed::read(&bytes), None, "{at}");

@@ -28,6 +28,21 @@ pub struct Receiver {
 }
 
 impl Receiver {
+    /// Nothing said.
+    pub fn none() -> Receiver {
+        Receiver {
+            kind: None,
+            address: None,
+            board: None,
+            reference: None,
+            ppm: None,
+            rate: None,
+            gain: None,
+            if_hz: None,
+            frequency: None,
+        }
+    }
+
     /// Reads every word. What a command has no option for is never given.
     pub fn of_words(given: &Given, frequency: Option<u64>, out: &mut Out) -> Receiver {
         let hertz = |text: &str| u32::try_from(numbers::hertz(text)?).ok();

@@ -3,13 +3,15 @@
 use crate::answer::{self, Wish};
 use crate::boards::Place;
 use crate::command::{Given, Key};
+use crate::device::{self, Link};
 use crate::files::{self, called, is_standard};
-use crate::out::Out;
+use crate::live::{Live, Wanted};
+use crate::out::{End, Out};
 use crate::record::Records;
-use crate::run::Run;
+use crate::run::{Run, Start};
 use crate::state::Keeper;
 use crate::{advice, json, names, record, report, script};
-use pasetone::Tuner;
+use pasetone::{Table, Tuner};
 use std::ffi::OsString;
 
 pub const MORE: &[&str] = &[
@@ -20,11 +22,26 @@ pub const MORE: &[&str] = &[
     "call that was cut again, until it is done; the line that reload ends with has it. It talks to no",
     "receiver: outcomes stand in for one. The record's file stays as it is; --keep writes the next",
     "record, and may name the same file. A record does not name a table: give --table again. With",
-    "--state no RECORD is named: the state has it, with its table.",
+    "--state no RECORD is named: the state has it, with its table. With --device the steps go to that",
+    "receiver on the bus, three times more where one fails; one that was plugged in anew has nothing",
+    "to be sent again, and is told: start or hop brings it up.",
 ];
 
-pub const OPTIONS: &[Key] =
-    &[Key::Table, Key::Fail, Key::Outcomes, Key::State, Key::Keep, Key::Section, Key::Append, Key::Json, Key::Quiet];
+pub const OPTIONS: &[Key] = &[
+    Key::Table,
+    Key::Fail,
+    Key::Outcomes,
+    Key::State,
+    Key::Device,
+    Key::Detach,
+    Key::Keep,
+    Key::Section,
+    Key::Append,
+    Key::Log,
+    Key::Name,
+    Key::Json,
+    Key::Quiet,
+];
 
 pub fn run(given: &Given, out: &mut Out) {
     let fail = script::fail(given, out);
@@ -37,7 +54,9 @@ pub fn run(given: &Given, out: &mut Out) {
     if given.has(Key::State) && given.has(Key::Keep) {
         out.mistake("--state has the record, before the run and behind it: give --state or --keep");
     }
-    let keeper = Keeper::open(given, out);
+    device::together(given, out);
+    let link = Link::open(given, out);
+    let keeper = Keeper::open(given, link.as_ref(), out);
     let records = if given.has(Key::State) { held(given, keeper.as_ref(), out) } else { kept(given, out) };
     let outcomes = script::outcomes(given, fail, out);
     let Some(records) = records else { return };
@@ -53,7 +72,14 @@ pub fn run(given: &Given, out: &mut Out) {
     // By the words, or by the state; a kept record names none.
     let named = if given.has(Key::Table) { Some(place.table.clone()) } else { keeper.as_ref().and_then(Keeper::table).cloned() };
     let table = named.as_ref();
-    let mut run = Run::reload(records, table.unwrap_or(&place.table), outcomes, keeper);
+    let table_or_own = table.unwrap_or(&place.table);
+    let mut run = match (link, keeper) {
+        (Some(link), Some(keeper)) => match live(records, table_or_own, keeper, link, out) {
+            Some(run) => run,
+            None => return,
+        },
+        (_, keeper) => Run::reload(records, table_or_own, outcomes, keeper),
+    };
     let kept = given.word(Key::Keep).unwrap_or(name);
     let again = run.records.as_ref().map_or_else(String::new, |records| advice::reload_again(kept, given, records));
     let wish = Wish { hz: 0, rate: 0, table: &place.table, again: again.clone() };
@@ -73,6 +99,21 @@ pub fn run(given: &Given, out: &mut Out) {
     }
     report::ended(&run, &told, table, &again, given.has(Key::Quiet), out);
     run.keep(files, out);
+}
+
+/// The same on a receiver of the bus. `None` where it is not brought up, which has then been told.
+fn live(records: Records, table: &Table, keeper: Keeper, link: Link, out: &mut Out) -> Option<Run> {
+    if records.owed.setup {
+        out.tell(
+            End::Doubtful,
+            "reload: the receiver is not brought up, and has no registers to be sent again: `start` or `hop` brings it up",
+        );
+        return None;
+    }
+    let wanted = Wanted { hz: None, ppm: None, initialise: false, rate: None, gain: None, if_hz: None };
+    let mut live = Live::new(Start::Kept(Box::new(records)), &wanted, table, keeper, link).ok()?;
+    live.reload(out);
+    Some(live.end())
 }
 
 /// The record of a state.

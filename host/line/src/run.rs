@@ -1,5 +1,6 @@
 //! The calls of a run, one after the other over the same records. Each is made only while none before it was refused or stopped.
 use crate::command::Kept;
+use crate::log::Line;
 use crate::names::{Gain, decibels};
 use crate::out::Out;
 use crate::owed::{Job, Owed, RATE};
@@ -23,6 +24,14 @@ pub enum Call {
     /// The tuner's own, without its board.
     TunerTune,
     Bandwidth,
+    /// Those of a bring-up on the bus.
+    PowerOn,
+    Gpio,
+    LowIf,
+    Spectrum,
+    Reset,
+    DemodRate,
+    Streaming,
     /// A command of a line that is none.
     Unknown,
 }
@@ -41,6 +50,13 @@ impl Call {
             Call::Tune | Call::TunerTune => "tune",
             Call::Reload => "reload",
             Call::Bandwidth => "bandwidth",
+            Call::PowerOn => "power on",
+            Call::Gpio => "GPIO",
+            Call::LowIf => "low IF",
+            Call::Spectrum => "spectrum",
+            Call::Reset => "demod reset",
+            Call::DemodRate => "demod rate",
+            Call::Streaming => "streaming",
             Call::Unknown => "command",
         }
     }
@@ -109,15 +125,23 @@ pub struct Run {
     /// For the tuning, which alone reads.
     replies: Vec<u8>,
     /// Of `--state`: each call is stored as it is made.
-    keeper: Option<Keeper>,
+    pub keeper: Option<Keeper>,
+    /// Of `--log`, without a state: a line for each section, in their order.
+    lines: Vec<Line>,
     /// Where the run is on its way to.
     hz: Option<u64>,
 }
 
 impl Run {
+    /// A run on a receiver, before its first call: live.rs makes them.
+    pub fn live(keeper: Keeper) -> Run {
+        let (made, lines, outcomes, replies) = (Vec::new(), Vec::new(), Vec::new(), Vec::new());
+        Run { records: None, made, steps: 0, outcomes, replies, keeper: Some(keeper), lines, hz: None }
+    }
+
     /// Makes all calls that lead to a frequency, over what a run begins with.
     pub fn hop(start: Start, asked: &Asked, table: &Table, outcomes: Vec<u8>, replies: Vec<u8>, keeper: Option<Keeper>) -> Run {
-        let mut run = Run { records: None, made: Vec::new(), steps: 0, outcomes, replies, keeper, hz: Some(asked.hz) };
+        let mut run = Run { records: None, made: Vec::new(), steps: 0, outcomes, replies, keeper, lines: Vec::new(), hz: Some(asked.hz) };
         if let Some(mut records) = run.begin(start, asked) {
             let ended = run.sequence(&mut records, asked, table);
             // A run that was cut before its tuning was on its way there.
@@ -135,7 +159,7 @@ impl Run {
 
     /// Sends a kept record's shadow again.
     pub fn reload(mut records: Records, table: &Table, outcomes: Vec<u8>, keeper: Option<Keeper>) -> Run {
-        let mut run = Run { records: None, made: Vec::new(), steps: 0, outcomes, replies: Vec::new(), keeper, hz: None };
+        let mut run = Run { records: None, made: Vec::new(), steps: 0, outcomes, replies: Vec::new(), keeper, lines: Vec::new(), hz: None };
         run.make(Call::Reload, pasetone::Call::Reload, Job::Reload, &mut records, table);
         run.records = Some(records);
         run
@@ -216,6 +240,7 @@ impl Run {
         next.owed.made(job, result, &answer.transcript, &next.tuner, &next.driver);
         let hz = self.hz;
         let is_kept = self.keeper.as_mut().is_none_or(|keeper| keeper.made(made, &answer, records, &next, table, hz));
+        self.lines.extend(Line::of(made, &answer, &next, table, hz));
         *records = next;
         let ended = self.after(call, result, answer.transcript);
         if let (Call::Tune, Some(last)) = (call, self.made.last_mut()) {
@@ -225,7 +250,7 @@ impl Run {
     }
 
     /// Behind a call: what it made. `None` where the run is at its end.
-    fn after(&mut self, call: Call, result: Result<(), Error>, transcript: Transcript) -> Option<()> {
+    pub fn after(&mut self, call: Call, result: Result<(), Error>, transcript: Transcript) -> Option<()> {
         let first = self.steps;
         let left = Need { outcomes: self.outcomes.len().saturating_sub(first), replies: self.replies.len() };
         self.steps += transcript.len();
@@ -249,8 +274,14 @@ impl Run {
     }
 
     /// The sections and the record into their files, also of a run that stopped. A state has the calls already; what had no steps, or was not come to, it gets here.
-    pub fn keep(&mut self, files: Kept, out: &mut Out) {
+    pub fn keep(&mut self, mut files: Kept, out: &mut Out) {
+        files.note(self.lines.drain(..));
         files.end(&self.sections(), self.records.as_ref(), out);
+        self.keep_state(out);
+    }
+
+    /// The last of it into the state, where there is one.
+    pub fn keep_state(&mut self, out: &mut Out) {
         if let Some(mut keeper) = self.keeper.take() {
             keeper.last(self.records.as_ref());
             keeper.end(out);

@@ -56,6 +56,11 @@ impl Station {
         Some(format!("BESIDE its station by {off:+} Hz: centre {} Hz by the registers, asked {} Hz", self.centre.ok()?, self.asked))
     }
 
+    /// Where the middle of a recording is, where that is known.
+    pub fn centre(&self) -> Option<u64> {
+        self.centre.ok()
+    }
+
     pub fn is_known(&self) -> bool {
         self.centre.is_ok()
     }

@@ -31,7 +31,7 @@ pub fn run(given: &Given, out: &mut Out) {
     if let Some(state) = given.word(Key::State).filter(|state| !is_standard(state) && fs::metadata(state).is_err()) {
         return out.mistake(&format!("--state {}: there is no such file: name one that is there", shown(state)));
     }
-    let keeper = Keeper::open(given, out);
+    let keeper = Keeper::look(given, out);
     let name = match (given.word(Key::State), given.operands.as_slice()) {
         (Some(state), []) => state,
         (Some(_), _) => return out.mistake("--state has the record: give --state or a file that --keep has written"),

@@ -210,6 +210,18 @@ impl State {
         Ok((state, Found::Cut(Box::new(Cut { call, made, before }))))
     }
 
+    /// The key that a state's file has; none where it holds no receiver yet. The file is neither made nor locked: a host looks here whose connection is to be found by it.
+    ///
+    /// # Errors
+    ///
+    /// - [`StateError::Io`]: it cannot be read.
+    /// - [`StateError::Form`]: it is no state.
+    pub fn key(path: impl AsRef<Path>) -> Result<Option<Vec<u8>>, StateError> {
+        let mut bytes = vec![0; HEAD + 2 * LEAF + 1];
+        let length = read_up_to(&File::open(path)?, &mut bytes)?;
+        Ok(read(&bytes[..length])?.map(|(leaf, _)| leaf.key))
+    }
+
     /// The receiver.
     pub fn receiver(&self) -> &Receiver {
         &self.receiver

@@ -78,6 +78,36 @@ impl From<io::Error> for OpenError {
     }
 }
 
+/// Who has a receiver that is plugged in.
+#[derive(Clone, Debug, PartialEq, Eq, Hash)]
+pub enum Holder {
+    /// Nobody.
+    Nobody,
+    /// A driver of the kernel.
+    Driver(String),
+    /// Another program.
+    Program,
+}
+
+impl Found {
+    /// Who has it: by sysfs, and where that says nothing by its node, which is opened for the question and closed again.
+    ///
+    /// # Errors
+    ///
+    /// Sysfs says nothing, and the node may not be opened, or is gone.
+    pub fn holder(&self) -> io::Result<Holder> {
+        let name = match self.bound() {
+            Some(name) => Some(name),
+            None => ioctl::driver(&OpenOptions::new().read(true).write(true).open(self.node())?, INTERFACE)?,
+        };
+        Ok(match name {
+            None => Holder::Nobody,
+            Some(name) if name == "usbfs" => Holder::Program,
+            Some(name) => Holder::Driver(name),
+        })
+    }
+}
+
 /// An open receiver: its node, locked and with interface 0 claimed until this is dropped.
 #[derive(Debug)]
 pub struct Usb {

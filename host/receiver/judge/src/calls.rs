@@ -1,4 +1,5 @@
 //! Every call with steps, over one receiver's records, and how a receiver is brought up.
+use pasetone::Call as C;
 use pasetone::{Answer, Command, InputPath, Receiver, Script, Stream, demod, gpio};
 
 /// What a call does to the IF, beside what its steps say: whether tuner and demodulator have the same behind it where it is done.
@@ -71,6 +72,46 @@ pub const CALLS: [Call; 29] = [
     station("tune_board, UHF", 433_920_000, |r, s| r.tune(433_920_000, s).into()),
     call("set_sample_rate, another", If::Set, |r, s| plain(r.set_sample_rate(2_400_000, s))),
 ];
+
+/// The same as values, as a state keeps them; a command of a stream is the call that it stands for.
+pub const VALUES: [C; 29] = [
+    C::Initialize,
+    C::SetFrequency(102_300_000),
+    C::SetFrequency(1),
+    C::SetGain(29.7),
+    C::SetGainByIndex(28),
+    C::SetBandwidth(2_048_000),
+    C::SetIfFreq(3_570_000),
+    C::SetInputPath(InputPath::Hf),
+    C::Reload,
+    C::SetSampleRate(2_048_000),
+    C::TuneBoard(7_000_000),
+    C::ApplyInputPath(InputPath::Uhf),
+    C::InitBaseband,
+    C::PowerOn,
+    C::ResetDemod,
+    C::SetTunerLowIf,
+    C::SetTunerZeroIf,
+    C::StartStreaming,
+    C::StopStreaming,
+    C::WriteRegDirect { page: 1, address: 0x15, value: 1 },
+    C::SetIfFreqXtal { hz: 2_300_000, xtal: 28_800_000 },
+    C::SetSampleRateXtal { rate: 2_048_000, xtal: 28_800_000 },
+    C::SetGpioOutput(5),
+    C::SetGpioBit(5, true),
+    C::SetFrequency(102_300_000),
+    C::TuneBoard(102_300_000),
+    C::TuneBoard(107_500_000),
+    C::TuneBoard(433_920_000),
+    C::SetSampleRate(2_400_000),
+];
+
+/// Whether a call and its value have the same steps over these records, where all are done.
+pub fn is_value(number: usize, receiver: &Receiver) -> bool {
+    let script = Script::all_done();
+    let (call, value) = ((CALLS[number].make)(&mut receiver.clone(), &script), VALUES[number].make(&mut receiver.clone(), &script));
+    call.transcript == value.transcript
+}
 
 /// From power on to a first station, in the order of host/README.md, by calls that are all to be done.
 pub const BRING_UP: [Make; 14] = [

@@ -51,6 +51,11 @@ impl Simulated {
         *self.places.get(name).unwrap_or_else(|| panic!("no field {name}"))
     }
 
+    /// Where a field begins.
+    pub fn place_of(&self, name: &str) -> usize {
+        self.place(name).0 as usize
+    }
+
     pub fn bytes(&self, name: &str) -> Vec<u8> {
         let (at, size) = self.place(name);
         let mut bytes = vec![0; size];

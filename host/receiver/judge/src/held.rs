@@ -90,9 +90,14 @@ impl Told {
 /// The told entries beside the transfers that came, in order, the read behind a demodulator write that was done with them. Whether they have the same packets; whether those
 /// that do were whole exactly where the entry is not failed; and whether what was read is what came.
 fn matches(transcript: &Transcript, came: &[Came], gone: bool) -> (bool, bool, bool) {
+    entries(transcript.iter(), came, gone)
+}
+
+/// The same of entries, whatever calls they are of.
+pub fn entries<'a>(told: impl Iterator<Item = Entry<'a>>, came: &[Came], gone: bool) -> (bool, bool, bool) {
     let (mut sent, mut ended, mut read) = (true, true, true);
     let mut rest = came.iter();
-    for entry in transcript {
+    for entry in told {
         let packets = entry.packets().expect("a step of a call has packets");
         for (behind, packet) in Packet::all(&packets).enumerate() {
             let Some(transfer) = rest.next() else {
@@ -143,11 +148,16 @@ fn told(tally: &mut Tally, chip: &Simulated, told: &Told, name: &'static str) {
 
 /// A station that was tuned to is the centre that the chips have by their own registers: 25 kHz by the divider, and the step of the IF's word.
 pub fn station(tally: &mut Tally, chip: &Simulated, receiver: &Receiver, hz: u64, name: &'static str) {
+    tally.stations += 1;
+    tally.that(is_on(chip, receiver, hz), "the call is done and the receiver beside its station", name);
+}
+
+/// Whether the chips stand there, by their own registers.
+pub fn is_on(chip: &Simulated, receiver: &Receiver, hz: u64) -> bool {
     let wanted = receiver.table().plan_tuning(hz).expect("a plan").hz as i64;
     let divider = 2i64 << (chip.bytes("chip.tuner")[0x10] >> 5);
     let off = (chip.get("centre") >> 23) - wanted;
-    tally.stations += 1;
-    tally.that((-25_000 / divider - 1..=18_000 / divider + 8).contains(&off), "the call is done and the receiver beside its station", name);
+    (-25_000 / divider - 1..=18_000 / divider + 8).contains(&off)
 }
 
 /// All of it, behind a call: `from` is the number of its first transfer.

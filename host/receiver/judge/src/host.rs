@@ -20,11 +20,17 @@ pub enum Lie {
     Before,
     /// It goes on as if every step had been done.
     Bold,
+    /// Its stored script is filled with 0.
+    Filled,
+    /// A step's outcome is stored before the step.
+    Early,
+    /// Replies are not stored.
+    Mute,
 }
 
 impl Lie {
     pub fn of(word: &str) -> Option<Lie> {
-        [Lie::Nothing, Lie::Short, Lie::Timeout, Lie::Stall, Lie::Hurry, Lie::Before, Lie::Bold]
+        [Lie::Nothing, Lie::Short, Lie::Timeout, Lie::Stall, Lie::Hurry, Lie::Before, Lie::Bold, Lie::Filled, Lie::Early, Lie::Mute]
             .into_iter()
             .find(|lie| format!("{lie:?}").to_lowercase() == word)
     }

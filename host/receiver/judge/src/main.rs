@@ -6,15 +6,19 @@
 //!   judge killed LIE STRIDE               the same with the host killed
 //!   judge kills SEED CALLS                so many calls, each in a process of its own, with transfers failing and hosts killed by chance
 //!   judge storm KIND SEED CALLS LIE       so many calls on every receiver, all at once, with transfers failing by chance
+//!   judge line PROGRAM STRIDE             the command line itself: every transfer of a hop, and every STRIDEth turn of the other commands
+//!   judge night PROGRAM HOURS N SEED      all receivers through `run`, N of 1,000 transfers failing, the program killed, receivers plugged in anew
 //!   judge numbers                         the calls of usbfs as crate pasetone-usb has them
 //!
-//! KIND is r828d or r820t. LIE is `nothing`, or what a wrong host does: short, timeout, stall, hurry, before, bold. Exit status 1 where a fault was found.
+//! KIND is r828d or r820t. LIE is `nothing`, or what a wrong host does: short, timeout, stall, hurry, before, bold, filled, early, mute. Exit status 1 where a fault was found.
 mod calls;
 mod file;
 mod held;
 mod hop;
 mod host;
 mod killed;
+mod line;
+mod nightly;
 mod storm;
 mod sweep;
 
@@ -57,6 +61,10 @@ fn judged(words: &[&str], found: &[Found]) -> Option<Tally> {
         }
         ["kills", seed, calls] => tally = killed::storm(first, seed.parse().ok()?, calls.parse().ok()?),
         ["killed", lie, stride] => tally = killed::run(first, Lie::of(lie)?, stride.parse().ok()?),
+        ["line", program, stride] => tally = line::run(program, first, stride.parse().ok()?),
+        ["night", program, hours, share, seed] => {
+            tally = nightly::run(program, found, hours.parse().ok().filter(|hours| *hours <= 24)?, share.parse().ok()?, seed.parse().ok()?);
+        }
         ["storm", which, seed, calls, lie] => tally = storms(found, kind(which)?, seed.parse().ok()?, calls.parse().ok()?, Lie::of(lie)?),
         _ => return None,
     }
@@ -71,13 +79,13 @@ fn main() -> ExitCode {
         return ExitCode::SUCCESS;
     }
     let found = Found::all().expect("sysfs");
-    if let (["child", number, path], Some(first)) = (words.as_slice(), found.first()) {
-        let done = killed::child(first, number.parse().expect("a number"), path.as_ref());
+    if let (["child", number, lie, path], Some(first)) = (words.as_slice(), found.first()) {
+        let done = killed::child(first, number.parse().expect("a number"), path.as_ref(), Lie::of(lie).expect("a lie"));
         return ExitCode::from(if done { 0 } else { 3 });
     }
     let Some(tally) = judged(&words, &found) else {
         eprintln!(
-            "use: judge open | hop | sweep KIND LIE STRIDE | killed LIE STRIDE | kills SEED CALLS | storm KIND SEED CALLS LIE | numbers; {} receivers were found",
+            "use: judge open | hop | sweep KIND LIE STRIDE | killed LIE STRIDE | kills SEED CALLS | storm KIND SEED CALLS LIE | line PROGRAM STRIDE | night PROGRAM HOURS N SEED | numbers; {} receivers were found",
             found.len()
         );
         return ExitCode::from(2);

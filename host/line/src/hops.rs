@@ -1,0 +1,280 @@
+//! The hops of a night's file: which sections belong to which, and what each came to.
+//!
+//! - A run that a tuning ends (`hop`) has the frequency that it is on its way to in each of its lines: its sections belong to that hop, also those before its tuning.
+//! - A tuning of a line (`feed`), or one without a line in the log, begins a hop. All sections up to the next one belong to it: what moves its recording is its own.
+//! - The same frequency again within two minutes, where the hop has not come out right, is another attempt at it. The last attempt counts, and how many there were is told.
+//! - What stands before the first hop belongs to it.
+//! - Behind a tuning without a line nobody can tell whether a rate was for it or for the next one: what it has moved is not known then.
+use crate::logged::Line;
+use crate::places::{self, Places};
+use crate::verdict::{Case, Verdict};
+use pasetone::evidence::Lock;
+use pasetone::{EntryKind, Evidence, Table, Transcript, evidence};
+
+/// So many seconds behind an attempt the same frequency is asked for again.
+const AGAIN: u64 = 120;
+
+/// A window that is longer has only those sections more that touch the oscillator or its lock: what others send to the demodulator is summed up.
+const LONG: usize = 1 << 20;
+
+/// A hop that is judged.
+#[derive(Clone)]
+pub struct Hop {
+    pub number: usize,
+    /// Its sections, from the first attempt's first to the last one's last.
+    pub start: u64,
+    pub end: u64,
+    /// When the first attempt began, and the last one.
+    pub began: Option<u64>,
+    pub time: Option<u64>,
+    pub attempts: u32,
+    pub asked: Option<u64>,
+    pub centre: Option<i128>,
+    pub rate: Option<u64>,
+    pub lock: Lock,
+    pub tries: u32,
+    pub doubtful: usize,
+    pub verdict: Verdict,
+    pub why: Vec<String>,
+}
+
+/// A hop whose sections are still read.
+#[derive(Default)]
+struct Open {
+    number: usize,
+    start: u64,
+    end: u64,
+    began: Option<u64>,
+    time: Option<u64>,
+    attempts: u32,
+    asked: Option<u64>,
+    shift: Option<i128>,
+    /// Whether a run is on its way to the tuning.
+    is_running: bool,
+    unlogged: usize,
+    /// Rate and centre at the end of a tuning without a line.
+    tuned: Option<(Option<u64>, Option<u64>)>,
+    /// Whether a step of a section without a line failed: then its call was not done.
+    has_failed: bool,
+}
+
+/// What is taken where no log tells it.
+pub struct Unlogged {
+    pub address: Option<u8>,
+    pub reference: u32,
+    pub table: Table,
+    /// A frequency for each hop; none where nothing is asked.
+    pub asked: Vec<u64>,
+}
+
+pub struct Hops<'a> {
+    unlogged: &'a Unlogged,
+    address: Option<u8>,
+    references: (u32, u32),
+    places: Places,
+    /// The last attempts before the window, and the sections of the window: from the last one on that has planned a lock.
+    before: Vec<u8>,
+    window: Vec<u8>,
+    is_folded: bool,
+    owed: Vec<&'static str>,
+    open: Option<Open>,
+    /// Of the sections before the first hop, those without a line.
+    preface: usize,
+    pub count: usize,
+    pub tell: Box<dyn FnMut(Hop) + 'a>,
+}
+
+impl<'a> Hops<'a> {
+    pub fn new(address: Option<u8>, unlogged: &'a Unlogged, tell: impl FnMut(Hop) + 'a) -> Hops<'a> {
+        let address = address.or(unlogged.address);
+        let places = Places::new(address.unwrap_or(0));
+        Hops {
+            unlogged,
+            address,
+            references: (unlogged.reference, unlogged.reference),
+            before: places.section(),
+            places,
+            window: Vec::new(),
+            is_folded: false,
+            owed: Vec::new(),
+            open: None,
+            preface: 0,
+            count: 0,
+            tell: Box::new(tell),
+        }
+    }
+
+    /// A section at its place, with its line where a log has one.
+    pub fn see(&mut self, at: u64, section: &[u8], line: Option<&Line>) {
+        // All of the file was found to be sections.
+        let Ok((_, transcript)) = Transcript::read(section) else { return };
+        self.find_chip(&transcript);
+        if let Some(target) = self.begins(&transcript, line) {
+            self.begin(target, at, line.map(|line| line.time));
+        }
+        self.take(&transcript);
+        let has_failed = line.is_none() && transcript.iter().any(|entry| entry.failed);
+        let tunes = line.is_none() && transcript.iter().any(|entry| places::tunes(&entry, self.address.unwrap_or(0)));
+        let told = if tunes { self.told() } else { None };
+        match (&mut self.open, line) {
+            (Some(open), None) => {
+                (open.unlogged, open.has_failed) = (open.unlogged + 1, open.has_failed || has_failed);
+                if tunes {
+                    open.is_running = false;
+                    open.tuned = told.map(|told| (told.rate.sure(), told.centre.sure()));
+                }
+            }
+            (None, None) => self.preface += 1,
+            (_, Some(line)) => self.called(line),
+        }
+        if let Some(open) = &mut self.open {
+            open.end = at + section.len() as u64;
+        }
+    }
+
+    /// Where nobody says which chip it is, it is the first that is written to.
+    fn find_chip(&mut self, transcript: &Transcript) {
+        let first = || transcript.iter().find(|entry| entry.kind == EntryKind::I2cWrite).map(|entry| entry.target);
+        if self.address.is_none() {
+            self.address = first();
+            self.places.chip_is(self.address.unwrap_or(0));
+        }
+    }
+
+    /// Whether a section begins a hop, or an attempt at one, and the frequency that is asked for.
+    fn begins(&self, transcript: &Transcript, line: Option<&Line>) -> Option<Option<u64>> {
+        let is_running = |to: u64| self.open.as_ref().is_some_and(|open| open.is_running && open.asked == Some(to));
+        match line {
+            Some(Line { to: Some(to), .. }) => (!is_running(*to)).then_some(Some(*to)),
+            Some(line) => line.is_tuning().then_some(line.asked),
+            None => {
+                // Of a run that is on its way it is the tuning.
+                let is_due = self.open.as_ref().is_some_and(|open| open.is_running && open.tuned.is_none());
+                let tunes = transcript.iter().any(|entry| places::tunes(&entry, self.address.unwrap_or(0)));
+                (tunes && !is_due).then(|| self.unlogged.asked.get(self.count).copied())
+            }
+        }
+    }
+
+    fn begin(&mut self, asked: Option<u64>, at: u64, time: Option<u64>) {
+        let mut next = Open { start: at, asked, began: time, time, attempts: 1, is_running: true, ..Open::default() };
+        match self.open.take().map(|open| self.close(&open)) {
+            Some(hop) if is_again(&hop, asked, time) => {
+                (next.number, next.start, next.began, next.attempts) = (hop.number, hop.start, hop.began, hop.attempts + 1);
+            }
+            ended => {
+                ended.map(&mut self.tell);
+                self.count += 1;
+                (next.number, next.unlogged) = (self.count, self.preface);
+                self.preface = 0;
+            }
+        }
+        self.open = Some(next);
+    }
+
+    /// The section's entries.
+    fn take(&mut self, transcript: &Transcript) {
+        let address = self.address.unwrap_or(0);
+        if transcript.iter().any(|entry| places::plans(&entry, address)) {
+            self.before = self.places.section();
+            self.window.clear();
+            self.is_folded = false;
+        }
+        if self.window.len() < LONG || transcript.iter().any(|entry| places::touches(&entry, address)) {
+            self.window.extend_from_slice(transcript.bytes());
+        } else {
+            self.is_folded = true;
+        }
+        transcript.iter().for_each(|entry| self.places.see(&entry));
+    }
+
+    /// What its line says: references, the tuning's shift, and what is owed.
+    fn called(&mut self, line: &Line) {
+        self.references = (line.tuner_xtal, line.driver_xtal);
+        if let Some(open) = &mut self.open {
+            if line.is_tuning() {
+                (open.shift, open.time) = (line.shift, Some(line.time));
+            }
+            open.is_running &= line.to.is_some() && !line.is_tuning() && line.refusal == 0;
+        }
+        let (slot, cleared): (&str, &[&str]) = match line.call {
+            "set_gain_by_index" => ("set_gain", &["set_gain"]),
+            // It sets IF and bandwidth too.
+            "set_sample_rate" => ("set_sample_rate", &["set_sample_rate", "set_if_freq", "set_if_freq_xtal", "set_bandwidth"]),
+            // Every register of the chip is sent again; what the call before was to send is not.
+            "reload" => return,
+            call => (call, &[]),
+        };
+        self.owed.retain(|owed| *owed != slot && (line.refusal > 0 || !cleared.contains(owed)));
+        if line.refusal > 0 {
+            self.owed.extend(crate::log::CALLS.iter().find(|call| **call == slot));
+        } else if line.call == "initialize" {
+            // What the tuner had of rate and gain is gone.
+            self.owed.retain(|owed| !["set_sample_rate", "set_gain"].contains(owed));
+            self.owed.extend(["set_sample_rate", "set_gain"]);
+        } else if line.call == "tune_board" {
+            self.owed.retain(|owed| *owed != "set_frequency");
+        }
+    }
+
+    /// What the sections up to here say. No reference is 0, and all are sections, so that the library refuses none of it.
+    fn told(&self) -> Option<Evidence> {
+        let behind = if self.is_folded { self.places.demod_section() } else { Vec::new() };
+        let sections = [&self.before[..], &self.window, &behind].concat();
+        evidence(&sections, self.address.unwrap_or(0), self.references.0, self.references.1).ok()
+    }
+
+    /// A hop as the sections up to here leave it.
+    fn close(&self, open: &Open) -> Hop {
+        let is_named = !self.unlogged.asked.is_empty();
+        let shift = if is_named { open.asked.and_then(|hz| self.shift(hz)) } else { open.shift };
+        let owed: &[&str] = if is_named && open.has_failed { &["a call, by its steps"] } else { &self.owed };
+        let unlogged = if is_named { 0 } else { open.unlogged };
+        let mut hop = Hop {
+            number: open.number,
+            start: open.start,
+            end: open.end,
+            began: open.began,
+            time: open.time,
+            attempts: open.attempts,
+            asked: open.asked,
+            centre: None,
+            rate: None,
+            lock: Lock::Unread,
+            tries: 0,
+            doubtful: self.places.doubtful().0,
+            verdict: Verdict::Unknown,
+            why: Vec::new(),
+        };
+        let Some(told) = self.told() else { return hop };
+        let case = Case { told, places: &self.places, driver_xtal: self.references.1, asked: open.asked, shift, owed, unlogged };
+        (hop.centre, hop.rate, hop.lock, hop.tries) = (case.centre(), told.rate.sure(), told.lock, told.tries);
+        (hop.verdict, hop.why) = case.judge();
+        if let Some((rate, centre)) = open.tuned.filter(|tuned| *tuned != (told.rate.sure(), told.centre.sure())) {
+            hop.rate = hop.rate.filter(|_| rate == told.rate.sure());
+            hop.centre = hop.centre.filter(|_| centre == told.centre.sure());
+            hop.verdict = Verdict::Unknown;
+            hop.why.push(String::from("rate or IF sent behind it, and no log tells for which hop"));
+        }
+        hop
+    }
+
+    /// What the board adds, where no line says it.
+    fn shift(&self, hz: u64) -> Option<i128> {
+        self.unlogged.table.plan_tuning(hz).ok().map(|plan| i128::from(plan.hz) - i128::from(hz))
+    }
+
+    /// Behind the last section.
+    pub fn end(&mut self) {
+        if let Some(open) = self.open.take() {
+            let hop = self.close(&open);
+            (self.tell)(hop);
+        }
+    }
+}
+
+/// Whether what begins is another attempt at a hop.
+fn is_again(hop: &Hop, asked: Option<u64>, time: Option<u64>) -> bool {
+    let is_soon = hop.time.zip(time).is_some_and(|(before, now)| (before..=before + AGAIN).contains(&now));
+    asked.is_some() && hop.asked == asked && hop.verdict != Verdict::Right && is_soon
+}
