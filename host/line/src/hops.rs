@@ -9,7 +9,7 @@ use crate::logged::Line;
 use crate::places::{self, Places};
 use crate::verdict::{Case, Verdict};
 use pasetone::evidence::Lock;
-use pasetone::{EntryKind, Evidence, Table, Transcript, evidence};
+use pasetone::{Entry, EntryKind, Evidence, Table, Transcript, evidence};
 
 /// So many seconds behind an attempt the same frequency is asked for again.
 const AGAIN: u64 = 120;
@@ -113,7 +113,7 @@ impl<'a> Hops<'a> {
             self.begin(target, at, line.map(|line| line.time));
         }
         self.take(&transcript);
-        let has_failed = line.is_none() && transcript.iter().any(|entry| entry.failed);
+        let has_failed = line.is_none() && transcript.iter().any(|entry| entry.failed && !closes(&entry));
         let tunes = line.is_none() && transcript.iter().any(|entry| places::tunes(&entry, self.address.unwrap_or(0)));
         let told = if tunes { self.told() } else { None };
         match (&mut self.open, line) {
@@ -273,8 +273,151 @@ impl<'a> Hops<'a> {
     }
 }
 
+/// The repeater's closing: a call is done whatever becomes of it.
+fn closes(entry: &Entry) -> bool {
+    entry.kind == EntryKind::Repeater && entry.bytes == [0]
+}
+
 /// Whether what begins is another attempt at a hop.
 fn is_again(hop: &Hop, asked: Option<u64>, time: Option<u64>) -> bool {
     let is_soon = hop.time.zip(time).is_some_and(|(before, now)| (before..=before + AGAIN).contains(&now));
     asked.is_some() && hop.asked == asked && hop.verdict != Verdict::Right && is_soon
+}
+
+#[cfg(test)]
+mod tests {
+    use super::*;
+    use crate::log::CALLS;
+    use pasetone::{Board, Call, Receiver, Script, TunerKind};
+
+    /// What a receiver was sent, section by section, with the lines of a log.
+    struct Sent {
+        receiver: Receiver,
+        sections: Vec<(Vec<u8>, Option<Line>)>,
+    }
+
+    impl Sent {
+        /// Set up and tuned to 102.3 MHz at the time 0.
+        fn new() -> Sent {
+            let receiver = Receiver::new(TunerKind::R828d, 0x74, Board::Generic, 28_800_000).unwrap();
+            let mut sent = Sent { receiver, sections: Vec::new() };
+            for call in [Call::Initialize, Call::SetSampleRate(2_048_000), Call::SetGain(29.7), Call::TuneBoard(102_300_000)] {
+                sent.call(call, 0, Some(102_300_000), None);
+            }
+            sent
+        }
+
+        fn call(&mut self, call: Call, time: u64, to: Option<u64>, fail: Option<usize>) {
+            let outcomes: Vec<u8> = (0..Script::OUTCOMES).map(|step| u8::from(Some(step) == fail)).collect();
+            let made = call.make(&mut self.receiver, &Script::new(outcomes, vec![0x0a; Script::REPLIES]));
+            let asked = match call {
+                Call::TuneBoard(hz) | Call::SetFrequency(hz) => Some(hz),
+                _ => None,
+            };
+            let line = Line {
+                time,
+                call: CALLS[usize::from(call.bytes()[0]) - 1],
+                asked,
+                refusal: made.result.err().map_or(0, |error| error.number()),
+                at: 0,
+                length: made.transcript.bytes().len() as u64,
+                address: 0x74,
+                tuner_xtal: 28_800_000,
+                driver_xtal: 28_800_000,
+                shift: asked.map(|_| 0),
+                to,
+            };
+            self.sections.push((made.transcript.bytes().to_vec(), Some(line)));
+        }
+
+        /// What was asked, how often, and what it came to.
+        fn hops(&self) -> Vec<(Option<u64>, u32, Verdict)> {
+            let unlogged = Unlogged { address: None, reference: 28_800_000, table: Board::Generic.table(), asked: Vec::new() };
+            let (mut told, mut at) = (Vec::new(), 0);
+            let mut hops = Hops::new(None, &unlogged, |hop| told.push((hop.asked, hop.attempts, hop.verdict)));
+            for (section, line) in &self.sections {
+                hops.see(at, section, line.as_ref());
+                at += section.len() as u64;
+            }
+            hops.end();
+            drop(hops);
+            told
+        }
+    }
+
+    const FIRST: (Option<u64>, u32, Verdict) = (Some(102_300_000), 1, Verdict::Right);
+
+    /// A rate over the line moves the recording that it comes behind; one that a hop begins with does not.
+    #[test]
+    fn a_rate_belongs_to_the_hop_that_it_moves() {
+        let mut sent = Sent::new();
+        sent.call(Call::SetSampleRate(3_200_000), 3_600, Some(99_000_000), None);
+        sent.call(Call::TuneBoard(99_000_000), 3_600, Some(99_000_000), None);
+        assert_eq!(sent.hops(), [FIRST, (Some(99_000_000), 1, Verdict::Right)]);
+        let mut sent = Sent::new();
+        sent.call(Call::SetSampleRate(3_200_000), 3_600, None, None);
+        sent.call(Call::SetFrequency(99_000_000), 3_600, None, None);
+        assert_eq!(sent.hops(), [(Some(102_300_000), 1, Verdict::Beside(-1_269_988)), (Some(99_000_000), 1, Verdict::Right)]);
+    }
+
+    /// A cut hop made again within two minutes is one, decided by its last attempt; later, or on another frequency, it stands as it was.
+    #[test]
+    fn attempts() {
+        let again = |seconds: u64, hz: u64| {
+            let mut sent = Sent::new();
+            sent.call(Call::TuneBoard(99_000_000), 3_600, Some(99_000_000), Some(30));
+            sent.call(Call::Reload, 3_601, None, None);
+            sent.call(Call::TuneBoard(hz), 3_600 + seconds, Some(hz), None);
+            sent.hops()[1..].to_vec()
+        };
+        assert_eq!(again(120, 99_000_000), [(Some(99_000_000), 2, Verdict::Right)]);
+        let cut = again(121, 99_000_000);
+        assert_eq!((cut.len(), cut[0].1, cut[1]), (2, 1, (Some(99_000_000), 1, Verdict::Right)));
+        assert!(cut[0].2 != Verdict::Right);
+        assert_eq!(again(1, 98_000_000)[0], cut[0]);
+        // A right one on the same frequency again is another.
+        let mut sent = Sent::new();
+        sent.call(Call::TuneBoard(102_300_000), 1, Some(102_300_000), None);
+        assert_eq!(sent.hops(), [FIRST, FIRST]);
+    }
+
+    /// A call that was cut is owed in every hop behind it until it is done, whatever else is.
+    #[test]
+    fn what_is_owed_stays_owed() {
+        let mut sent = Sent::new();
+        // The reload leaves no register doubtful.
+        sent.call(Call::SetGain(10.0), 1, None, Some(5));
+        sent.call(Call::Reload, 2, None, None);
+        sent.call(Call::TuneBoard(99_000_000), 3_600, Some(99_000_000), None);
+        let doubtful = (Some(99_000_000), 1, Verdict::Doubtful);
+        assert_eq!(sent.hops()[1], doubtful);
+        sent.call(Call::SetGain(10.0), 7_200, Some(98_000_000), None);
+        sent.call(Call::TuneBoard(98_000_000), 7_200, Some(98_000_000), None);
+        assert_eq!(sent.hops()[1..], [doubtful, (Some(98_000_000), 1, Verdict::Right)]);
+    }
+
+    /// Whichever line is missing, the hop that its section is in is not right.
+    #[test]
+    fn every_section_needs_its_line() {
+        for missing in 0..4 {
+            let mut sent = Sent::new();
+            sent.sections[missing].1 = None;
+            assert_eq!(sent.hops().iter().filter(|hop| hop.2 == Verdict::Right).count(), 0, "{missing}");
+        }
+    }
+
+    /// Behind more than a window's length of other calls the hop says the same.
+    #[test]
+    fn a_long_hop() {
+        let mut sent = Sent::new();
+        sent.call(Call::SetGain(10.0), 1, None, None);
+        sent.call(Call::SetSampleRate(2_048_000), 1, None, None);
+        let (gain, rate) = (sent.sections[4].clone(), sent.sections[5].clone());
+        for _ in 0..LONG / 200 {
+            sent.sections.extend([gain.clone(), rate.clone()]);
+        }
+        assert_eq!(sent.hops(), [FIRST]);
+        sent.call(Call::SetSampleRate(3_200_000), 1, None, None);
+        assert_eq!(sent.hops(), [(Some(102_300_000), 1, Verdict::Beside(-1_269_988))]);
+    }
 }
