@@ -4,6 +4,7 @@
 //! - A tuning of a line (`feed`), or one without a line in the log, begins a hop. All sections up to the next one belong to it: what moves its recording is its own.
 //! - The same frequency again within two minutes, where the hop has not come out right, is another attempt at it. The last attempt counts, and how many there were is told.
 //! - What stands before the first hop belongs to it.
+//! - A stop of the stream ends the recording: where nothing but that follows, the hop is judged before it, since it switches the demodulator off.
 //! - Behind a tuning without a line nobody can tell whether a rate was for it or for the next one: what it has moved is not known then.
 use crate::logged::Line;
 use crate::places::{self, Places};
@@ -13,6 +14,8 @@ use pasetone::{Entry, EntryKind, Evidence, Table, Transcript, evidence};
 
 /// So many seconds behind an attempt the same frequency is asked for again.
 const AGAIN: u64 = 120;
+
+const STOP: &str = "stop_streaming";
 
 /// A window that is longer has only those sections more that touch the oscillator or its lock: what others send to the demodulator is summed up.
 const LONG: usize = 1 << 20;
@@ -54,6 +57,8 @@ struct Open {
     unlogged: usize,
     /// Rate and centre at the end of a tuning without a line.
     tuned: Option<(Option<u64>, Option<u64>)>,
+    /// As it was before the stream was stopped.
+    stopped: Option<Box<Hop>>,
     /// Whether a step of a section without a line failed: then its call was not done.
     has_failed: bool,
 }
@@ -112,7 +117,11 @@ impl<'a> Hops<'a> {
         if let Some(target) = self.begins(&transcript, line) {
             self.begin(target, at, line.map(|line| line.time));
         }
+        let stopped = if line.is_some_and(|line| line.call == STOP) { self.open.as_ref().map(|open| self.close(open)) } else { None };
         self.take(&transcript);
+        if let Some(open) = &mut self.open {
+            open.stopped = stopped.map(Box::new);
+        }
         let has_failed = line.is_none() && transcript.iter().any(|entry| entry.failed && !closes(&entry));
         let tunes = line.is_none() && transcript.iter().any(|entry| places::tunes(&entry, self.address.unwrap_or(0)));
         let told = if tunes { self.told() } else { None };
@@ -202,7 +211,7 @@ impl<'a> Hops<'a> {
             // It sets IF and bandwidth too.
             "set_sample_rate" => ("set_sample_rate", &["set_sample_rate", "set_if_freq", "set_if_freq_xtal", "set_bandwidth"]),
             // Every register of the chip is sent again; what the call before was to send is not.
-            "reload" => return,
+            "reload" | STOP => return,
             call => (call, &[]),
         };
         self.owed.retain(|owed| *owed != slot && (line.refusal > 0 || !cleared.contains(owed)));
@@ -226,6 +235,9 @@ impl<'a> Hops<'a> {
 
     /// A hop as the sections up to here leave it.
     fn close(&self, open: &Open) -> Hop {
+        if let Some(stopped) = &open.stopped {
+            return Hop { end: open.end, ..Hop::clone(stopped) };
+        }
         let is_named = !self.unlogged.asked.is_empty();
         let shift = if is_named { open.asked.and_then(|hz| self.shift(hz)) } else { open.shift };
         let owed: &[&str] = if is_named && open.has_failed { &["a call, by its steps"] } else { &self.owed };
@@ -394,6 +406,23 @@ mod tests {
         sent.call(Call::SetGain(10.0), 7_200, Some(98_000_000), None);
         sent.call(Call::TuneBoard(98_000_000), 7_200, Some(98_000_000), None);
         assert_eq!(sent.hops()[1..], [doubtful, (Some(98_000_000), 1, Verdict::Right)]);
+    }
+
+    /// A stop ends the recording, and is no fault of it; what is started again behind it is.
+    #[test]
+    fn a_stop_ends_the_recording() {
+        let mut sent = Sent::new();
+        sent.call(Call::StopStreaming, 3_000, None, None);
+        assert_eq!(sent.hops(), [FIRST]);
+        let mut again = Sent::new();
+        again.call(Call::StopStreaming, 3_000, None, None);
+        again.call(Call::StartStreaming, 3_001, None, None);
+        assert_eq!(again.hops(), [(Some(102_300_000), 1, Verdict::Doubtful)]);
+        sent.call(Call::TuneBoard(99_000_000), 3_600, Some(99_000_000), None);
+        assert_eq!(sent.hops(), [FIRST, (Some(99_000_000), 1, Verdict::Doubtful)]);
+        sent.call(Call::SetSampleRate(2_048_000), 7_200, Some(98_000_000), None);
+        sent.call(Call::TuneBoard(98_000_000), 7_200, Some(98_000_000), None);
+        assert_eq!(sent.hops()[2], (Some(98_000_000), 1, Verdict::Right));
     }
 
     /// Whichever line is missing, the hop that its section is in is not right.
