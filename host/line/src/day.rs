@@ -218,8 +218,8 @@ impl Chip {
         }
         out.ends(End::Doubtful);
         if given.has(Key::Quiet) {
-            let count = doubtful.len();
-            out.tell(End::Doubtful, &format!("DOUBTFUL: {count} of {} registers: {}", self.registers.len(), runs(&doubtful)));
+            let (count, note) = (doubtful.len(), self.note().map_or_else(String::new, |note| format!("; {note}")));
+            out.tell(End::Doubtful, &format!("DOUBTFUL: {count} of {} registers: {}{note}", self.registers.len(), runs(&doubtful)));
         }
     }
 
