@@ -3,6 +3,7 @@
 #![deny(unsafe_code)]
 
 mod advice;
+mod align;
 mod answer;
 mod boards;
 mod command;
@@ -16,6 +17,7 @@ mod help;
 mod hop;
 mod json;
 mod names;
+mod nights;
 mod numbers;
 mod out;
 mod owed;
@@ -35,6 +37,7 @@ mod script;
 mod sections;
 mod settings;
 mod show;
+mod sides;
 mod signals;
 mod standing;
 mod state;
