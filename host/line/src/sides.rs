@@ -70,13 +70,14 @@ fn entries(section: &[u8]) -> impl Iterator<Item = &[u8]> {
     section[..section.len() - TRAILER].chunks_exact(ENTRY)
 }
 
-/// Over all but outcomes and what reads gave.
+/// A step without its outcome and what a read gave.
+fn step(entry: &[u8]) -> (u8, &[u8], &[u8]) {
+    (entry[0], &entry[2..8], if matches!(entry[0], 3 | 8) { &[] } else { &entry[8..] })
+}
+
 fn sum(section: &[u8]) -> u64 {
     let mut hasher = DefaultHasher::new();
-    for entry in entries(section) {
-        let data = if matches!(entry[0], 3 | 8) { &entry[8..8] } else { &entry[8..] };
-        (entry[0], &entry[2..8], data).hash(&mut hasher);
-    }
+    entries(section).for_each(|entry| step(entry).hash(&mut hasher));
     hasher.finish()
 }
 
@@ -87,14 +88,19 @@ fn about(entry: &[u8]) -> (u8, u8, u8, [u8; 2], u8) {
     (entry[0], entry[2], entry[3], address, first)
 }
 
-/// How many steps from the first on are about the same, where these are at least half of the shorter section.
+/// How much two sections are alike: the steps from the first on that are about the same, where these are at least half of the shorter section, and those of them
+/// that are the same.
 fn alike(first: &[u8], second: &[u8]) -> Option<usize> {
-    let same = entries(first).zip(entries(second)).take_while(|(a, b)| about(a) == about(b)).count();
+    let (mut about_same, mut same) = (0, 0);
+    for (a, b) in entries(first).zip(entries(second)).take_while(|(a, b)| about(a) == about(b)) {
+        about_same += 1;
+        same += usize::from(step(a) == step(b));
+    }
     let shorter = first.len().min(second.len()) / ENTRY;
-    (2 * same >= shorter).then_some(same)
+    (2 * about_same >= shorter).then_some(about_same + same)
 }
 
-/// What stands between two sections that are the same, paired in order so that as many steps as can be are about the same.
+/// What stands between two sections that are the same, paired in order so that it is as much alike as can be.
 fn between(last: &Night, first: Range<usize>, tonight: &Night, second: Range<usize>, all: &mut Vec<Beside>) {
     let whole = |night: &Night, places: Range<usize>| places.filter(|at| night.sections[*at].good).collect::<Vec<_>>();
     let is_damaged = |night: &Night, places: &Range<usize>| places.clone().any(|at| !night.sections[at].good);
@@ -117,7 +123,7 @@ fn between(last: &Night, first: Range<usize>, tonight: &Night, second: Range<usi
     }
 }
 
-/// The pairs with the most weight, where each pair counts for one more than the steps that are alike.
+/// The pairs with the most weight, where each pair counts for one more than it is alike.
 fn weighed(first: usize, second: usize, alike: impl Fn(usize, usize) -> Option<usize>) -> Vec<(usize, usize)> {
     let wide = second + 1;
     // The weight of what stands from a place of either on.
