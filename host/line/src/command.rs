@@ -4,6 +4,7 @@
 use crate::files::{self, Sink, Source, is_standard, shown};
 use crate::out::{End, Out};
 use crate::record::{self, Records};
+use crate::sections::Span;
 use crate::{entries, feed, held, help, hop, packets, parting, plan, reload, restore, settings, show, table, whereabouts, worksheet};
 use std::ffi::{OsStr, OsString};
 use std::os::unix::ffi::OsStrExt;
@@ -66,7 +67,7 @@ pub const COMMANDS: &[Command] = &[
         about: "sections of transcripts, in words",
         more: show::MORE,
         example: "show sections",
-        options: &[Key::Json, Key::Quiet],
+        options: &[Key::Sections, Key::Json, Key::Quiet],
         run: show::run,
     },
     Command {
@@ -75,7 +76,7 @@ pub const COMMANDS: &[Command] = &[
         about: "what a chip holds behind sections",
         more: held::MORE,
         example: "held sections --address 0x74",
-        options: &[Key::Chip, Key::Reference, Key::Json, Key::Quiet],
+        options: &[Key::Chip, Key::Reference, Key::Each, Key::Sections, Key::Json, Key::Quiet],
         run: held::run,
     },
     Command {
@@ -93,7 +94,7 @@ pub const COMMANDS: &[Command] = &[
         about: "where the sections of two nights part",
         more: parting::MORE,
         example: "parting monday tuesday",
-        options: &[Key::Json, Key::Quiet],
+        options: &[Key::Sections, Key::Json, Key::Quiet],
         run: parting::run,
     },
     Command {
@@ -184,6 +185,8 @@ pub enum Key {
     Section,
     Append,
     Out,
+    Sections,
+    Each,
     State,
     Record,
     Keep,
@@ -243,6 +246,8 @@ pub const OPTIONS: &[Opt] = &[
     row(Key::Section, "--section", Some("FILE"), A_FILE, "the sections, end to end, are written there; a file there is replaced", "none"),
     row(Key::Append, "--append", Some("FILE"), A_FILE, "the sections are written there behind what the file holds", "none"),
     row(Key::Out, "--out", Some("FILE"), A_FILE, "the answer's bytes are written there; a file there is replaced", "none"),
+    row(Key::Sections, "--sections", Some("A-B"), "numbers that `show` prints, as 3, 3-5 or 3-", "these sections alone, by the numbers that `show` prints", "all"),
+    row(Key::Each, "--each", None, "", "a row for each file by itself", ""),
     row(Key::Json, "--json", None, "", "the same as JSON in place of the table", ""),
     row(Key::Quiet, "--quiet", None, "", "print nothing but what went wrong; the exit status tells the rest", ""),
 ];
@@ -335,6 +340,11 @@ impl Given {
         if given.len() > 1 {
             out.mistake(&format!("standard input can be read once: give - to one of {}", given.join(" and ")));
         }
+    }
+
+    /// The numbers of `--sections`.
+    pub fn sections(&self, out: &mut Out) -> Option<Span> {
+        self.value(Key::Sections, out, Span::read)
     }
 
     /// Told where there is no file behind a command that takes files of sections, or standard input twice.

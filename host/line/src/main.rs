@@ -5,6 +5,7 @@
 mod advice;
 mod align;
 mod answer;
+mod begins;
 mod boards;
 mod command;
 mod day;

@@ -4,7 +4,7 @@ use crate::filed::File;
 use crate::json;
 use crate::names::counted;
 use crate::out::Out;
-use crate::sections::{ENTRY, Part, TRAILER, Walk};
+use crate::sections::{Part, Walk};
 use std::ops::Range;
 
 /// What the first night is called.
@@ -29,26 +29,30 @@ pub struct Section {
 impl Night {
     /// The two nights behind a command; every damaged part of them is told.
     pub fn both(command: &str, given: &Given, out: &mut Out) -> Option<[Night; 2]> {
+        let span = given.sections(out);
         let files = File::all(command, given, out)?;
-        let nights: Vec<Night> = files.into_iter().zip([LAST, "tonight"]).map(|(file, who)| Night::of(file, who, out)).collect();
-        nights.try_into().ok()
+        let walks: Vec<Option<Walk>> = files.iter().map(|file| file.walk(span, out)).collect();
+        let walked = files.into_iter().zip(walks).zip([LAST, "tonight"]);
+        let nights: Option<Vec<Night>> = walked.map(|((file, walk), who)| Some(Night::of(file, &walk?, who, out))).collect();
+        nights?.try_into().ok()
     }
 
-    pub fn of(file: File, who: &'static str, out: &mut Out) -> Night {
-        let walk = Walk::of(&file.bytes);
-        file.damaged(&walk, out);
-        let (mut sections, mut before) = (Vec::new(), 0);
+    pub fn of(file: File, walk: &Walk, who: &'static str, out: &mut Out) -> Night {
+        file.damaged(walk, out);
+        let skipped = walk.skipped();
+        let (mut sections, mut before) = (Vec::new(), skipped);
         for (number, part) in walk.numbered() {
-            let (start, end, good, steps) = match part {
-                Part::Good { start, end } => (start, end, true, (end - start - TRAILER) / ENTRY),
-                Part::Damaged(damage) => (damage.start, damage.end, false, damage.entries),
+            let steps = part.steps();
+            let (start, end, good) = match part {
+                Part::Good { start, end } => (start, end, true),
+                Part::Damaged(damage) => (damage.start, damage.end, false),
             };
             if number > 0 {
                 sections.push(Section { number, start, end, good, steps, before });
                 before += steps;
             }
         }
-        Night { who, file, sections, steps: before }
+        Night { who, file, sections, steps: before - skipped }
     }
 
     pub fn section(&self, at: usize) -> &[u8] {

@@ -160,10 +160,13 @@ mod tests {
     use super::*;
     use crate::filed::File;
     use crate::out::Out;
+    use crate::sections::Walk;
     use pasetone::{Script, Transcript, Tuner, TunerKind};
 
     fn night(sections: &[&[u8]], who: &'static str) -> Night {
-        Night::of(File { name: String::new(), bytes: sections.concat() }, who, &mut Out::standard())
+        let file = File { name: String::new(), bytes: sections.concat() };
+        let walk = Walk::of(&file.bytes);
+        Night::of(file, &walk, who, &mut Out::standard())
     }
 
     /// A bandwidth, two gains, a tuning, a tuning that was cut, an initialisation, a reload, and one of no steps.
