@@ -187,6 +187,8 @@ pub enum Key {
     Out,
     Sections,
     Each,
+    Repeater,
+    Pcap,
     State,
     Record,
     Keep,
@@ -248,6 +250,8 @@ pub const OPTIONS: &[Opt] = &[
     row(Key::Out, "--out", Some("FILE"), A_FILE, "the answer's bytes are written there; a file there is replaced", "none"),
     row(Key::Sections, "--sections", Some("A-B"), "numbers that `show` prints, as 3, 3-5 or 3-", "these sections alone, by the numbers that `show` prints", "all"),
     row(Key::Each, "--each", None, "", "a row for each file by itself", ""),
+    row(Key::Repeater, "--repeater", None, "", "opens and closes the repeater for sections that speak to a chip without", ""),
+    row(Key::Pcap, "--pcap", Some("FILE"), A_FILE, "the transfers are written there for Wireshark; a file is replaced", "none"),
     row(Key::Json, "--json", None, "", "the same as JSON in place of the table", ""),
     row(Key::Quiet, "--quiet", None, "", "print nothing but what went wrong; the exit status tells the rest", ""),
 ];

@@ -24,6 +24,7 @@ mod out;
 mod owed;
 mod packets;
 mod parting;
+mod pcap;
 mod plan;
 mod reach;
 mod receiver;
