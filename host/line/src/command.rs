@@ -5,7 +5,9 @@ use crate::files::{self, Sink, Source, is_standard, shown};
 use crate::out::{End, Out};
 use crate::record::{self, Records};
 use crate::sections::Span;
-use crate::{entries, feed, held, help, hop, packets, parting, plan, reload, restore, settings, show, table, whereabouts, worksheet};
+use crate::{
+    completion, entries, feed, held, help, hop, packets, parting, plan, reload, restore, settings, show, table, whereabouts, worksheet,
+};
 use std::ffi::{OsStr, OsString};
 use std::os::unix::ffi::OsStrExt;
 
@@ -150,6 +152,15 @@ pub const COMMANDS: &[Command] = &[
         example: "entries packets --out section",
         options: entries::OPTIONS,
         run: entries::run,
+    },
+    Command {
+        name: "completion",
+        operands: "bash|zsh",
+        about: "what a shell completes, as a script",
+        more: completion::MORE,
+        example: "completion bash",
+        options: &[],
+        run: completion::run,
     },
     Command {
         name: "help",

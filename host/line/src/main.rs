@@ -8,6 +8,7 @@ mod answer;
 mod begins;
 mod boards;
 mod command;
+mod completion;
 mod day;
 mod entries;
 mod feed;
