@@ -1,6 +1,7 @@
 #!/bin/bash
 # Installs the library under a prefix: header, archive, shared library, pkg-config file, manual pages and NOTICE, by a C compiler alone (CC, or cc), from the text of
-# dist/ for its machine; and the program, bin/pasetone, where cargo is here. It takes a second, or with a program that is not built yet some 20.
+# dist/ for its machine; and the program, bin/pasetone, with its pages and what bash and zsh complete behind it, where cargo is here. It takes a second, or with a
+# program that is not built yet some 20.
 #
 #   host/install.sh PREFIX
 #   DESTDIR=FOLDER host/install.sh /PREFIX     for a package: the files go below FOLDER, and pasetone.pc names /PREFIX alone
@@ -61,7 +62,7 @@ END
 "$here/man" "$work/man"
 install -d "$to/share/man/man3"
 install -m 644 "$work/man/man3/"* "$to/share/man/man3/"
-# The command line and its pages, where cargo can build it: the library needs no Rust.
+# The command line, its pages and completions, where cargo can build it: the library needs no Rust.
 machine=$(${CC:-cc} -dumpmachine)
 if ! command -v cargo > /dev/null; then
     echo "install: cargo is not on the path: all but the program, bin/pasetone, and its pages" >&2
@@ -72,5 +73,10 @@ else
     install -d "$to/bin" "$to/share/man/man1"
     install -m 755 "$root/target/line/pasetone" "$to/bin/"
     install -m 644 "$work/man/man1/"* "$to/share/man/man1/"
+    # Where both shells look for what they complete.
+    install -d "$to/share/bash-completion/completions" "$to/share/zsh/site-functions"
+    for shell in bash/pasetone zsh/_pasetone; do "$root/target/line/pasetone" completion "${shell%/*}" > "$work/${shell#*/}"; done
+    install -m 644 "$work/pasetone" "$to/share/bash-completion/completions/"
+    install -m 644 "$work/_pasetone" "$to/share/zsh/site-functions/"
 fi
 echo "installed: $to"

@@ -78,15 +78,20 @@ fn reload(record: &OsStr, given: &Given) -> String {
 fn hop_over(record: &OsStr, hz: &str, owed: &Owed, given: &Given) -> String {
     let holder = option(if given.has(Key::State) { Key::State } else { Key::Record }).name;
     let mut words = vec![program(), String::from("hop"), String::from(hz), format!("{holder} {}", file(record))];
-    let owes = |key: Key, value: Option<String>| value.filter(|_| !given.has(key)).map(|value| format!("{} {value}", option(key).name));
+    // A fresh record may be of another kind or board than its settings, by a word: over it they would be refused, and it owes all that they ask for.
+    let own_words = given.has(Key::Kind) || given.has(Key::Board);
+    let by_settings = |key: Key| given.has(Key::Settings) && !own_words && matches!(key, Key::Rate | Key::Gain | Key::If);
+    let owes = |key: Key, value: Option<String>| {
+        value.filter(|_| !given.has(key) && !by_settings(key)).map(|value| format!("{} {value}", option(key).name))
+    };
     words.extend((owed.initialise && !given.has(Key::Initialise)).then(|| String::from(option(Key::Initialise).name)));
     words.extend(owes(Key::Rate, owed.rate.map(|rate| rate.to_string())));
     words.extend(owes(Key::Gain, owed.gain.map(names::tenths_of)));
     words.extend(owes(Key::If, owed.if_hz.map(|hz| hz.to_string())));
     words.extend(owes(Key::Table, owed.table.then(|| String::from("FILE"))));
     // What a record has, and what is of one command alone, are no words beside --record.
-    let own =
-        [Key::State, Key::Record, Key::Keep, Key::Cut, Key::Section, Key::Kind, Key::Address, Key::Board, Key::Reference, Key::Settings];
+    let mut own = vec![Key::State, Key::Record, Key::Keep, Key::Cut, Key::Section, Key::Kind, Key::Address, Key::Board, Key::Reference];
+    own.extend(own_words.then_some(Key::Settings));
     words.extend(options(given, &own));
     words.extend((!given.has(Key::State)).then(|| format!("--keep {}", file(record))));
     words.join(" ")
@@ -149,17 +154,19 @@ pub fn reload_again(record: &OsStr, given: &Given, records: &Records) -> String 
 /// The same receiver set up from nothing: what a record has is said by words.
 fn from_nothing(given: &Given, hz: &str, records: &Records) -> String {
     let Records { tuner, driver, owed } = records;
+    // What settings say is no word: it would win over them.
+    let says = |key: Key| given.has(key) || given.has(Key::Settings);
     let rate = owed.rate.unwrap_or(driver.rate());
     let gain = owed.gain.unwrap_or(Gain::Tenths((tuner.gain() * 10.0).round() as i32));
     let mut words = vec![program(), String::from("hop"), hz.to_string()];
     words.push(format!("--kind {} --address 0x{:02x}", names::kind(tuner.kind()).to_lowercase(), tuner.address()));
     words.extend((!given.has(Key::Table)).then(|| format!("--board {}", names::board(driver.board()).to_lowercase())));
     words.push(format!("--reference {}", tuner.nominal()));
-    words.extend((driver.ppm() != 0 && !given.has(Key::Ppm)).then(|| format!("--ppm {}", driver.ppm())));
-    words.extend((!given.has(Key::Rate)).then(|| format!("--rate {rate}")));
-    words.extend((!given.has(Key::Gain)).then(|| format!("--gain {}", names::tenths_of(gain))));
+    words.extend((driver.ppm() != 0 && !says(Key::Ppm)).then(|| format!("--ppm {}", driver.ppm())));
+    words.extend((!says(Key::Rate)).then(|| format!("--rate {rate}")));
+    words.extend((!says(Key::Gain)).then(|| format!("--gain {}", names::tenths_of(gain))));
     let if_hz = owed.if_hz.map(u64::from).or(Some(tuner.if_freq()).filter(|hz| *hz != own_if(rate)));
-    words.extend(if_hz.filter(|_| !given.has(Key::If)).map(|hz| format!("--if {hz}")));
+    words.extend(if_hz.filter(|_| !says(Key::If)).map(|hz| format!("--if {hz}")));
     words.extend(options(given, &[Key::Record, Key::Initialise]));
     // The file that the record came from is no longer the receiver's: what the line leads to takes its place.
     words.extend(given.word(Key::Record).filter(|name| !is_standard(name)).map(|name| format!("--keep {}", file(name))));

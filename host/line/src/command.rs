@@ -5,9 +5,10 @@ use crate::files::{self, Sink, Source, is_standard, shown};
 use crate::log::{self, Line, Log};
 use crate::out::{End, Out};
 use crate::record::{self, Records};
+use crate::sections::Span;
 use crate::{
-    devices, entries, feed, held, help, hop, night, nightly, packets, parting, plan, reload, restore, settings, show, start, table,
-    whereabouts, worksheet,
+    completion, devices, entries, feed, held, help, hop, night, nightly, packets, parting, plan, reload, restore, settings, show, start,
+    table, whereabouts, worksheet,
 };
 use std::ffi::{OsStr, OsString};
 use std::os::unix::ffi::OsStrExt;
@@ -79,7 +80,7 @@ pub const COMMANDS: &[Command] = &[
         about: "sections of transcripts, in words",
         more: show::MORE,
         example: "show sections",
-        options: &[Key::Json, Key::Quiet],
+        options: &[Key::Sections, Key::Json, Key::Quiet],
         run: show::run,
     },
     Command {
@@ -88,7 +89,7 @@ pub const COMMANDS: &[Command] = &[
         about: "what a chip holds behind sections",
         more: held::MORE,
         example: "held sections --address 0x74",
-        options: &[Key::Chip, Key::Reference, Key::Json, Key::Quiet],
+        options: &[Key::Chip, Key::Reference, Key::Each, Key::Sections, Key::Json, Key::Quiet],
         run: held::run,
     },
     Command {
@@ -106,7 +107,7 @@ pub const COMMANDS: &[Command] = &[
         about: "where the sections of two nights part",
         more: parting::MORE,
         example: "parting monday tuesday",
-        options: &[Key::Json, Key::Quiet],
+        options: &[Key::Sections, Key::Json, Key::Quiet],
         run: parting::run,
     },
     Command {
@@ -191,6 +192,15 @@ pub const COMMANDS: &[Command] = &[
         run: nightly::run,
     },
     Command {
+        name: "completion",
+        operands: "bash|zsh",
+        about: "what a shell completes, as a script",
+        more: completion::MORE,
+        example: "completion bash",
+        options: &[],
+        run: completion::run,
+    },
+    Command {
         name: "help",
         operands: "[COMMAND]",
         about: "this page, or a command's",
@@ -232,6 +242,10 @@ pub enum Key {
     Asked,
     Html,
     Out,
+    Sections,
+    Each,
+    Repeater,
+    Pcap,
     State,
     Device,
     Detach,
@@ -310,6 +324,10 @@ pub const OPTIONS: &[Opt] = &[
     row(Key::Tuner, "--address", Some("N"), "a number to 255 (0xff)", "the chip's address, without a log", "the first written to"),
     row(Key::Html, "--html", Some("FILE"), A_FILE, "the same as a page for a browser; a file there is replaced", "none"),
     row(Key::Out, "--out", Some("FILE"), A_FILE, "the answer's bytes are written there; a file there is replaced", "none"),
+    row(Key::Sections, "--sections", Some("A-B"), "numbers that `show` prints, as 3, 3-5 or 3-", "these sections alone, by the numbers that `show` prints", "all"),
+    row(Key::Each, "--each", None, "", "a row for each file by itself", ""),
+    row(Key::Repeater, "--repeater", None, "", "opens and closes the repeater for sections that speak to a chip without", ""),
+    row(Key::Pcap, "--pcap", Some("FILE"), A_FILE, "the transfers are written there for Wireshark; a file is replaced", "none"),
     row(Key::Json, "--json", None, "", "the same as JSON in place of the table", ""),
     row(Key::Quiet, "--quiet", None, "", "print nothing but what went wrong; the exit status tells the rest", ""),
 ];
@@ -404,6 +422,11 @@ impl Given {
         if given.len() > 1 {
             out.mistake(&format!("standard input can be read once: give - to one of {}", given.join(" and ")));
         }
+    }
+
+    /// The numbers of `--sections`.
+    pub fn sections(&self, out: &mut Out) -> Option<Span> {
+        self.value(Key::Sections, out, Span::read)
     }
 
     /// Told where there is no file behind a command that takes files of sections, or standard input twice.

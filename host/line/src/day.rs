@@ -1,6 +1,7 @@
 //! A day: the sections of some files end to end, oldest first, and where they left a chip's registers. Which registers are sure is the library's answer (its
 //! restore list); of the others the last write tells why they are not.
 use crate::answer;
+use crate::begins::Begins;
 use crate::command::{Given, Key};
 use crate::filed::File;
 use crate::json;
@@ -17,13 +18,16 @@ const SHADOW: usize = 2;
 const DOUBTFUL: usize = 51;
 
 /// All of its bytes are sections: what is damaged is left out, and its place is known.
-#[derive(Default)]
 pub struct Day {
     bytes: Vec<u8>,
-    files: usize,
+    /// Their names.
+    files: Vec<String>,
     sections: usize,
     steps: usize,
+    /// The steps before the first section that is asked for.
+    skipped: usize,
     holes: Vec<Hole>,
+    pub begins: Begins,
 }
 
 /// Damaged bytes between two sections. What they sent nobody knows, so that behind them every register is doubtful until a whole section writes it.
@@ -65,32 +69,48 @@ pub struct Chip {
     written: BTreeSet<u8>,
 }
 
-/// The chip that `--address` names, at the end of the day in the files behind a command. `None` where something is wrong, which has then been told.
-pub fn of(command: &str, given: &Given, out: &mut Out) -> Option<(Day, Chip)> {
+/// The chip that `--address` names, at the end of the day in the files behind a command: of all files together, or with `--each` of each by itself. `None` where
+/// something is wrong, which has then been told.
+pub fn all(command: &str, given: &Given, out: &mut Out) -> Option<Vec<(Day, Chip)>> {
     given.wants_files(command, out);
     if !given.has(Key::Chip) {
         out.mistake(&format!("{command} wants --address with the chip's address on I2C, as 0x74 (R828D) or 0x34 (R820T)"));
     }
     let address = given.value(Key::Chip, out, |text| u8::try_from(numbers::whole(text)?).ok());
-    let day = Day::read(command, given, out)?;
-    match day.chip(address?) {
+    let (span, each) = (given.sections(out), given.has(Key::Each));
+    if span.is_some() && given.operands.len() > 1 && !each {
+        out.mistake("--sections counts in one file: give one, or --each with the files");
+    }
+    let files = File::all(command, given, out)?;
+    let walks: Vec<Option<Walk>> = files.iter().map(|file| file.walk(span, out)).collect();
+    let (walks, address) = (walks.into_iter().collect::<Option<Vec<Walk>>>()?, address?);
+    let files: Vec<(File, Walk)> = files.into_iter().zip(walks).collect();
+    let days: Vec<Vec<(File, Walk)>> = if each { files.into_iter().map(|one| vec![one]).collect() } else { vec![files] };
+    let days: Vec<Day> = days.into_iter().map(|files| Day::of(command, files, address, out)).collect();
+    let chips = |day: Day| match day.chip(address) {
         Ok(chip) => Some((day, chip)),
         // All of it was found whole before.
         Err(error) => {
             answer::refused(given, error, &format!("{command}: {error}"), out);
             None
         }
-    }
+    };
+    days.into_iter().map(chips).collect()
 }
 
 impl Day {
-    fn read(command: &str, given: &Given, out: &mut Out) -> Option<Day> {
-        let files = File::all(command, given, out)?;
-        let mut day = Day { files: files.len(), ..Day::default() };
-        for file in files {
-            let walk = Walk::of(&file.bytes);
+    fn new(address: u8) -> Day {
+        let (bytes, files, holes) = (Vec::new(), Vec::new(), Vec::new());
+        Day { bytes, files, sections: 0, steps: 0, skipped: 0, holes, begins: Begins::new(address) }
+    }
+
+    fn of(command: &str, files: Vec<(File, Walk)>, address: u8, out: &mut Out) -> Day {
+        let mut day = Day::new(address);
+        for (file, walk) in files {
+            day.begins.add(&file, &walk);
             file.damaged(&walk, out);
-            day.sections += walk.numbered().last().map_or(0, |(number, _)| number);
+            day.files.push(file.name.clone());
+            (day.sections, day.skipped) = (day.sections + walk.sections(), day.skipped + walk.skipped());
             day.add(file, &walk);
         }
         if !day.holes.is_empty() {
@@ -98,12 +118,22 @@ impl Day {
             let why = "what was sent there is not known, so behind it every register is doubtful until a whole section writes it";
             out.tell(End::Refused, &format!("{command}: {parts} of the files {verb} no section (refusal 12): {why}"));
         }
-        Some(day)
+        day
+    }
+
+    /// The one file that it is of.
+    pub fn name(&self) -> &str {
+        self.files.first().map_or("", |name| name)
+    }
+
+    /// How many sections and steps.
+    pub fn counts(&self) -> (usize, usize) {
+        (self.sections, self.steps)
     }
 
     /// The sections of a file, and the holes between them.
     fn add(&mut self, file: File, walk: &Walk) {
-        if walk.damages() == 0 {
+        if walk.damages() == 0 && walk.is_whole() {
             self.steps += file.bytes.len().saturating_sub(TRAILER * walk.numbered().count()) / ENTRY;
             // The usual day is one file, and may be a large one.
             if self.bytes.is_empty() {
@@ -150,7 +180,7 @@ impl Day {
 
     /// Every entry with its number, in order, and whether it stands behind all damage.
     fn each(&self, mut see: impl FnMut(usize, bool, &Entry)) {
-        let (mut step, mut holes) = (0, self.holes.iter().peekable());
+        let (mut step, mut holes) = (self.skipped, self.holes.iter().peekable());
         for (_, part) in Walk::of(&self.bytes).numbered() {
             let Part::Good { start, end } = part else { continue };
             while let Some(hole) = holes.next_if(|hole| hole.at <= start) {
@@ -165,7 +195,7 @@ impl Day {
     }
 
     pub fn line(&self, chip: &Chip) -> String {
-        let (files, sections) = (counted(self.files, "file"), counted(self.sections, "section"));
+        let (files, sections) = (counted(self.files.len(), "file"), counted(self.sections, "section"));
         let damaged = if self.holes.is_empty() { String::new() } else { format!("; DAMAGED: {}", self.holes.len()) };
         format!("chip 0x{:02x} behind {sections} and {} of {files}{damaged}", chip.address, counted(self.steps, "step"))
     }
@@ -176,11 +206,17 @@ impl Day {
             refusal,
             ("damaged", self.holes.len().to_string()),
             ("address", chip.address.to_string()),
-            ("files", self.files.to_string()),
+            ("files", self.files.len().to_string()),
             ("sections", self.sections.to_string()),
             ("steps", self.steps.to_string()),
         ]
     }
+}
+
+/// A row of `--each`: a file, four numbers, and what stands behind them.
+pub fn each_row(name: &str, numbers: [String; 4], rest: &str, out: &mut Out) {
+    let numbers = numbers.map(|number| format!("{number:>9}")).concat();
+    out.line(&format!("{name:<28}{numbers}  {rest}"));
 }
 
 /// The registers of which a record keeps something, each with its byte.
@@ -210,26 +246,37 @@ impl Chip {
         Tuner::from_bytes(&bytes).ok()?.oscillator().ok()
     }
 
-    /// The exit status where a register is doubtful; a line too where nothing is printed.
-    pub fn tell_doubt(&self, given: &Given, out: &mut Out) {
+    /// The exit status where a register is doubtful; a line too where nothing is printed, which names the file where each is told by itself.
+    pub fn tell_doubt(&self, day: &Day, given: &Given, out: &mut Out) {
         let doubtful = self.those(|held| !matches!(held, Held::Sure(..)));
         if doubtful.is_empty() {
             return;
         }
         out.ends(End::Doubtful);
         if given.has(Key::Quiet) {
-            let count = doubtful.len();
-            out.tell(End::Doubtful, &format!("DOUBTFUL: {count} of {} registers: {}", self.registers.len(), runs(&doubtful)));
+            let (count, note) = (doubtful.len(), self.note().map_or_else(String::new, |note| format!("; {note}")));
+            let file = if given.has(Key::Each) { format!("{}: ", day.name()) } else { String::new() };
+            out.tell(End::Doubtful, &format!("{file}DOUBTFUL: {count} of {} registers: {}{note}", self.registers.len(), runs(&doubtful)));
         }
     }
 
-    /// What to do where nothing was written to this chip, and something to others.
-    pub fn note(&self) -> Option<String> {
-        if self.written.is_empty() || self.written.contains(&self.address) {
-            return None;
-        }
+    /// The chips to which something was written, where this one is none of them.
+    fn others(&self) -> Option<String> {
         let others: Vec<String> = self.written.iter().map(|chip| format!("0x{chip:02x}")).collect();
-        Some(format!("note: nothing is written to 0x{:02x} here, but to {}: give that as --address", self.address, others.join(" and ")))
+        (!others.is_empty() && !self.written.contains(&self.address)).then(|| others.join(" and "))
+    }
+
+    /// What to do then.
+    pub fn note(&self) -> Option<String> {
+        let others = self.others()?;
+        Some(format!("note: nothing is written to 0x{:02x} here, but to {others}: give that as --address", self.address))
+    }
+
+    /// What stands at the end of its row of `--each`.
+    pub fn flaws(&self, day: &Day, out: &Out) -> String {
+        let damaged = if day.holes.is_empty() { String::new() } else { format!("; {} {}", out.loud("DAMAGED:"), day.holes.len()) };
+        let others = self.others().map_or_else(String::new, |others| format!("; writes to {others}"));
+        format!("{damaged}{others}")
     }
 
     pub fn registers_json(&self) -> String {
@@ -264,7 +311,7 @@ mod tests {
             let first = tuner.initialize(&script(fail)).transcript;
             let second = tuner.set_frequency(102_300_000, &script(fail.saturating_sub(19))).transcript;
             let bytes = [first.bytes(), second.bytes()].concat();
-            let day = Day { bytes, files: 1, sections: 2, steps: first.len() + second.len(), ..Day::default() };
+            let day = Day { bytes, sections: 2, steps: first.len() + second.len(), ..Day::new(0x74) };
             for (register, held) in day.chip(0x74).unwrap().registers {
                 assert_eq!(tuner.is_doubtful(register), !matches!(held, Held::Sure(..)), "{fail} {register}");
                 if let Held::Sure(byte, _) | Held::Failed(byte, _) = held {
@@ -296,7 +343,7 @@ mod tests {
             if walk.damages() == 0 {
                 continue;
             }
-            let mut day = Day::default();
+            let mut day = Day::new(0x74);
             day.add(File { name: String::new(), bytes: spoiled.clone() }, &walk);
             let chip = day.chip(0x74).unwrap();
             told.insert(chip.sure().len());

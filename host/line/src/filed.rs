@@ -1,8 +1,9 @@
 //! A file of sections: its name as it is printed, and its bytes; and what is wrong with a damaged part of it, in words.
 use crate::command::Given;
 use crate::files::{self, called};
+use crate::names::counted;
 use crate::out::{End, Out};
-use crate::sections::{Damage, ENTRY, Flaw, Part, TRAILER, Walk, alone};
+use crate::sections::{Damage, ENTRY, Flaw, Part, Span, TRAILER, Walk, alone};
 use pasetone::Transcript;
 use std::ffi::OsStr;
 
@@ -26,6 +27,15 @@ impl File {
         // Each is tried, so that each mistake is told.
         let files: Vec<Option<File>> = given.operands.iter().map(|name| name.as_os_str()).map(read).collect();
         files.into_iter().collect()
+    }
+
+    /// Its sections, or those that `--sections` asks for; told where it has not so many.
+    pub fn walk(&self, span: Option<Span>, out: &mut Out) -> Option<Walk> {
+        let walk = Walk::of(&self.bytes);
+        let Some(span) = span else { return Some(walk) };
+        let told =
+            |all| out.mistake(&format!("--sections: {} has {}: give numbers that `show` prints", self.name, counted(all, "section")));
+        walk.only(span).map_err(told).ok()
     }
 
     /// Tells every damaged part; how many there are.

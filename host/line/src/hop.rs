@@ -11,7 +11,7 @@ use crate::receiver::{self, Receiver};
 use crate::report::{self, Head, Report};
 use crate::run::{Asked, Run, Start};
 use crate::state::Keeper;
-use crate::{advice, numbers, record, script};
+use crate::{advice, names, numbers, record, script};
 use pasetone::Error;
 
 pub const MORE: &[&str] = &[
@@ -23,7 +23,8 @@ pub const MORE: &[&str] = &[
     "rate, gain and IF only where --initialise, --rate, --gain and --if are given. A call that was cut",
     "and is not made again, or never made, is owed: the record keeps that, and while one is owed the",
     "station is told as UNKNOWN, with the line that mends it. A table is not in the record: give --table",
-    "again. With --settings HZ may be left out; a word that is given wins.",
+    "again. With --settings HZ may be left out; a word that is given wins. Over a kept record they must",
+    "be of its kind and its board, and their correction, rate, gain and IF are called.",
     "--state is one file in place of --record and --keep: a new one begins with a fresh record, and each",
     "call is stored in it with its section in --append. A run that died is recovered by the next one with",
     "its state, first of all and in a line; runs at once on one state wait for each other.",
@@ -134,6 +135,9 @@ fn request(given: &Given, out: &mut Out) -> Option<Request> {
     let link = Link::open(given, out);
     let keeper = Keeper::open(given, link.as_ref(), out);
     let (start, place) = begins(given, &receiver, keeper.as_ref(), out);
+    if let Some(kept) = &settings {
+        fits(given, kept, start.as_ref(), out);
+    }
     let outcomes = script::outcomes(given, fail, out);
     let replies = script::replies(given, script::lock(start.as_ref().map(Start::kind)), out);
     let Receiver { ppm, rate, gain, if_hz, frequency, .. } = receiver;
@@ -214,9 +218,22 @@ fn not_beside(given: &Given, holder: Key, word: &str, out: &mut Out) {
     for key in [Key::Kind, Key::Address, Key::Board, Key::Reference].into_iter().filter(|key| given.has(*key)) {
         out.mistake(&format!("{} is in the {word} that {name} names: give one of the two", option(key).name));
     }
-    if given.has(Key::Settings) {
-        out.mistake(&format!("--settings names a kind and a board, which are in the {word} that {name} names: give one of the two"));
+}
+
+/// Settings go over a running receiver where they are of its kind and of its board: their rate, gain and IF would else be sent to another.
+fn fits(given: &Given, settings: &receiver::Kept, start: Option<&Start>, out: &mut Out) {
+    let Some(Start::Kept(records)) = start else { return };
+    let holder = if given.has(Key::State) { Key::State } else { Key::Record };
+    let settings = settings.settings.settings;
+    let own = (records.tuner.kind(), records.driver.board());
+    if own == (settings.kind, settings.board) {
+        return;
     }
+    let words = |(kind, board)| format!("{} on a {} board", names::kind(kind), names::board(board));
+    let file = |key| given.word(key).map(called).unwrap_or_default();
+    let (theirs, own) = (words((settings.kind, settings.board)), words(own));
+    let (site, kept, holder) = (file(Key::Settings), file(holder), option(holder).name);
+    out.mistake(&format!("--settings {site} is of an {theirs}, and {holder} {kept} of an {own}: give the settings of that receiver"));
 }
 
 fn kept(given: &Given, out: &mut Out) -> Option<Start> {

@@ -3,10 +3,13 @@
 #![deny(unsafe_code)]
 
 mod advice;
+mod align;
 mod answer;
+mod begins;
 mod boards;
 mod clock;
 mod command;
+mod completion;
 mod day;
 mod device;
 mod devices;
@@ -25,6 +28,7 @@ mod logged;
 mod names;
 mod night;
 mod nightly;
+mod nights;
 mod numbers;
 mod out;
 mod owed;
@@ -32,6 +36,7 @@ mod packets;
 mod page;
 mod parting;
 mod parts;
+mod pcap;
 mod places;
 mod plan;
 mod reach;
@@ -48,6 +53,7 @@ mod script;
 mod sections;
 mod settings;
 mod show;
+mod sides;
 mod signals;
 mod standing;
 mod start;

@@ -1,42 +1,31 @@
-//! `parting`: where two nights part, section by section: the first step that differs, with some before it, and whose it is.
+//! `parting`: where two nights part. Sections are put side by side by what they do (sides.rs): those that are the same, those that part, with the first step that
+//! differs and some before it, and those that one night has alone.
 use crate::command::{Given, Key};
-use crate::filed::File;
 use crate::json;
 use crate::names::counted;
+use crate::nights::{LAST, Night};
 use crate::out::{End, Out};
 use crate::rows;
-use crate::sections::{ENTRY, Part, TRAILER, Walk};
+use crate::sides::{Beside, sides};
 use pasetone::{Entry, Transcript, Whose, parting};
+use std::ops::Range;
 
 pub const MORE: &[&str] = &[
     "Each file holds the sections of a night, as --section of hop writes them; one of the two may be -,",
-    "standard input. The first section of one is held against the first of the other, the second",
-    "against the second, and so on. Outcomes and what reads gave are not compared, but shown where",
-    "they differ: a step that failed is the same step, and those behind it are others.",
+    "standard input. Sections are put side by side by what they do, in order: one that was added or left",
+    "out moves none of the others. Of what is left between two that are the same, sections that begin",
+    "alike part, and are shown from where they do; the others are told as of one night alone, and `show",
+    "FILE --sections N` has them. Outcomes and what reads gave are not compared, but shown where they",
+    "differ: a step that failed is the same step, and those behind it are others. As many are found to be",
+    "the same as can be, while the nights differ in fewer than a thousand sections in a stretch.",
     "Where the nights part, or a section is damaged, the exit status is 1.",
 ];
 
 /// So many steps are shown before the one that differs.
 const BEFORE: usize = 3;
 
-/// A night: the sections of a file, each by its place, whether it is whole, and how many steps stand before it.
-struct Night {
-    who: &'static str,
-    file: File,
-    sections: Vec<Section>,
-    steps: usize,
-}
-
-struct Section {
-    start: usize,
-    end: usize,
-    good: bool,
-    before: usize,
-}
-
-/// Two sections of one number that part.
+/// Two sections that part.
 struct Parted<'a> {
-    number: usize,
     whose: Whose,
     /// How many steps are the same.
     same: usize,
@@ -47,6 +36,7 @@ struct Parted<'a> {
 /// One night's side of it: its section, whose steps are counted on from `before`.
 struct Side<'a> {
     who: &'static str,
+    number: usize,
     transcript: &'a Transcript,
     before: usize,
 }
@@ -56,81 +46,54 @@ pub fn run(given: &Given, out: &mut Out) {
         out.mistake("parting wants two files of sections: last night's, then tonight's");
     }
     given.reads_operands_once(out);
-    let Some(files) = File::all("parting", given, out) else { return };
-    let mut nights = files.into_iter().zip(["last", "tonight"]).map(|(file, who)| Night::of(file, who, out));
-    let (Some(last), Some(tonight)) = (nights.next(), nights.next()) else { return };
-    drop(nights);
-    let mut told = Told { json: given.has(Key::Json), quiet: given.has(Key::Quiet), compared: 0, ended: 0, parted: Vec::new() };
+    let Some([last, tonight]) = Night::both("parting", given, out) else { return };
+    let mut told = Told { json: given.has(Key::Json), quiet: given.has(Key::Quiet), ..Told::default() };
     told.open(&last, &tonight, out);
-    for at in 0..last.sections.len().min(tonight.sections.len()) {
-        compared(at, &last, &tonight, &mut told, out);
-    }
-    told.close(&last, &tonight, out);
-}
-
-impl Night {
-    fn of(file: File, who: &'static str, out: &mut Out) -> Night {
-        let walk = Walk::of(&file.bytes);
-        file.damaged(&walk, out);
-        let (mut sections, mut steps) = (Vec::new(), 0);
-        for (number, part) in walk.numbered() {
-            let (start, end, good, entries) = match part {
-                Part::Good { start, end } => (start, end, true, (end - start - TRAILER) / ENTRY),
-                Part::Damaged(damage) => (damage.start, damage.end, false, damage.entries),
-            };
-            if number > 0 {
-                sections.push(Section { start, end, good, before: steps });
-                steps += entries;
-            }
+    for beside in sides(&last, &tonight) {
+        match beside {
+            Beside::Both(at, other) => compared(at, other, &last, &tonight, &mut told, out),
+            Beside::Last(run, false) => told.only(&last, run, out),
+            Beside::Tonight(run, false) => told.only(&tonight, run, out),
+            Beside::Last(run, true) => told.unknown(&last, run, &tonight, out),
+            Beside::Tonight(run, true) => told.unknown(&tonight, run, &last, out),
         }
-        Night { who, file, sections, steps }
     }
-
-    fn section(&self, at: usize) -> &[u8] {
-        &self.file.bytes[self.sections[at].start..self.sections[at].end]
-    }
-
-    fn line(&self) -> String {
-        let (sections, steps) = (counted(self.sections.len(), "section"), counted(self.steps, "step"));
-        format!("{:<8} {sections}, {steps}: {}", format!("{}:", self.who), self.file.name)
-    }
-
-    fn json(&self) -> String {
-        json::object(&[
-            ("file", json::string(&self.file.name)),
-            ("sections", self.sections.len().to_string()),
-            ("steps", self.steps.to_string()),
-        ])
-    }
+    told.close(out);
 }
 
-/// One section of both nights; nothing is told of what is the same or cannot be compared.
-fn compared(at: usize, last: &Night, tonight: &Night, told: &mut Told, out: &mut Out) {
-    if !last.sections[at].good || !tonight.sections[at].good {
-        return;
-    }
+/// A section of each night, side by side. What is told as the same is what the library finds no difference in.
+fn compared(at: usize, other: usize, last: &Night, tonight: &Night, told: &mut Told, out: &mut Out) {
     told.compared += 1;
-    let (first, second) = (last.section(at), tonight.section(at));
+    let (first, second) = (last.section(at), tonight.section(other));
     let Ok(part) = parting(first, second) else { return };
     if part.is_empty() {
         told.ended += usize::from(first != second);
         return;
     }
     let (Ok((_, first)), Ok((_, second))) = (Transcript::read(first), Transcript::read(second)) else { return };
-    let side = |night: &Night, transcript| Side { who: night.who, transcript, before: night.sections[at].before };
-    let (last, tonight) = (side(last, &first), side(tonight, &second));
-    told.one(&Parted { number: at + 1, whose: part.whose, same: part.index, last, tonight }, out);
+    let side = |night: &Night, at: usize, transcript| {
+        let section = &night.sections[at];
+        Side { who: night.who, number: section.number, transcript, before: section.before }
+    };
+    let (last, tonight) = (side(last, at, &first), side(tonight, other, &second));
+    told.one(&Parted { whose: part.whose, same: part.index, last, tonight }, out);
 }
 
 /// What was told so far.
+#[derive(Default)]
 struct Told {
     json: bool,
     quiet: bool,
     compared: usize,
     /// How many sections have the same steps, with other outcomes or replies.
     ended: usize,
-    /// The numbers of the sections that part, and the first one in words.
-    parted: Vec<(usize, String)>,
+    /// How many pairs part, and the first one in words.
+    parted: usize,
+    first: Option<String>,
+    /// The numbers of the sections that one night has alone, last's and tonight's.
+    only: [Vec<usize>; 2],
+    /// How many stand across from damage.
+    unknown: usize,
 }
 
 impl Told {
@@ -145,45 +108,72 @@ impl Told {
 
     fn one(&mut self, parted: &Parted, out: &mut Out) {
         if self.json {
-            out.text(if self.parted.is_empty() { "\n" } else { ",\n" });
+            out.text(if self.parted == 0 { "\n" } else { ",\n" });
             out.text(&parted.json());
         } else if !self.quiet {
             parted.rows(out);
         }
-        // Only the first is told again at the end.
-        let words = if self.parted.is_empty() { parted.words() } else { String::new() };
-        self.parted.push((parted.number, words));
+        self.parted += 1;
+        self.first.get_or_insert_with(|| parted.words());
     }
 
-    fn close(&self, last: &Night, tonight: &Night, out: &mut Out) {
-        let more = [last, tonight].into_iter().find(|night| night.sections.len() > last.sections.len().min(tonight.sections.len()));
-        let lines = self.lines(last, tonight, more);
+    /// Sections that one night has alone, one behind the other.
+    fn only(&mut self, night: &Night, run: Range<usize>, out: &mut Out) {
+        let words = format!("{}: only in {}", night.words(&run), night.who);
+        self.only[usize::from(night.who != LAST)].extend(night.sections[run].iter().map(|section| section.number));
+        self.row(&words, out);
+        self.first.get_or_insert(words);
+    }
+
+    /// Sections across from damage: what the damaged bytes did is not known, and may be the same.
+    fn unknown(&mut self, night: &Night, run: Range<usize>, other: &Night, out: &mut Out) {
+        self.unknown += run.len();
+        self.row(&format!("{}: in {}, where {} is damaged", night.words(&run), night.who, other.who), out);
+    }
+
+    fn row(&self, words: &str, out: &mut Out) {
+        if !self.json && !self.quiet {
+            out.line("");
+            out.line(words);
+        }
+    }
+
+    fn close(&self, out: &mut Out) {
+        let lines = self.lines();
+        let parts = self.parted > 0 || self.only.iter().any(|only| !only.is_empty());
         if self.json {
-            let (compared, parted, ended) = (self.compared, self.parted.len(), self.ended);
-            let more = json::maybe(more.map(|night| json::string(night.who)));
-            out.text(if self.parted.is_empty() { "]" } else { "\n]" });
-            out.line(&format!(",\n\"compared\": {compared},\n\"parted\": {parted},\n\"other_outcomes\": {ended},\n\"more\": {more}\n}}"));
+            let (compared, parted, ended) = (self.compared, self.parted, self.ended);
+            let [last, tonight] = self.only.each_ref().map(|only| json::array(only.iter()));
+            out.text(if self.parted == 0 { "]" } else { "\n]" });
+            out.line(&format!(",\n\"compared\": {compared},\n\"parted\": {parted},\n\"other_outcomes\": {ended},"));
+            out.line(&format!("\"only_last\": {last},\n\"only_tonight\": {tonight},\n\"not_compared\": {}\n}}", self.unknown));
         } else if !self.quiet {
             out.line("");
             lines.iter().for_each(|line| out.line(line));
         }
-        if self.parted.is_empty() && more.is_none() {
-            return;
+        if parts && self.quiet {
+            out.tell(End::Refused, &lines.join("; "));
+        } else if parts {
+            out.ends(End::Refused);
         }
-        if self.quiet { out.tell(End::Refused, &lines.join("; ")) } else { out.ends(End::Refused) }
     }
 
-    fn lines(&self, last: &Night, tonight: &Night, more: Option<&Night>) -> Vec<String> {
-        let parted = match self.parted.len() {
+    fn lines(&self) -> Vec<String> {
+        let parted = match self.parted {
             0 => String::from("the same steps"),
             1 => String::from("1 of them parts"),
             parted => format!("{parted} of them part"),
         };
         let ended = if self.ended == 0 { String::new() } else { format!(", {} with other outcomes or replies", self.ended) };
         let mut lines = vec![format!("{} compared: {parted}{ended}", counted(self.compared, "section"))];
-        lines.extend(self.parted.first().map(|(_, words)| format!("first: {words}")));
-        let rest = last.sections.len().abs_diff(tonight.sections.len());
-        lines.extend(more.map(|night| format!("more: {} has {} that the other night lacks", night.who, counted(rest, "section"))));
+        let only = |at: usize, who: &str| {
+            let count = self.only[at].len();
+            (count > 0).then(|| format!("{} only in {who}", counted(count, "section")))
+        };
+        let only: Vec<String> = [only(0, "last"), only(1, "tonight")].into_iter().flatten().collect();
+        lines.extend((!only.is_empty()).then(|| only.join(", ")));
+        lines.extend((self.unknown > 0).then(|| format!("{} across from damage, not compared", counted(self.unknown, "section"))));
+        lines.extend(self.first.as_ref().map(|words| format!("first: {words}")));
         lines
     }
 }
@@ -196,7 +186,11 @@ impl Parted<'_> {
             Whose::Second if self.last.transcript.len() == self.same => "tonight goes on where last has ended",
             Whose::Second => "tonight takes another step",
         };
-        format!("section {} at its step {}: {whose}", self.number, self.same)
+        let which = match (self.last.number, self.tonight.number) {
+            (last, tonight) if last == tonight => format!("section {last} at its step"),
+            (last, tonight) => format!("section {last} of last, {tonight} of tonight, at step"),
+        };
+        format!("{which} {}: {whose}", self.same)
     }
 
     fn rows(&self, out: &mut Out) {
@@ -228,7 +222,8 @@ impl Parted<'_> {
             json::object(&[("left", (side.transcript.len() - self.same).to_string()), ("first", step)])
         };
         json::object(&[
-            ("section", self.number.to_string()),
+            ("section", self.last.number.to_string()),
+            ("tonight_section", self.tonight.number.to_string()),
             ("same", self.same.to_string()),
             ("whose", json::string(if self.whose == Whose::First { "last" } else { "tonight" })),
             ("last", side(&self.last)),

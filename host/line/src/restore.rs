@@ -14,25 +14,49 @@ pub const MORE: &[&str] = &[
     "failed or that none writes, which `held` tells. Sent behind an open repeater it brings any chip",
     "there, but for what it leaves: then the exit status is 5. --out writes it as a section. Behind a",
     "damaged part, which is told by its bytes, nothing is known but what whole sections write: the list",
-    "has these alone, and the exit status is 1.",
+    "has these alone, and the exit status is 1. Of several files one that begins anew is told, as `held`",
+    "tells it; --each makes a list of each file by itself.",
 ];
 
-pub const OPTIONS: &[Key] = &[Key::Chip, Key::Out, Key::Json, Key::Quiet];
+pub const OPTIONS: &[Key] = &[Key::Chip, Key::Each, Key::Sections, Key::Out, Key::Json, Key::Quiet];
 
 pub fn run(given: &Given, out: &mut Out) {
-    let Some((day, chip)) = day::of("restore", given, out) else { return };
+    if given.has(Key::Each) && given.has(Key::Out) {
+        out.mistake("--out writes one list, and --each makes one of each file: give one of the two");
+    }
+    let Some(days) = day::all("restore", given, out) else { return };
     let sink = given.sink(Key::Out, out);
     if out.is_mistaken() {
         return;
     }
-    if given.has(Key::Json) {
-        json(&day, &chip, out);
-    } else if !given.has(Key::Quiet) {
-        table(&day, &chip, out);
+    match days.as_slice() {
+        _ if given.has(Key::Quiet) => {}
+        days if given.has(Key::Each) => each(days, given, out),
+        days if given.has(Key::Json) => days.iter().for_each(|(day, chip)| out.line(&json::document(&fields(day, chip)))),
+        days => days.iter().for_each(|(day, chip)| table(day, chip, out)),
     }
-    chip.tell_doubt(given, out);
-    if let Some(sink) = sink {
+    days.iter().for_each(|(day, chip)| chip.tell_doubt(day, given, out));
+    if let (Some(sink), Some((_, chip))) = (sink, days.first()) {
         sink.keep_or_tell(chip.list.bytes(), "--out", out);
+    }
+}
+
+/// A row for each file, or an object of an array.
+fn each(days: &[(Day, Chip)], given: &Given, out: &mut Out) {
+    if given.has(Key::Json) {
+        let one = |(day, chip): &(Day, Chip)| {
+            let mut all = vec![("file", json::string(day.name()))];
+            all.extend(fields(day, chip));
+            json::document(&all)
+        };
+        return out.line(&format!("[\n{}\n]", days.iter().map(one).collect::<Vec<_>>().join(",\n")));
+    }
+    day::each_row("file", ["sections", "steps", "writes", "named"].map(String::from), "left", out);
+    for (day, chip) in days {
+        let ((sections, steps), named) = (day.counts(), chip.sure());
+        let left = chip.registers.len() - named.len();
+        let numbers = [sections, steps, chip.list.len(), named.len()].map(|number| number.to_string());
+        day::each_row(day.name(), numbers, &format!("{left}{}", chip.flaws(day, out)), out);
     }
 }
 
@@ -55,6 +79,7 @@ fn table(day: &Day, chip: &Chip, out: &mut Out) {
         }
     }
     out.line(&format!("{} in place of {all}", counted(chip.list.len(), "write")));
+    day.begins.lines(out);
     if let Some(note) = chip.note() {
         out.line(&note);
     }
@@ -66,7 +91,7 @@ fn told(registers: &[u8], why: &str) -> String {
     format!("{}{why}{which}", counted(registers.len(), "register"))
 }
 
-fn json(day: &Day, chip: &Chip, out: &mut Out) {
+fn fields(day: &Day, chip: &Chip) -> Vec<(&'static str, String)> {
     let mut fields = Vec::from(day.json(chip));
     fields.extend([
         ("writes", json::lines(chip.list.iter().enumerate().map(|(at, entry)| rows::step_json(at, &entry)))),
@@ -74,6 +99,7 @@ fn json(day: &Day, chip: &Chip, out: &mut Out) {
         ("failed", json::array(chip.those(|held| matches!(held, Held::Failed(..))))),
         ("behind_damage", json::array(chip.those(|held| matches!(held, Held::Damaged(_))))),
         ("never", json::array(chip.those(|held| matches!(held, Held::Never)))),
+        ("begins", day.begins.json()),
     ]);
-    out.line(&json::document(&fields));
+    fields
 }

@@ -33,10 +33,45 @@ pub struct Damage {
     pub flaw: Flaw,
 }
 
+/// The numbers of the sections that are asked for, from the first to the last of them.
+#[derive(Clone, Copy, Debug, PartialEq)]
+pub struct Span {
+    pub first: usize,
+    /// None where all behind the first are meant.
+    pub last: Option<usize>,
+}
+
+impl Span {
+    /// `3`, `3-5` or `3-`.
+    pub fn read(text: &str) -> Option<Span> {
+        let number = |text: &str| text.bytes().all(|byte| byte.is_ascii_digit()).then(|| text.parse().ok()).flatten();
+        let (first, last) = match text.split_once('-') {
+            None => (number(text)?, Some(number(text)?)),
+            Some((first, "")) => (number(first)?, None),
+            Some((first, last)) => (number(first)?, Some(number(last)?)),
+        };
+        (first > 0 && last.is_none_or(|last| first <= last)).then_some(Span { first, last })
+    }
+
+    fn ends(&self) -> usize {
+        self.last.unwrap_or(usize::MAX)
+    }
+}
+
 /// A part of the file.
 pub enum Part<'a> {
     Good { start: usize, end: usize },
     Damaged(&'a Damage),
+}
+
+impl Part<'_> {
+    /// How many steps it counts for.
+    pub fn steps(&self) -> usize {
+        match self {
+            Part::Good { start, end } => (end - start - TRAILER) / ENTRY,
+            Part::Damaged(damage) => damage.entries,
+        }
+    }
 }
 
 /// Where each part begins, and the damaged ones; both from the end of the file.
@@ -44,11 +79,13 @@ pub struct Walk {
     starts: Vec<usize>,
     damages: Vec<Damage>,
     length: usize,
+    /// All, where none are asked for by their numbers.
+    span: Option<Span>,
 }
 
 impl Walk {
     pub fn of(bytes: &[u8]) -> Walk {
-        let mut walk = Walk { starts: Vec::new(), damages: Vec::new(), length: bytes.len() };
+        let mut walk = Walk { starts: Vec::new(), damages: Vec::new(), length: bytes.len(), span: None };
         let mut end = bytes.len();
         while end > 0 {
             end = match Transcript::start(&bytes[..end]) {
@@ -127,17 +164,50 @@ impl Walk {
         is_cut || !has_shape(bytes, start, end)
     }
 
-    pub fn damages(&self) -> usize {
-        self.damages.len()
+    /// The sections of these numbers alone; how many there are, where there are too few.
+    pub fn only(mut self, span: Span) -> Result<Walk, usize> {
+        let all = self.sections();
+        self.span = Some(span);
+        if span.first > all || span.last.is_some_and(|last| last > all) { Err(all) } else { Ok(self) }
     }
 
-    /// The parts in the order of the file, each with its section's number; 0 where it counts as none.
+    pub fn is_whole(&self) -> bool {
+        self.span.is_none()
+    }
+
+    /// How many of the parts that are asked for are damaged.
+    pub fn damages(&self) -> usize {
+        self.numbered().filter(|(_, part)| matches!(part, Part::Damaged(_))).count()
+    }
+
+    /// How many of them count as sections.
+    pub fn sections(&self) -> usize {
+        self.numbered().filter(|(number, _)| *number > 0).count()
+    }
+
+    /// How many steps stand before them, as `show` counts them.
+    pub fn skipped(&self) -> usize {
+        let Some(span) = self.span else { return 0 };
+        self.counted().take_while(|(_, seen, _)| *seen < span.first).map(|(_, _, part)| part.steps()).sum()
+    }
+
+    /// The parts that are asked for, in the order of the file, each with its section's number; 0 where it counts as none.
     pub fn numbered(&self) -> impl Iterator<Item = (usize, Part<'_>)> {
+        let span = self.span.unwrap_or(Span { first: 0, last: None });
+        // Bytes of no section are between two that are asked for.
+        let asked = move |counts: bool, seen: usize| seen >= span.first && (seen < span.ends() || (counts && seen == span.ends()));
+        self.counted()
+            .filter(move |(counts, seen, _)| asked(*counts, *seen))
+            .map(|(counts, seen, part)| (if counts { seen } else { 0 }, part))
+    }
+
+    /// All parts, each with whether it counts as a section, and how many there are up to it.
+    fn counted(&self) -> impl Iterator<Item = (bool, usize, Part<'_>)> {
         let mut sections = 0;
         self.parts().map(move |part| {
             let counts = !matches!(part, Part::Damaged(Damage { flaw: Flaw::Shapeless { counts: false }, .. }));
             sections += usize::from(counts);
-            (if counts { sections } else { 0 }, part)
+            (counts, sections, part)
         })
     }
 
@@ -245,6 +315,41 @@ mod tests {
         assert_eq!(at, bytes.len());
         assert_eq!(all.iter().filter(|(.., good)| !good).count(), walk.damages());
         all
+    }
+
+    #[test]
+    fn spans() {
+        let span = |first, last| Some(Span { first, last });
+        assert_eq!([Span::read("3"), Span::read("3-5"), Span::read("3-")], [span(3, Some(3)), span(3, Some(5)), span(3, None)]);
+        for text in ["", "-", "0", "0-1", "-3", "5-3", "3-5-7", "x", "3-x", "+3", " 3", "99999999999999999999999"] {
+            assert_eq!(Span::read(text), None, "{text}");
+        }
+    }
+
+    /// Whatever is damaged, the sections of some numbers are those that the whole walk has under these numbers, and all spans end to end are the whole.
+    #[test]
+    fn some_sections_are_those_of_all() {
+        let file = file();
+        for at in (0..file.len()).step_by(5) {
+            let mut bytes = file.clone();
+            bytes[at] ^= 0xff;
+            bytes.remove(file.len() - 1 - at);
+            let all: Vec<(usize, usize)> = Walk::of(&bytes).numbered().map(|(number, part)| (number, part.steps())).collect();
+            let count = Walk::of(&bytes).sections();
+            for first in 1..=count {
+                for last in first..=count {
+                    let walk = Walk::of(&bytes).only(Span { first, last: Some(last) }).ok().unwrap();
+                    let from = all.iter().position(|(number, _)| *number == first).unwrap();
+                    let to = all.iter().position(|(number, _)| *number == last).unwrap();
+                    assert!(
+                        walk.numbered().map(|(number, part)| (number, part.steps())).eq(all[from..=to].iter().copied()),
+                        "{at} {first} {last}"
+                    );
+                    assert_eq!(walk.skipped(), all[..from].iter().map(|(_, steps)| steps).sum::<usize>());
+                }
+            }
+            assert_eq!(Walk::of(&bytes).only(Span { first: 1, last: Some(count + 1) }).err(), Some(count));
+        }
     }
 
     #[test]

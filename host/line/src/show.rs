@@ -15,11 +15,13 @@ pub const MORE: &[&str] = &[
     "A file holds sections end to end, as --section of hop writes them, and has any size; - is",
     "standard input, to 1 GiB. A damaged section is told by its number and bytes, with those of its",
     "entries that are whole; sections behind it keep their own numbers, and the exit status is 1.",
-    "A kept record is shown as `where` tells it.",
+    "A kept record is shown as `where` tells it. --sections shows some of them, of each file by its own",
+    "numbers, and says nothing of the others.",
 ];
 
 pub fn run(given: &Given, out: &mut Out) {
     given.wants_files("show", out);
+    let span = given.sections(out);
     if out.is_mistaken() {
         return;
     }
@@ -28,8 +30,15 @@ pub fn run(given: &Given, out: &mut Out) {
         match File::read(name) {
             Ok(file) => {
                 match record::read(&file.bytes) {
+                    Ok(_) if span.is_some() => {
+                        out.mistake(&format!("--sections: {} holds a record, which has no sections: leave them out", file.name));
+                        continue;
+                    }
                     Ok(records) => file.show_record(name, &records, given, shown_before, out),
-                    Err(_) => file.show(given, shown_before, out),
+                    Err(_) => match file.walk(span, out) {
+                        Some(walk) => file.show(&walk, given, shown_before, out),
+                        None => continue,
+                    },
                 }
                 shown_before += 1;
             }
@@ -66,22 +75,21 @@ impl File {
         whereabouts::tell(name, given, records, None, out);
     }
 
-    fn show(&self, given: &Given, before: usize, out: &mut Out) {
-        let walk = Walk::of(&self.bytes);
-        let mut count = Count::default();
+    fn show(&self, walk: &Walk, given: &Given, before: usize, out: &mut Out) {
+        let mut count = Count { next: walk.skipped(), ..Count::default() };
         if given.has(Key::Quiet) {
-            self.parts(&walk, &mut count, &mut |_, _, _, _| {}, out);
+            self.parts(walk, &mut count, &mut |_, _, _, _| {}, out);
             return;
         }
         if given.has(Key::Json) {
-            self.json(&walk, before, out);
+            self.json(walk, before, out);
             return;
         }
         if given.operands.len() > 1 {
             out.line(&format!("{}{}:", if before > 0 { "\n" } else { "" }, self.name));
         }
         rows::head(out);
-        self.parts(&walk, &mut count, &mut |part, number, count, out| self.rows(part, number, count, out), out);
+        self.parts(walk, &mut count, &mut |part, number, count, out| self.rows(part, number, count, out), out);
         let damaged = if walk.damages() == 0 { String::new() } else { format!("; {} {}", out.loud("DAMAGED:"), walk.damages()) };
         out.line(&format!("shown: {}, {}{damaged}", counted(count.sections, "section"), counted(count.steps, "step")));
     }
@@ -89,7 +97,7 @@ impl File {
     /// Each part with its number, 0 where it counts as no section, to `each`. Damage is told to standard error as it is met.
     fn parts(&self, walk: &Walk, count: &mut Count, each: &mut dyn FnMut(&Part, usize, &mut Count, &mut Out), out: &mut Out) {
         for (number, part) in walk.numbered() {
-            count.sections = count.sections.max(number);
+            count.sections += usize::from(number > 0);
             if !out.is_closed() {
                 each(&part, number, count, out);
             }
@@ -142,7 +150,7 @@ impl File {
     }
 
     fn json(&self, walk: &Walk, before: usize, out: &mut Out) {
-        let mut count = Count::default();
+        let mut count = Count { next: walk.skipped(), ..Count::default() };
         let mut first = true;
         let open = if before == 0 { "[\n" } else { ",\n" };
         out.text(&format!("{open}{{\"file\": {}, \"damaged\": {}, \"sections\": [", json::string(&self.name), walk.damages()));

@@ -16,7 +16,8 @@ pub const MORE: &[&str] = &[
     "bytes, for --table of hop and plan. A line is a band: first Hz, last Hz, shift, path (HF, VHF, UHF",
     "or none), spectrum (normal or inverted), notch (on or off); numbers are written as 2400000000,",
     "2400000k or 2.4G, a shift with a minus too. Behind # stands what is not read. Bands ascend and do",
-    "not overlap; there are 16 at most.",
+    "not overlap; there are 16 at most. Of the lines that are none the first eight are told, and how many",
+    "more there are.",
 ];
 
 pub const OPTIONS: &[Key] = &[Key::Board, Key::Out, Key::Json, Key::Quiet];
@@ -86,22 +87,30 @@ fn write(given: &Given, name: &OsStr, out: &mut Out) {
     }
 }
 
-/// The bands of a text; each line that is none is told by its number.
+/// So many lines that are no bands are told, each by its number; of the others how many they are.
+const TOLD: usize = 8;
+
+/// The bands of a text. A line behind a bad one is judged by the last good one before it.
 fn read(text: &str, name: &str, out: &mut Out) -> Vec<Band> {
-    let mut bands: Vec<Band> = Vec::new();
+    let (mut bands, mut bad): (Vec<Band>, usize) = (Vec::new(), 0);
     for (at, line) in text.lines().enumerate() {
         let line = line.split('#').next().unwrap_or("").trim();
         if line.is_empty() {
             continue;
         }
-        if bands.len() == Table::BANDS {
-            out.mistake(&format!("table write {name}: line {}: it is the {}th band, and 16 are the most", at + 1, bands.len() + 1));
-            return bands;
+        let read = band(line, bands.last().map(|band| band.last)).map(|band| bands.push(band));
+        let why = match read {
+            Ok(()) if bands.len() <= Table::BANDS => continue,
+            Ok(()) => format!("it is band {}, and {} are the most", bands.len(), Table::BANDS),
+            Err(why) => why,
+        };
+        bad += 1;
+        if bad <= TOLD {
+            out.mistake(&format!("table write {name}: line {}: {why}", at + 1));
         }
-        match band(line, bands.last().map(|band| band.last)) {
-            Ok(band) => bands.push(band),
-            Err(why) => out.mistake(&format!("table write {name}: line {}: {why}", at + 1)),
-        }
+    }
+    if bad > TOLD {
+        out.mistake(&format!("table write {name}: and {} more that cannot be taken: mend these first", counted(bad - TOLD, "line")));
     }
     bands
 }
