@@ -6,7 +6,8 @@ use mathlib.Core.List.{List, [], _∷_, map}
 use native.Mathlib.Omega.{arith}
 use borrow.Author.Tests.{eq-eqb, ne-eqb}
 use lib.Dec.{eqb, leb, ltb}
-use lib.ListN.{length, getD, replicate, getD-replicate}
+use lib.ListN.{length}
+use lib.Seq.{sets}
 use Rattle.wire.specs.Bytes.{leBytes}
 use Rattle.wire.specs.Parts.{Sized, laid}
 use Rattle.wire.proofs.Widths.{length-leBytes}
@@ -38,9 +39,31 @@ use Rattle.witness.proofs.Waits.{lock-told, tries-told}
 -- ---- the bytes
 
 sized : (m : Marks) (n : Numbers) → Sized widths (parts m n)
-sized m n =
-    (length-leBytes 1 _, (length-leBytes 1 _, (length-leBytes 1 _, (length-leBytes 1 _, (length-leBytes 1 _, (length-leBytes 1 _, (length-leBytes 1 _, (length-leBytes 1 _,
-    (length-leBytes 4 _, (length-leBytes 4 _, (length-leBytes 4 _, (length-leBytes 8 _, (length-leBytes 8 _, (length-leBytes 8 _, (length-leBytes 8 _, tt)))))))))))))))
+sized m n = (
+  length-leBytes 1 _,
+  (
+    length-leBytes 1 _,
+    (
+      length-leBytes 1 _,
+      (
+        length-leBytes 1 _,
+        (
+          length-leBytes 1 _,
+          (
+            length-leBytes 1 _,
+            (
+              length-leBytes 1 _,
+              (
+                length-leBytes 1 _,
+                (length-leBytes 4 _, (length-leBytes 4 _, (length-leBytes 4 _, (length-leBytes 8 _, (length-leBytes 8 _, (length-leBytes 8 _, (length-leBytes 8 _, tt))))))),
+              ),
+            ),
+          ),
+        ),
+      ),
+    ),
+  ),
+)
 
 pub long : (m : Marks) (n : Numbers) → length (answerBytes m n) ≡ 52
 unfolding answerBytes
@@ -50,6 +73,10 @@ long m n = length-joined widths (parts m n) (sized m n)
 pub image-whole : (m : Marks) (n : Numbers) (l : List ℕ) → length l ≡ 52 → laid l 0 widths (parts m n) ≡ answerBytes m n
 unfolding answerBytes
 image-whole m n l e = laid-joined l 0 widths (parts m n) (sized m n) ∙ giving.covered l (answerBytes m n) (long m n ∙ sym e)
+
+-- one part more
+pub then : {l was next : List ℕ} {v w : ℕ} (at k : ℕ) → next ≡ sets l at (leBytes k v) → l ≡ was → v ≡ w → next ≡ sets was at (leBytes k w)
+then at k e p q = e ∙ ap₂ (λ (x : List ℕ) (n : ℕ). sets x at (leBytes k n)) p q
 
 -- ---- marks and bytes of the arrays
 

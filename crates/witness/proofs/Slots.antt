@@ -27,8 +27,7 @@ pub reached : (e : Entry) (r : ℕ) → covers 4 e (place 1 r) ≡ true → (e .
 unfolding covers
 reached e r h =
     let front = (eqb (e .kind) 4 || eqb (e .kind) 5) && eqb (e .target) 1 in
-    let low = leb (e .address) r in
-    (
+    let low = leb (e .address) r in (
       leb-true (e .address) r (and-right front low (and-left (front && low) (ltb r (e .address + e .n)) h)),
       ltb-true r (e .address + e .n) (and-right (front && low) (ltb r (e .address + e .n)) h),
     )

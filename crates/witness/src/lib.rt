@@ -30,7 +30,24 @@ use transcript::Entry;
 use transcript::Section;
 
 // What is told of the chip's registers stands in two arrays, as restoring's walk has them; of the demodulator's in two more, in their slots 8 to 15.
-const PLACES: [u16; 16] = [0, 0, 0, 0, 0, 0, 0, 0, 0x15, 0x19, 0x1a, 0x1b, 0x9f, 0xa0, 0xa1, 0xa2];
+const PLACES: [u16; 16] = [
+    0,
+    0,
+    0,
+    0,
+    0,
+    0,
+    0,
+    0,
+    0x15,
+    0x19,
+    0x1a,
+    0x1b,
+    0x9f,
+    0xa0,
+    0xa1,
+    0xa2,
+];
 
 fn place_of(k: usize) -> u16
     requires { ⌜ k < 16 ⌝ }
@@ -46,7 +63,10 @@ fn covers(e: Entry, kind: u8, target: u8, register: u16) -> bool
 {
     let first = e.address as u32;
     let asked = register as u32;
-    ((e.kind == kind) | (e.kind == kind + 1)) & (e.target == target) & (first <= asked) & (asked < first + e.n as u32)
+    ((e.kind == kind) | (e.kind == kind + 1))
+        & (e.target == target)
+        & (first <= asked)
+        & (asked < first + e.n as u32)
 }
 
 // A write after which no register of the demodulator is sure.
@@ -54,7 +74,8 @@ fn shakes(e: Entry) -> bool
     ensures { λ r. ⌜ r ≡ demod.shakes e ⌝ }
 {
     let past = e.address as u32 + e.n as u32;
-    let astray = ((e.kind == transcript::DEMOD) | (e.kind == transcript::DEMOD16)) & ((15 < e.target) | (256 < past));
+    let astray = ((e.kind == transcript::DEMOD) | (e.kind == transcript::DEMOD16))
+        & ((15 < e.target) | (256 < past));
     covers(e, transcript::DEMOD, 1, 0x01) | covers(e, transcript::BLOCK, 2, 0x3000) | astray
 }
 
@@ -126,14 +147,18 @@ fn names(e: Entry, address: u8, r: u32) -> bool
 {
     let bytes = e.bytes;
     let first = bytes[0];
-    (e.kind == transcript::I2C_WRITE) & (e.target == address) & (first as u32 <= r) & (r < past_of(first, e.n))
+    (e.kind == transcript::I2C_WRITE)
+        & (e.target == address)
+        & (first as u32 <= r)
+        & (r < past_of(first, e.n))
 }
 
 // A write of the registers that a plan has.
 fn plans(e: Entry, address: u8) -> bool
     ensures { λ r. ⌜ r ≡ touches address planned e ⌝ }
 {
-    names(e, address, 0x10) | (names(e, address, 0x14) | (names(e, address, 0x15) | (names(e, address, 0x16) | false)))
+    names(e, address, 0x10)
+        | (names(e, address, 0x14) | (names(e, address, 0x15) | (names(e, address, 0x16) | false)))
 }
 
 // A done read of the three bytes with the lock's bit.
@@ -210,7 +235,15 @@ fn waited(w: Waiting, e: Entry, address: u8) -> Waiting
 }
 
 // One entry more of all that is gathered.
-fn heard(e: Entry, address: u8, w: Waiting, marks: &mut [u8], sent: &mut [u8], states: &mut [u8], values: &mut [u8]) -> Waiting
+fn heard(
+    e: Entry,
+    address: u8,
+    w: Waiting,
+    marks: &mut [u8],
+    sent: &mut [u8],
+    states: &mut [u8],
+    values: &mut [u8],
+) -> Waiting
     requires { ⌜ (e .n ≤ 8) × ((length (now marks) ≡ 32) × (length (now sent) ≡ 32)) × ((length (now states) ≡ 32) × (length (now values) ≡ 32)) ⌝ }
     ensures { λ r. ⌜ seen (knownAll (now (marks .exit)) (now (sent .exit))) (knownAll (now (states .exit)) (now (values .exit))) r
         ≡ seenAll address (e ∷ []) (seen (knownAll (now (marks .entry)) (now (sent .entry))) (knownAll (now (states .entry)) (now (values .entry))) w) ⌝ }
@@ -221,12 +254,22 @@ fn heard(e: Entry, address: u8, w: Waiting, marks: &mut [u8], sent: &mut [u8], s
 }
 
 // The entries of a section, from the last to the first.
-fn heard_all(s: &[u8], start: usize, count: usize, address: u8, old: Waiting, marks: &mut [u8], sent: &mut [u8], states: &mut [u8], values: &mut [u8]) -> Waiting
+fn heard_all(
+    s: &[u8],
+    start: usize,
+    count: usize,
+    address: u8,
+    old: Waiting,
+    marks: &mut [u8],
+    sent: &mut [u8],
+    states: &mut [u8],
+    values: &mut [u8],
+) -> Waiting
     requires { ⌜ ((count ≤ 4096) × (start + 16 * count ≤ length (now s)) × (allFit count (drop start (now s)) ≡ true))
         × ((length (now marks) ≡ 32) × (length (now sent) ≡ 32)) × ((length (now states) ≡ 32) × (length (now values) ≡ 32)) ⌝ }
     ensures { λ r. ⌜ seen (knownAll (now (marks .exit)) (now (sent .exit))) (knownAll (now (states .exit)) (now (values .exit))) r
         ≡ seenAll address (entriesIn count (drop start (now (s .entry))))
-            (seen (knownAll (now (marks .entry)) (now (sent .entry))) (knownAll (now (states .entry)) (now (values .entry))) old) ⌝ }
+        (seen (knownAll (now (marks .entry)) (now (sent .entry))) (knownAll (now (states .entry)) (now (values .entry))) old) ⌝ }
 {
     let mut w = old;
     let mut i = count;
@@ -244,12 +287,19 @@ pub struct Ended {
 }
 
 // The last section, then what stands before it, to the start of the slice. 12, or 0 and what they tell.
-fn walked(s: &[u8], address: u8, marks: &mut [u8], sent: &mut [u8], states: &mut [u8], values: &mut [u8]) -> Ended
+fn walked(
+    s: &[u8],
+    address: u8,
+    marks: &mut [u8],
+    sent: &mut [u8],
+    states: &mut [u8],
+    values: &mut [u8],
+) -> Ended
     requires { ⌜ ((length (now marks) ≡ 32) × (length (now sent) ≡ 32)) × ((length (now states) ≡ 32) × (length (now values) ≡ 32)) ⌝ }
     ensures { λ r. ⌜ (r .refusal ≡ refusedBy (now (s .entry))) × (chain (now (s .entry)) ≡ true →
         seen (knownAll (now (marks .exit)) (now (sent .exit))) (knownAll (now (states .exit)) (now (values .exit))) (r .waiting)
         ≡ seenAll address (chainEntries (now (s .entry)))
-            (seen (knownAll (now (marks .entry)) (now (sent .entry))) (knownAll (now (states .entry)) (now (values .entry))) (waiting 0 0 0))) ⌝ }
+        (seen (knownAll (now (marks .entry)) (now (sent .entry))) (knownAll (now (states .entry)) (now (values .entry))) (waiting 0 0 0))) ⌝ }
 {
     let mut w = Waiting {
         stage: 0,
@@ -294,19 +344,28 @@ fn mark_by(sure: bool, never: bool) -> u8
 fn of_three(a: u8, b: u8, c: u8) -> u8
     ensures { λ r. ⌜ r ≡ markFrom (a ∷ b ∷ c ∷ []) ⌝ }
 {
-    mark_by((a == 2) & ((b == 2) & (c == 2)), (a == 0) & ((b == 0) & (c == 0)))
+    mark_by(
+        (a == 2) & ((b == 2) & (c == 2)),
+        (a == 0) & ((b == 0) & (c == 0)),
+    )
 }
 
 fn of_four(a: u8, b: u8, c: u8, d: u8) -> u8
     ensures { λ r. ⌜ r ≡ markFrom (a ∷ b ∷ c ∷ d ∷ []) ⌝ }
 {
-    mark_by((a == 2) & ((b == 2) & ((c == 2) & (d == 2))), (a == 0) & ((b == 0) & ((c == 0) & (d == 0))))
+    mark_by(
+        (a == 2) & ((b == 2) & ((c == 2) & (d == 2))),
+        (a == 0) & ((b == 0) & ((c == 0) & (d == 0))),
+    )
 }
 
 fn of_five(a: u8, b: u8, c: u8, d: u8, e: u8) -> u8
     ensures { λ r. ⌜ r ≡ markFrom (a ∷ b ∷ c ∷ d ∷ e ∷ []) ⌝ }
 {
-    mark_by((a == 2) & ((b == 2) & ((c == 2) & ((d == 2) & (e == 2)))), (a == 0) & ((b == 0) & ((c == 0) & ((d == 0) & (e == 0)))))
+    mark_by(
+        (a == 2) & ((b == 2) & ((c == 2) & ((d == 2) & (e == 2)))),
+        (a == 0) & ((b == 0) & ((c == 0) & ((d == 0) & (e == 0)))),
+    )
 }
 
 fn marks_in<'a>(marks: &'a [u8], states: &'a [u8], lock: u8) -> Marks
@@ -314,7 +373,13 @@ fn marks_in<'a>(marks: &'a [u8], states: &'a [u8], lock: u8) -> Marks
     ensures { λ r. ⌜ r ≡ marksIn (now (marks .entry)) (now (states .entry)) lock ⌝ }
 {
     Marks {
-        oscillator: of_five(marks[0x10], marks[0x12], marks[0x14], marks[0x15], marks[0x16]),
+        oscillator: of_five(
+            marks[0x10],
+            marks[0x12],
+            marks[0x14],
+            marks[0x15],
+            marks[0x16],
+        ),
         offset: of_three(states[9], states[10], states[11]),
         rate: of_four(states[12], states[13], states[14], states[15]),
         ddc: states[8],
@@ -384,7 +449,14 @@ fn numbers_in<'a>(sent: &'a [u8], values: &'a [u8], tries: u32, r: u32, xtal: u3
         word: word,
         ratio: ratio,
         rate: rate_of(xtal, ratio),
-        oscillator: units(r, sent[0x10], sent[0x12], sent[0x14], sent[0x15], sent[0x16]),
+        oscillator: units(
+            r,
+            sent[0x10],
+            sent[0x12],
+            sent[0x14],
+            sent[0x15],
+            sent[0x16],
+        ),
         offset: offset_of(xtal, word),
     }
 }
@@ -402,7 +474,10 @@ fn if_sure(mark: u8, n: u64) -> u64
 fn centre_mark(m: Marks, n: Numbers) -> u8
     ensures { λ r. ⌜ r ≡ centreMark m n ⌝ }
 {
-    let both = mark_by((m.oscillator == 2) & (m.offset == 2), (m.oscillator == 0) & (m.offset == 0));
+    let both = mark_by(
+        (m.oscillator == 2) & (m.offset == 2),
+        (m.oscillator == 0) & (m.offset == 0),
+    );
     if (both == 2) & (n.oscillator < n.offset) {
         return 1;
     }
@@ -445,7 +520,12 @@ fn answer_image(m: Marks, n: Numbers) -> [u8; 52]
     field(&mut image, 20, if_sure(m.rate, n.rate), 8);
     field(&mut image, 28, if_sure(m.oscillator, n.oscillator), 8);
     field(&mut image, 36, if_sure(m.offset, n.offset), 8);
-    field(&mut image, 44, if_sure(centre, centre_of(n.oscillator, n.offset)), 8);
+    field(
+        &mut image,
+        44,
+        if_sure(centre, centre_of(n.oscillator, n.offset)),
+        8,
+    );
     image
 }
 
@@ -460,7 +540,14 @@ pub fn evidence(sections: &[u8], address: u8, r: u32, xtal: u32, out: &mut [u8])
     let mut sent = [0u8; 32];
     let mut states = [0u8; 32];
     let mut values = [0u8; 32];
-    let end = walked(sections, address, &mut marks, &mut sent, &mut states, &mut values);
+    let end = walked(
+        sections,
+        address,
+        &mut marks,
+        &mut sent,
+        &mut states,
+        &mut values,
+    );
     if end.refusal != 0 {
         return Answer::Refused(end.refusal);
     }

@@ -1,9 +1,10 @@
 -- `witness::answer_image` meets its contract: the parts, stored one after the other over 52 bytes, are the answer's.
 -- Assumes nothing.
 use borrow.Author.Needs.{needs}
-use mathlib.Core.Path.{refl}
+use mathlib.Core.Path.{refl, ap₂, _∙_}
 use lib.ListN.{replicate}
-use Rattle.witness.proofs.Answered.{image-whole}
+use Rattle.witness.specs.Answer.{ifSure}
+use Rattle.witness.proofs.Answered.{image-whole, then}
 use Rattle.witness.proofs.answer_image.Statement.{statement}
 use Rattle.witness.proofs.answer_image.Tie as tie
 
@@ -126,33 +127,24 @@ returns c =
     let at-field2 = at-field3 .before .before .before in
     let at-field = at-field2 .before .before .before in
     let at-centre-mark = at-field .before .before .before in
+    let centre = at-centre-mark .centre-mark .ensures in
     let a = at-centre-mark .before .args in
-    rw (
-      c .field15 .ensures,
-      c .before .if-sure7 .ensures,
-      c .before .before .centre-of .ensures,
-      at-field14 .field14 .ensures,
-      at-field14 .before .if-sure6 .ensures,
-      at-field13 .field13 .ensures,
-      at-field13 .before .if-sure5 .ensures,
-      at-field12 .field12 .ensures,
-      at-field12 .before .if-sure4 .ensures,
-      at-field11 .field11 .ensures,
-      at-field11 .before .if-sure3 .ensures,
-      at-field10 .field10 .ensures,
-      at-field10 .before .if-sure2 .ensures,
-      at-field9 .field9 .ensures,
-      at-field8 .field8 .ensures,
-      at-field7 .field7 .ensures,
-      at-field7 .before .if-sure .ensures,
-      at-field6 .field6 .ensures,
-      at-field5 .field5 .ensures,
-      at-field4 .field4 .ensures,
-      at-field3 .field3 .ensures,
-      at-field2 .field2 .ensures,
-      at-field .field .ensures,
-      at-centre-mark .centre-mark .ensures,
-    ) (image-whole (a .m) (a .n) (replicate 52 0) refl)
+    let p1 = then 0 1 (at-field .field .ensures) refl refl in
+    let p2 = then 1 1 (at-field2 .field2 .ensures) p1 refl in
+    let p3 = then 2 1 (at-field3 .field3 .ensures) p2 refl in
+    let p4 = then 3 1 (at-field4 .field4 .ensures) p3 refl in
+    let p5 = then 4 1 (at-field5 .field5 .ensures) p4 refl in
+    let p6 = then 5 1 (at-field6 .field6 .ensures) p5 centre in
+    let p7 = then 6 1 (at-field7 .field7 .ensures) p6 (at-field7 .before .if-sure .ensures) in
+    let p8 = then 7 1 (at-field8 .field8 .ensures) p7 refl in
+    let p9 = then 8 4 (at-field9 .field9 .ensures) p8 refl in
+    let p10 = then 12 4 (at-field10 .field10 .ensures) p9 (at-field10 .before .if-sure2 .ensures) in
+    let p11 = then 16 4 (at-field11 .field11 .ensures) p10 (at-field11 .before .if-sure3 .ensures) in
+    let p12 = then 20 8 (at-field12 .field12 .ensures) p11 (at-field12 .before .if-sure4 .ensures) in
+    let p13 = then 28 8 (at-field13 .field13 .ensures) p12 (at-field13 .before .if-sure5 .ensures) in
+    let p14 = then 36 8 (at-field14 .field14 .ensures) p13 (at-field14 .before .if-sure6 .ensures) in
+    then 44 8 (c .field15 .ensures) p14 (c .before .if-sure7 .ensures ∙ ap₂ ifSure centre (c .before .before .centre-of .ensures))
+    ∙ image-whole (a .m) (a .n) (replicate 52 0) refl
 
 pub answer-image-spec : {M : Type 1} → statement M
 answer-image-spec =

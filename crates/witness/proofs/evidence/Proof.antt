@@ -1,85 +1,104 @@
+-- `witness::evidence` meets its contract: refused by a reference or by the walk, or the answer that is laid out is lent.
+-- Assumes nothing.
 use borrow.Author.Needs.{needs}
+use native.Mathlib.Omega.{arith}
+use denote.Ref.{now}
+use mathlib.Core.Path.{_∙_}
+use Rattle.sections.specs.Chain.{chainEntries}
+use Rattle.restoring.proofs.Settled.{all-good}
+use Rattle.witness.proofs.Answered.{answer-same, lends, no-reference, no-section}
 use Rattle.witness.proofs.evidence.Statement.{statement}
 use Rattle.witness.proofs.evidence.Tie as tie
-use Rattle.witness.proofs.evidence.Reads as reads
-use Rattle.witness.proofs.evidence.Lts as lts
-use Rattle.lending.proofs.lend.Reads as lend-reads
-use Rattle.witness.proofs.answer_image.Reads as answer-image-reads
-use Rattle.witness.proofs.marks_in.Reads as marks-in-reads
-use Rattle.witness.proofs.numbers_in.Reads as numbers-in-reads
-use Rattle.witness.proofs.walked.Reads as walked-reads
 
--- src/lib.rt:457:9
 returns : tie.Need-returns
-returns c = ?
+returns c =
+    let a = c .before .before .before .args in
+    no-reference (now (a .sections)) (a .address) (a .r) (a .xtal) (now (a .out)) (c .if1 .taken)
 
--- src/lib.rt:463:41
 slice-aggregate-walked : tie.Need-slice-aggregate-walked
 slice-aggregate-walked c = search needs
 
--- src/lib.rt:463:53
 slice-aggregate-walked-2 : tie.Need-slice-aggregate-walked-2
 slice-aggregate-walked-2 c = search needs
 
--- src/lib.rt:463:64
 slice-aggregate-walked-3 : tie.Need-slice-aggregate-walked-3
 slice-aggregate-walked-3 c = search needs
 
--- src/lib.rt:463:77
 slice-aggregate-walked-4 : tie.Need-slice-aggregate-walked-4
 slice-aggregate-walked-4 c = search needs
 
--- src/lib.rt:463:9
 walked-requires : tie.Need-walked-requires
 walked-requires c κs = search needs
 
--- src/lib.rt:465:9
 returns-2 : tie.Need-returns-2
-returns-2 c = ?
+returns-2 c =
+    let at-walked = c .before .before .before .before .before .before in
+    let at-if1 = at-walked .before .before .before .before .before in
+    let a = at-if1 .before .before .before .args in
+    no-section (now (a .sections)) (a .address) (a .r) (a .xtal) (now (a .out)) (at-walked .walked .result .refusal) (at-if1 .if1 .left) (at-walked .walked .ensures .0) (c .if2 .taken)
 
--- src/lib.rt:468:22
 slice-aggregate-marks-in : tie.Need-slice-aggregate-marks-in
 slice-aggregate-marks-in c = search needs
 
--- src/lib.rt:468:30
 slice-aggregate-marks-in-2 : tie.Need-slice-aggregate-marks-in-2
 slice-aggregate-marks-in-2 c = search needs
 
--- src/lib.rt:468:9
 marks-in-requires : tie.Need-marks-in-requires
 marks-in-requires c κs = search needs
 
--- src/lib.rt:469:24
 slice-aggregate-numbers-in : tie.Need-slice-aggregate-numbers-in
 slice-aggregate-numbers-in c = search needs
 
--- src/lib.rt:469:31
 slice-aggregate-numbers-in-2 : tie.Need-slice-aggregate-numbers-in-2
 slice-aggregate-numbers-in-2 c = search needs
 
--- src/lib.rt:469:9
 numbers-in-requires : tie.Need-numbers-in-requires
 numbers-in-requires c κs = search needs
 
--- src/lib.rt:470:17
 answer-image-requires : tie.Need-answer-image-requires
 answer-image-requires c κs = search needs
 
--- src/lib.rt:471:25
 slice-aggregate-lend : tie.Need-slice-aggregate-lend
 slice-aggregate-lend c = search needs
 
--- src/lib.rt:471:5
 lend-requires : tie.Need-lend-requires
 lend-requires c κs = search needs
 
--- src/lib.rt:453:1
 same-length : tie.Need-same-length
 same-length c = search needs
 
--- src/lib.rt:453:1
 returns-3 : tie.Need-returns-3
-returns-3 c = ?
+returns-3 c =
+    let at-lend = c .before .before in
+    let at-image = at-lend .before .before .before in
+    let at-numbers = at-image .before in
+    let at-marks = at-numbers .before .before .before in
+    let at-if2 = at-marks .before .before .before .before in
+    let at-values = at-if2 .before .before in
+    let at-states = at-values .before in
+    let at-sent = at-states .before in
+    let at-walked = at-if2 .before .before .before .before .before .before in
+    let w = at-walked .walked in
+    let at-if1 = at-walked .before .before .before .before .before in
+    let a = at-if1 .before .before .before .args in
+    let s = now (a .sections) in
+    let good = all-good s (w .result .refusal) (w .ensures .0) (at-if2 .if2 .left) in
+    at-lend .lend .ensures
+    ∙ lends s (a .address) (a .r) (a .xtal) (now (a .out)) (at-image .answer-image .result) (at-if1 .if1 .left) good
+    (answer-same (a .address) (chainEntries s) (w .last .1 .1 .0) (w .last .1 .1 .1 .0) (w .last .1 .1 .1 .1 .0) (w .last .1 .1 .1 .1 .1 .0) (w .result .waiting)
+    (omega (arith, at-sent .before .marks2 .given))
+    (omega (arith, at-sent .sent2 .given))
+    (omega (arith, at-states .states2 .given))
+    (omega (arith, at-values .values2 .given))
+    (w .ensures .1 good)
+    (a .r)
+    (a .xtal)
+    (at-marks .marks-in .result)
+    (at-numbers .numbers-in .result)
+    (at-image .answer-image .result)
+    (at-marks .marks-in .ensures)
+    (at-numbers .numbers-in .ensures)
+    (at-image .answer-image .ensures))
 
 pub evidence-spec : {M : Type 1} → statement M
 evidence-spec =

@@ -94,8 +94,7 @@ heard-all-requires c κs =
     let a = at-loop .before .before .before .before .before .before .args in
     let s = now (a .s) in
     let p = take (l .end - 0) s in
-    let read = sym (at-start .start .given .1) ∙ at-read-section .read-section .ensures in
-    (
+    let read = sym (at-start .start .given .1) ∙ at-read-section .read-section .ensures in (
       (
         few s p (l .end) refl (omega arith) (l .inv .0) _ _ read,
         within s p (l .end) refl (omega arith) (l .inv .0) _ _ read,
@@ -120,6 +119,8 @@ loop-less c =
 loop-again : tie.Need-loop-again Inv-loop μ-loop
 loop-again c =
     let at-heard-all = c .before .before .before .before .before .before .before .before in
+    let at-sent = c .before .before .before .before .before in
+    let at-marks = at-sent .before .before in
     let at-start = at-heard-all .before .before .before .before .before .before in
     let at-read-section = at-start .before .before in
     let at-loop = at-read-section .before .before .before in
@@ -131,7 +132,7 @@ loop-again c =
     let less = lower s p (l .end) refl (omega arith) (l .inv .0) _ _ read in (
       omega (arith, less),
       (
-        (search needs, search needs),
+        (omega (arith, at-marks .marks .given, l .inv .1 .0 .0), omega (arith, at-sent .sent .given, l .inv .1 .0 .1)),
         (
           (search needs, search needs),
           (
