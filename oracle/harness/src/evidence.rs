@@ -181,7 +181,8 @@ pub fn plain(mut slice: &[u8], chip: u8, r: u32, xtal: u32, out: &mut [u8]) -> R
     }
     let byte = |place: Option<(u8, bool)>| place.map_or(0, |(byte, _)| byte);
     let five = OSCILLATOR.map(|register| told[register]);
-    let (lo_mark, if_mark, rate_mark, ddc_mark) = (plain_mark(&five), plain_mark(&demod[1..4]), plain_mark(&demod[4..]), plain_mark(&demod[..1]));
+    let (lo_mark, if_mark, rate_mark, ddc_mark) =
+        (plain_mark(&five), plain_mark(&demod[1..4]), plain_mark(&demod[4..]), plain_mark(&demod[..1]));
     let [divider, control, whole, low, high] = five.map(byte);
     let n = 13 + 4 * (whole as u64 % 64) + whole as u64 / 64;
     let s = if control & 8 != 0 { 0 } else { u16::from_le_bytes([low, high]) as u64 };

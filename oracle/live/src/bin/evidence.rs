@@ -99,7 +99,8 @@ impl Radio {
         let offset = (at(36) << 22) == ((((1 << 22) - word) & 0x3f_ffff) * xtal as u128) << 23;
         tally.that(answer[1] != 2 || offset, || format!("the IF, {}", what()));
         let ratio = (page(0x9f) << 24) | (page(0xa0) << 16) | (page(0xa1) << 8) | page(0xa2);
-        let rate = if ratio == 0 { at(20) == 0 } else { at(20) * ratio <= (xtal as u128) << 22 && (at(20) + 1) * ratio > (xtal as u128) << 22 };
+        let rate =
+            if ratio == 0 { at(20) == 0 } else { at(20) * ratio <= (xtal as u128) << 22 && (at(20) + 1) * ratio > (xtal as u128) << 22 };
         tally.that(answer[2] != 2 || rate, || format!("the rate, {}", what()));
         tally.that(answer[3] != 2 || answer[6] == self.page[0x15], || format!("the DDC byte, {}", what()));
         let centre = at(44) << 23 <= at(28) - at(36).min(at(28)) && (at(44) + 1) << 23 > at(28) - at(36).min(at(28));
@@ -308,7 +309,10 @@ fn met_in(answer: &[u8; SIZE], night: &[u8], met: &mut Met) {
         let (demod, past) = (matches!(entry[0], 4 | 5), first as u32 + entry[3] as u32);
         for (holds, what) in [
             (demod && entry[1] == 1, "a failed write of the demodulator"),
-            (entry[0] == 5 && entry[2] == 1 && [0x19, 0x1a, 0x9f, 0xa0, 0xa1].contains(&first), "a 16-bit write of two registers that are told"),
+            (
+                entry[0] == 5 && entry[2] == 1 && [0x19, 0x1a, 0x9f, 0xa0, 0xa1].contains(&first),
+                "a 16-bit write of two registers that are told",
+            ),
             (demod && entry[2] == 1 && first <= 1 && past > 1, "a soft reset"),
             (matches!(entry[0], 6 | 7) && entry[2] == 2 && first <= 0x3000 && past > 0x3000, "the power's register"),
             (demod && entry[2] > 15, "a page above 15"),
@@ -367,7 +371,9 @@ fn run(who: &str, times: u64) {
             "rust" => plain(black_box(&night), 0x74, 28_800_000, 28_800_000, black_box(&mut out)).is_ok(),
             // SAFETY: both slices are alive, and disjoint.
             "port" => unsafe {
-                pasetone_evidence(black_box(&night).as_ptr(), night.len(), 0x74, 28_800_000, 28_800_000, out.as_mut_ptr(), out.len()).refusal == 0
+                pasetone_evidence(black_box(&night).as_ptr(), night.len(), 0x74, 28_800_000, 28_800_000, out.as_mut_ptr(), out.len())
+                    .refusal
+                    == 0
             },
             _ => panic!("rust or port"),
         };
