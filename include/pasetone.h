@@ -700,6 +700,36 @@ pasetone_reply pasetone_read_packets(const uint8_t *packets, size_t packets_len,
  */
 pasetone_reply pasetone_restore(const uint8_t *sections, size_t sections_len, uint8_t address, uint8_t *PASETONE_RESTRICT out, size_t out_len);
 
+/* ---- Evidence ---- */
+
+/* What `pasetone_evidence` writes. */
+#define PASETONE_EVIDENCE_SIZE 52
+
+/*
+ * From sections end to end, oldest first, the station that the receiver with its chip at `address` stands on, by what was sent and nothing else.
+ * `tuner_xtal` is the tuner's corrected reference (of the oscillator), `driver_xtal` the driver's (of IF and rate). The answer has 52 bytes, numbers low
+ * byte first:
+ *
+ *    0  marks, a byte each: oscillator, IF, rate, DDC, lock, centre
+ *    6  the DDC byte (page 1, register 0x15); 7 is zero
+ *    8  u32  tries: done three-byte reads of the chip since the last write that names 0x10, 0x14, 0x15 or 0x16; a count past u32 stays at 4,294,967,295
+ *   12  u32  the IF's word, 22 bits, as it was sent to 0x19..0x1b
+ *   16  u32  the ratio, as it was sent to 0x9f..0xa2
+ *   20  u64  the rate that it stands for, driver_xtal * 2^22 / ratio in whole Hz, cut; 0 where the ratio is 0
+ *   28  u64  the oscillator, in units of 2^-23 Hz, exact
+ *   36  u64  the IF, in the same units, exact
+ *   44  u64  the centre of what is recorded, oscillator less IF in whole Hz, cut
+ *
+ * A mark is 0 (never: no write names one of its registers), 1 (doubtful) or 2 (sure: the last write of each was done); what is not sure is 0. The lock's
+ * is 0 (no done three-byte read since a write that names 0x10, 0x12, 0x14, 0x15 or 0x16), 1 (the last without the bit) or 2 (with it). The centre's is
+ * sure where oscillator and IF are, and 1 where the IF is the larger. A failed write may have left anything in what it names. A write that names page 1,
+ * register 0x01 (the soft reset's) or block 2, 0x3000 (the power), or a demodulator register above 0xff or a page above 15, makes every register of the
+ * demodulator doubtful until it is written again; a repeater entry does not. A board's shift is not taken back here: for a converted band the centre is
+ * that of the tuner's side (an inverted one mirrors the spectrum around it; derived from the driver's text, never tried on a chip).
+ * Value: 0. Refuses 4 (either reference 0), 12 (any section, or bytes before them that are none), 8; refused, `out` is as it was.
+ */
+pasetone_reply pasetone_evidence(const uint8_t *sections, size_t sections_len, uint8_t address, uint32_t tuner_xtal, uint32_t driver_xtal, uint8_t *PASETONE_RESTRICT out, size_t out_len);
+
 /*
  * ---- Commands fed as they arrive ----
  * A command is nine bytes: an operation, then its argument in eight bytes, low byte first, those above it zero.

@@ -374,6 +374,7 @@ unsafe extern "C" {
     pub fn pasetone_expand(section: Bytes, s: usize, out: BytesMut, n: usize) -> Reply;
     pub fn pasetone_read_packets(packets: Bytes, p: usize, out: BytesMut, n: usize) -> Reply;
     pub fn pasetone_restore(sections: Bytes, s: usize, address: u8, out: BytesMut, n: usize) -> Reply;
+    pub fn pasetone_evidence(sections: Bytes, s: usize, address: u8, tuner: u32, driver: u32, out: BytesMut, n: usize) -> Reply;
     pub fn pasetone_feed(
         stream: BytesMut,
         s: usize,

@@ -461,6 +461,31 @@ static void check_restore(void)
     same("bytes before the sections", pasetone_restore(day + 1, sizeof day - 1, 0x74, list, sizeof list).refusal, PASETONE_SECTION);
 }
 
+/* A tuning to 102.3 MHz, then a rate's IF: each mark, the centre, and each refusal. */
+static void check_evidence(void)
+{
+    uint8_t fresh[PASETONE_TUNER_SIZE], night[PASETONE_TUNE_ROOM], out[PASETONE_EVIDENCE_SIZE + 1], outcomes[64] = {0}, replies[64];
+    pasetone_tune_reply tuned;
+    uint64_t length;
+    memset(replies, 0xff, sizeof replies);
+    memset(out, 0xa5, sizeof out);
+    same("a tuner for evidence", pasetone_tuner_new(PASETONE_R828D, 0x74, 28800000, fresh, sizeof fresh).refusal, 0);
+    tuned = pasetone_set_frequency(fresh, sizeof fresh, 102300000, outcomes, sizeof outcomes, replies, sizeof replies, night, sizeof night, next, sizeof next);
+    same("a tuning for evidence", tuned.refusal, 0);
+    length = 16 * tuned.count + 8;
+    done("evidence", pasetone_evidence(night, length, 0x74, 28800000, 28800000, out, sizeof out), 0, 0);
+    same("marks of a tuning", out[0] << 20 | out[1] << 16 | out[2] << 12 | out[3] << 8 | out[4] << 4 | out[5], 0x200021);
+    same("its tries", out[8], 1);
+    same("its centre is not sure", out[44] | out[45] | out[46] | out[47], 0);
+    same("a byte past the answer", out[PASETONE_EVIDENCE_SIZE], 0xa5);
+    same("no tuner's reference", pasetone_evidence(night, length, 0x74, 0, 1, out, sizeof out).refusal, PASETONE_CORRECTION);
+    same("no driver's reference", pasetone_evidence(night, length, 0x74, 1, 0, out, sizeof out).refusal, PASETONE_CORRECTION);
+    same("no section", pasetone_evidence(night + 1, length - 1, 0x74, 1, 1, out, sizeof out).refusal, PASETONE_SECTION);
+    same("evidence, room", pasetone_evidence(night, length, 0x74, 1, 1, out, PASETONE_EVIDENCE_SIZE - 1).refusal, PASETONE_ROOM);
+    done("of another chip", pasetone_evidence(night, length, 0x34, 1, 1, out, PASETONE_EVIDENCE_SIZE), 0, 0);
+    same("nothing is told of it", out[0] | out[4], 0);
+}
+
 /* Both built-in tables, the plan by one, and each refusal. */
 static void check_tables(void)
 {
@@ -509,6 +534,7 @@ static void check_numbers(void)
     check_pll();
     check_packets();
     check_restore();
+    check_evidence();
     check_tables();
     done("V4, 28,799,999", pasetone_plan_tuning(PASETONE_V4, 28799999, out, 3), 57599999, 0);
     same("inverted, HF, no notch", out[0] << 16 | out[1] << 8 | out[2], 0x010000);

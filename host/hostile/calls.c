@@ -149,6 +149,7 @@ RUN(run_unpack, pasetone_unpack_fir(S(INPUT), S(OUT)))
 RUN(run_expand, pasetone_expand(S(INPUT), S(OUT)))
 RUN(run_hear, pasetone_read_packets(S(INPUT), S(OUT)))
 RUN(run_restore, pasetone_restore(S(INPUT), (uint8_t)a->arg[0], S(OUT)))
+RUN(run_evidence, pasetone_evidence(S(INPUT), (uint8_t)a->arg[0], (uint32_t)a->arg[1], (uint32_t)a->arg[2], S(OUT)))
 RUN(run_board_table, pasetone_board_table(a->arg[0], S(OUT)))
 RUN(run_plan_by_table, pasetone_plan_by_table(S(INPUT), a->arg[0], S(OUT)))
 
@@ -405,6 +406,7 @@ const struct call calls[] = {
     {"expand", EXPANDING, HAS(INPUT) | HAS(OUT), 0, 0, 0, "12 15 8", run_expand, measured_args, measured_value},
     {"read_packets", HEARING, HAS(INPUT) | HAS(OUT), 0, 0, 0, "15 8", run_hear, measured_args, measured_value},
     {"restore", RESTORING, HAS(INPUT) | HAS(OUT), 0, 0, 0, "12 8", run_restore, measured_args, measured_value},
+    {"evidence", EVIDENCING, HAS(INPUT) | HAS(OUT), 0, 0, 0, "4 12 8", run_evidence, measured_args, nothing},
     {"feed", FEEDING, HAS(STREAM) | HAS(DRIVER) | HAS(TUNER) | HAS(INPUT) | HAS(CHUNK) | FREE | HAS(REPLIES), 0, 0, 0, "1 14 19 2 3 4 13 8 9 10 11", run_feed, any, nothing},
     {"stream_pending", COMMON, HAS(STREAM), 0, 0, 0, "1", run_pending, stream_args, pending_value},
 };

@@ -38,7 +38,8 @@ enum way {
     HOPPING,   /* a tuning by the table in INPUT; may be refused 2 by the PLL */
     EXPANDING, /* answers as many bytes as its input asks for, as do those behind it */
     HEARING,
-    RESTORING
+    RESTORING, /* reads sections, as does that behind it */
+    EVIDENCING /* tells of the station */
 };
 
 struct attempt;
@@ -146,6 +147,11 @@ void make_packets(struct attempt *a);
 /* restore.c: the same from document 02 */
 uint32_t restore_model(const uint8_t *bytes, size_t n, uint8_t chip, uint8_t *to, size_t *length);
 void make_sections(struct attempt *a);
+/* oldest first; 0, or 12 with none heard */
+uint32_t each_entry(const uint8_t *bytes, size_t n, void (*hear)(const uint8_t *e, void *to), void *to);
+/* evidence.c: what sections tell of the station, once more from the header's words */
+uint32_t evidence_model(const struct attempt *a, uint8_t *to, size_t *length);
+void near_demod(uint8_t *e, uint8_t chip);
 /* What a call that answers as many bytes as its input asks for must leave in OUT: its refusal, bytes, and how many. */
 int is_measured(const struct call *call);
 uint32_t measured_model(const struct attempt *a, const uint8_t **bytes, size_t *length);

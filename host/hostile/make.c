@@ -174,7 +174,7 @@ static void make_input(struct attempt *a)
         make_settings(a);
         return;
     }
-    if (a->call->way == RESTORING) {
+    if (a->call->way == RESTORING || a->call->way == EVIDENCING) {
         make_sections(a);
         return;
     }

@@ -3,17 +3,43 @@
 
 #include "hostile.h"
 
-/* Oldest first: what a write to the chip says of the registers that it names. */
-static void play(const uint8_t *e, uint8_t chip, uint8_t *sure, uint8_t *held)
+/* What a chip's registers were left with. */
+struct left {
+    uint8_t chip, sure[32], held[32];
+};
+
+/* What a write to the chip says of the registers that it names. */
+static void play(const uint8_t *e, void *to)
 {
+    struct left *l = to;
     unsigned i, r;
-    for (i = 1; e[0] == 2 && e[2] == chip && i < e[3]; i++) {
+    for (i = 1; e[0] == 2 && e[2] == l->chip && i < e[3]; i++) {
         r = e[8] + i - 1;
         if (r >= 0x05 && r <= 0x1f) {
-            sure[r] = e[1] == 0;
-            held[r] = e[8 + i];
+            l->sure[r] = e[1] == 0;
+            l->held[r] = e[8 + i];
         }
     }
+}
+
+uint32_t each_entry(const uint8_t *bytes, size_t n, void (*hear)(const uint8_t *e, void *to), void *to)
+{
+    static uint64_t starts[LONGEST / 8 + 1], counts[LONGEST / 8 + 1];
+    size_t sections = 0;
+    uint64_t i;
+    while (n > 0) {
+        if (read_model(bytes, n, &starts[sections], &counts[sections]) != 0) {
+            return 12;
+        }
+        n = (size_t)starts[sections++];
+    }
+    while (sections > 0) {
+        sections--;
+        for (i = 0; i < counts[sections]; i++) {
+            hear(bytes + starts[sections] + 16 * i, to);
+        }
+    }
+    return 0;
 }
 
 /* The writes of each block of sure registers, seven at a time; how many. */
@@ -37,25 +63,14 @@ static unsigned writes(const uint8_t *sure, const uint8_t *held, uint8_t chip, u
 /* 0 or 12; the list's section and how many bytes it has. */
 uint32_t restore_model(const uint8_t *bytes, size_t n, uint8_t chip, uint8_t *to, size_t *length)
 {
-    static uint64_t starts[LONGEST / 8 + 1], counts[LONGEST / 8 + 1];
-    uint8_t sure[32] = {0}, held[32] = {0};
-    size_t sections = 0;
-    uint64_t i;
+    struct left l = {0, {0}, {0}};
     unsigned count;
     *length = 0;
-    while (n > 0) {
-        if (read_model(bytes, n, &starts[sections], &counts[sections]) != 0) {
-            return 12;
-        }
-        n = (size_t)starts[sections++];
+    l.chip = chip;
+    if (each_entry(bytes, n, play, &l) != 0) {
+        return 12;
     }
-    while (sections > 0) {
-        sections--;
-        for (i = 0; i < counts[sections]; i++) {
-            play(bytes + starts[sections] + 16 * i, chip, sure, held);
-        }
-    }
-    count = writes(sure, held, chip, to);
+    count = writes(l.sure, l.held, chip, to);
     put_u32(to + 16 * count, count);
     put_u32(to + 16 * count + 4, 16 * count);
     *length = 16 * count + 8;
@@ -78,6 +93,7 @@ void make_sections(struct attempt *a)
                 e[8] = (uint8_t)(below(8) == 0 ? 0xf8 + below(8) : below(0x22));
                 e[1] = below(4) == 0;
             }
+            near_demod(e, (uint8_t)a->arg[0]);
         }
         put_u32(bytes + n, entries);
         put_u32(bytes + n + 4, 16 * entries);
@@ -98,6 +114,9 @@ uint32_t measured_model(const struct attempt *a, const uint8_t **bytes, size_t *
 {
     static uint8_t made[LONGEST];
     *bytes = made;
+    if (a->call->way == EVIDENCING) {
+        return evidence_model(a, made, length);
+    }
     if (a->call->way == RESTORING) {
         return restore_model(a->before[INPUT], a->n[INPUT], (uint8_t)a->arg[0], made, length);
     }

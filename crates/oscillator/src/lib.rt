@@ -6,7 +6,7 @@ ghost use Prim.Native.Nat.{_+_, _*_};
 ghost use Rattle.oscillator.specs.Registers.{five, hzIn, off};
 
 // S, or nothing where bit 3 of 0x12 switches the fraction off.
-fn sum(control: u8, low: u8, high: u8) -> u64
+pub fn sum(control: u8, low: u8, high: u8) -> u64
     ensures { λ r. ⌜ r ≡ cond (off control) 0 (256 * high + low) ⌝ }
 {
     if (control / 8) % 2 == 1 {

@@ -21,6 +21,7 @@ ghost use Rattle.r82xx.specs.Orders.{courseOf};
 ghost use Rattle.r82xx.specs.Orders.Order.{Initialize, Reload, Bandwidth, IfFreq, Gain, GainIndex, InputPath, Tune, Notch, GainTold, IfTold};
 ghost use Rattle.parting.specs.Parting.{partingOf};
 ghost use Rattle.restoring.specs.Standing.{restoreInto};
+ghost use Rattle.witness.specs.Answer.{evidenceInto};
 ghost use Rattle.reply.specs.Replies.{partsOf, replyOf};
 ghost use Rattle.settings.specs.Image.{wider};
 ghost use Rattle.settings.specs.Reading.{movedTo1, movedTo2, readOf1, readOf2, settings, toldOf1, toldOf2, writtenTo1, writtenTo2};
@@ -681,5 +682,20 @@ pub extern "C" fn pasetone_restore(sections: &[u8], address: u8, out: &mut [u8])
     ensures { λ r. ⌜ outResult r (now (out .exit)) ≡ outResultOf (restoreInto (now (sections .entry)) address (now (out .entry))) ⌝ }
 {
     let answer = restoring::restore(sections, address, out);
+    reply::numbers(answer, 0)
+}
+
+// Ours: what sections tell of the station that a receiver stands on.
+#[no_mangle]
+pub extern "C" fn pasetone_evidence(
+    sections: &[u8],
+    address: u8,
+    tuner: u32,
+    driver: u32,
+    out: &mut [u8],
+) -> Reply
+    ensures { λ r. ⌜ outResult r (now (out .exit)) ≡ outResultOf (evidenceInto (now (sections .entry)) address tuner driver (now (out .entry))) ⌝ }
+{
+    let answer = witness::evidence(sections, address, tuner, driver, out);
     reply::numbers(answer, 0)
 }

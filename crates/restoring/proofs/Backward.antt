@@ -16,7 +16,7 @@ use Rattle.sections.specs.Chain.{chain, chainEntries}
 use Rattle.sections.proofs.Walk.{chain-empty, chain-step, entries-empty, entries-step}
 use Rattle.restore.specs.Restore.{refusedBy}
 use Rattle.restoring.specs.Standing.{Known, over, knownIn}
-use Rattle.restoring.proofs.Telling.{over-both, over-empty}
+use Rattle.restoring.proofs.Telling.{Joins, over-both, over-empty}
 
 -- what the reader refuses is no section
 no-section : (p : List ℕ) → Refused ≡ sectionOf p → isSection p ≡ false
@@ -81,22 +81,28 @@ module _ (s p : List ℕ) (end : ℕ) (is : p ≡ take (end - 0) s) (some : 0 < 
         ∙ entries-step p (omega (arith, long))
         ∙ ap₂ (λ (l : List ℕ) (es : List Entry). chainEntries l ++ es) front (handed p good ∙ ap₂ (λ (k i : ℕ). entriesIn k (drop i p)) (sym count-is) (sym start-is))
 
+    -- whatever a walk gathers of entries, older ones after newer ones
+    pub turned : {S : Type 0} (all : List Entry → S → S) (l next : S) → Joins all → next ≡ all (entriesIn count (drop start p)) l
+        → all (chainEntries (take start s)) next ≡ all (chainEntries (take end s)) l
+    turned all l next both was =
+        ap (all (chainEntries (take start s))) was
+        ∙ both (chainEntries (take start s)) (entriesIn count (drop start p)) l
+        ∙ ap (λ (es : List Entry). all es l) (sym entries-on)
+
     pub told-on : (address : ℕ) (l next : List Known) → next ≡ over (knownIn address (entriesIn count (drop start p))) 0 l
         → over (knownIn address (chainEntries (take start s))) 0 next ≡ over (knownIn address (chainEntries (take end s))) 0 l
-    told-on address l next was =
-        ap (over (knownIn address (chainEntries (take start s))) 0) was
-        ∙ over-both address (chainEntries (take start s)) (entriesIn count (drop start p)) l
-        ∙ ap (λ (es : List Entry). over (knownIn address es) 0 l) (sym entries-on)
+    told-on address l next was = turned (λ es. over (knownIn address es) 0) l next (over-both address) was
 
 -- the start of the slice
 module _ (s : List ℕ) (end : ℕ) (none-left : end ≡ 0) (same : chain (take end s) ≡ chain s) where
   pub all-sections : 0 ≡ refusedBy s
   all-sections = rw (← same, none-left, chain-empty [] refl)
 
+  pub all-turned : {S : Type 0} (all : List Entry → S → S) (l : S) → l ≡ all [] l → l ≡ all (chainEntries (take end s)) l
+  all-turned all l empty = empty ∙ ap (λ (es : List Entry). all es l) (sym (ap (λ (k : ℕ). chainEntries (take k s)) none-left ∙ entries-empty [] refl))
+
   pub all-told : (address : ℕ) (l : List Known) → l ≡ over (knownIn address (chainEntries (take end s))) 0 l
-  all-told address l =
-      over-empty address l
-      ∙ ap (λ (es : List Entry). over (knownIn address es) 0 l) (sym (ap (λ (k : ℕ). chainEntries (take k s)) none-left ∙ entries-empty [] refl))
+  all-told address l = all-turned (λ es. over (knownIn address es) 0) l (over-empty address l)
 
 pub refused : (s : List ℕ) → chain s ≡ false → 12 ≡ refusedBy s
 refused s h = rw h

@@ -27,7 +27,7 @@ use Rattle.restoring.proofs.Laying.{eights}
 abbrev pub blank : List ℕ
 blank = replicate 32 0
 
-some-told : (l : Last) → newer none (knownOf l) ≡ knownOf l
+pub some-told : (l : Last) → newer none (knownOf l) ≡ knownOf l
 some-told Never = quiet none none refl
 some-told (Tried byte true) = fresh none (knownAs 2 byte) refl (omega arith)
 some-told (Tried byte false) = fresh none (knownAs 1 byte) refl (omega arith)
@@ -44,12 +44,13 @@ tells-past : (address : ℕ) (es : List Entry) (r : ℕ) → 32 ≤ r → knownI
 unfolding knownIn counts
 tells-past address es r h = rw (le-ltb r 32 h, and-false (leb 5 r))
 
-module _ (address : ℕ) (es : List Entry) (ms bs : List ℕ) (lm : length ms ≡ 32) (lb : length bs ≡ 32)
-    (after : knownAll ms bs ≡ over (knownIn address es) 0 (knownAll blank blank)) where
-  stands : (r : ℕ) → knownAs (getD ms r 0) (getD bs r 0) ≡ knownIn address es r
-  stands r = go (ltb r 32) refl
+-- what two arrays hold after a walk from nothing is what is told of each register
+module _ (f : ℕ → Known) (alone : (r : ℕ) → newer none (f r) ≡ f r) (far : (r : ℕ) → 32 ≤ r → f r ≡ none)
+    (ms bs : List ℕ) (lm : length ms ≡ 32) (lb : length bs ≡ 32) (after : knownAll ms bs ≡ over f 0 (knownAll blank blank)) where
+  pub stands-by : (r : ℕ) → knownAs (getD ms r 0) (getD bs r 0) ≡ f r
+  stands-by r = go (ltb r 32) refl
     where
-      go : (b : Bool) → ltb r 32 ≡ b → knownAs (getD ms r 0) (getD bs r 0) ≡ knownIn address es r
+      go : (b : Bool) → ltb r 32 ≡ b → knownAs (getD ms r 0) (getD bs r 0) ≡ f r
       go true e =
           let less = ltb-true r 32 e in
           let here : 0 + r ≡ r = omega arith in
@@ -57,12 +58,17 @@ module _ (address : ℕ) (es : List Entry) (ms bs : List ℕ) (lm : length ms �
           told-at blank blank r refl ∙ ap₂ knownAs (getD-replicate 32 r 0 0 less) (getD-replicate 32 r 0 0 less) in
           sym (told-at ms bs r (omega arith))
           ∙ ap (λ (l : List Known). getD l r none) after
-          ∙ over-at (knownIn address es) 0 r (knownAll blank blank) (omega arith)
-          ∙ ap₂ (λ (t : Known) (k : ℕ). newer t (knownIn address es k)) clear here
-          ∙ tells-alone address es r
+          ∙ over-at f 0 r (knownAll blank blank) (omega arith)
+          ∙ ap₂ (λ (t : Known) (k : ℕ). newer t (f k)) clear here
+          ∙ alone r
       go false e =
           let past = ltb-false r 32 e in
-          ap₂ knownAs (List·getD-eq-default ms 0 (omega arith)) (List·getD-eq-default bs 0 (omega arith)) ∙ sym (tells-past address es r past)
+          ap₂ knownAs (List·getD-eq-default ms 0 (omega arith)) (List·getD-eq-default bs 0 (omega arith)) ∙ sym (far r past)
+
+module _ (address : ℕ) (es : List Entry) (ms bs : List ℕ) (lm : length ms ≡ 32) (lb : length bs ≡ 32)
+    (after : knownAll ms bs ≡ over (knownIn address es) 0 (knownAll blank blank)) where
+  pub stands : (r : ℕ) → knownAs (getD ms r 0) (getD bs r 0) ≡ knownIn address es r
+  stands r = stands-by (knownIn address es) (tells-alone address es) (tells-past address es) ms bs lm lb after r
 
   sure-mark : (l : Last) (b : Bool) → eqb (cond b (knownOf l) none .mark) 2 ≡ b && not (doubtIn l)
   sure-mark Never true = refl

@@ -147,7 +147,7 @@ module _ (first n mark : ℕ) (bytes : List ℕ) (l : List Known) (j : ℕ) wher
 
 -- ---- entries
 
-told-known : (a b : Last) → knownOf (known a b) ≡ newer (knownOf a) (knownOf b)
+pub told-known : (a b : Last) → knownOf (known a b) ≡ newer (knownOf a) (knownOf b)
 told-known Never Never = sym (quiet none none refl)
 told-known Never (Tried byte true) = sym (fresh none (knownAs 2 byte) refl (omega arith))
 told-known Never (Tried byte false) = sym (fresh none (knownAs 1 byte) refl (omega arith))
@@ -189,19 +189,27 @@ entries-snoc (suc i) l =
     ap (λ (es : List Entry). entryOf (take 16 l) ∷ es) (entries-snoc i (drop 16 l))
     ∙ ap (λ (b : List ℕ). entryOf (take 16 l) ∷ (entriesIn i (drop 16 l) ++ (entryOf (take 16 b) ∷ []))) (drop-drop (16 * i) 16 l ∙ ap (λ (k : ℕ). drop k l) (sym next))
 
-pub entry-turn : (address : ℕ) (s : List ℕ) (start k : ℕ) (l next : List Known) (e : Entry) → 0 < k → e ≡ entryOf (take 16 (drop (start + 16 * (k - 1)) s))
-    → next ≡ over (knownIn address (e ∷ [])) 0 l
-    → over (knownIn address (entriesIn (k - 1) (drop start s))) 0 next ≡ over (knownIn address (entriesIn k (drop start s))) 0 l
-entry-turn address s start k l next e some is was =
+-- whatever a walk gathers of entries: older ones after newer ones gather what all of them do
+abbrev pub Joins : {S : Type 0} → (List Entry → S → S) → Type 0
+Joins {S} all = (xs ys : List Entry) (l : S) → all xs (all ys l) ≡ all (xs ++ ys) l
+
+pub turn-on : {S : Type 0} (all : List Entry → S → S) (s : List ℕ) (start k : ℕ) (l next : S) (e : Entry) → Joins all → 0 < k
+    → e ≡ entryOf (take 16 (drop (start + 16 * (k - 1)) s)) → next ≡ all (e ∷ []) l → all (entriesIn (k - 1) (drop start s)) next ≡ all (entriesIn k (drop start s)) l
+turn-on all s start k l next e both some is was =
     let i = k - 1 in
     let one-more : suc (k - 1) ≡ k = omega arith in
     let there : e ≡ entryOf (take 16 (drop (16 * i) (drop start s))) = is ∙ ap (λ (b : List ℕ). entryOf (take 16 b)) (sym (drop-drop (16 * i) start s)) in
-    ap (over (knownIn address (entriesIn i (drop start s))) 0) was
-    ∙ over-both address (entriesIn i (drop start s)) (e ∷ []) l
-    ∙ ap (λ (es : List Entry). over (knownIn address es) 0 l)
+    ap (all (entriesIn i (drop start s))) was
+    ∙ both (entriesIn i (drop start s)) (e ∷ []) l
+    ∙ ap (λ (es : List Entry). all es l)
     (ap (λ (x : Entry). entriesIn i (drop start s) ++ (x ∷ [])) there
     ∙ sym (entries-snoc i (drop start s))
     ∙ ap (λ (m : ℕ). entriesIn m (drop start s)) one-more)
+
+pub entry-turn : (address : ℕ) (s : List ℕ) (start k : ℕ) (l next : List Known) (e : Entry) → 0 < k → e ≡ entryOf (take 16 (drop (start + 16 * (k - 1)) s))
+    → next ≡ over (knownIn address (e ∷ [])) 0 l
+    → over (knownIn address (entriesIn (k - 1) (drop start s))) 0 next ≡ over (knownIn address (entriesIn k (drop start s))) 0 l
+entry-turn address s start k l next e some is was = turn-on (λ es. over (knownIn address es) 0) s start k l next e (over-both address) some is was
 
 -- an entry of those that fit the table has eight data bytes at most
 fits-at : (k i : ℕ) (l : List ℕ) → i < k → allFit k l ≡ true → fits (take 16 (drop (16 * i) l)) ≡ true
@@ -222,6 +230,9 @@ few s start count i e h f is =
     let small = fits-few (take 16 (drop (start + 16 * i) s)) there in
     rw is small
 
-pub entries-end : (address : ℕ) (s : List ℕ) (start i : ℕ) (l : List Known) → i ≡ 0 → l ≡ over (knownIn address (entriesIn i (drop start s))) 0 l
+pub turn-end : {S : Type 0} (all : List Entry → S → S) (s : List ℕ) (start i : ℕ) (l : S) → l ≡ all [] l → i ≡ 0 → l ≡ all (entriesIn i (drop start s)) l
 unfolding entriesIn
-entries-end address s start i l h = over-empty address l ∙ ap (λ (k : ℕ). over (knownIn address (entriesIn k (drop start s))) 0 l) (sym h)
+turn-end all s start i l empty h = empty ∙ ap (λ (k : ℕ). all (entriesIn k (drop start s)) l) (sym h)
+
+pub entries-end : (address : ℕ) (s : List ℕ) (start i : ℕ) (l : List Known) → i ≡ 0 → l ≡ over (knownIn address (entriesIn i (drop start s))) 0 l
+entries-end address s start i l h = turn-end (λ es. over (knownIn address es) 0) s start i l (over-empty address l) h

@@ -25,7 +25,7 @@ fn wide(x: u8) -> usize
     x as usize
 }
 
-fn mark_of(ok: bool) -> u8
+pub fn mark_of(ok: bool) -> u8
     ensures { λ r. ⌜ r ≡ markOf ok ⌝ }
 {
     if ok { 2 } else { 1 }
@@ -40,7 +40,7 @@ fn upward(first: usize, j: usize) -> usize
 }
 
 // One register more that a write named. What is told already is newer.
-fn marked(r: usize, mark: u8, byte: u8, marks: &mut [u8], sent: &mut [u8])
+pub fn marked(r: usize, mark: u8, byte: u8, marks: &mut [u8], sent: &mut [u8])
     requires { ⌜ (0 < mark) × (length (now marks) ≡ 32) × (length (now sent) ≡ 32) ⌝ }
     ensures { λ _. ⌜ knownAll (now (marks .exit)) (now (sent .exit)) ≡ over (only r (knownAs mark byte)) 0 (knownAll (now (marks .entry)) (now (sent .entry))) ⌝ }
 {
@@ -58,7 +58,7 @@ fn marked(r: usize, mark: u8, byte: u8, marks: &mut [u8], sent: &mut [u8])
 }
 
 // One entry more, older than those before it: the registers that it names upward from its first byte.
-fn noted(e: Entry, address: u8, marks: &mut [u8], sent: &mut [u8])
+pub fn noted(e: Entry, address: u8, marks: &mut [u8], sent: &mut [u8])
     requires { ⌜ (e .n ≤ 8) × (length (now marks) ≡ 32) × (length (now sent) ≡ 32) ⌝ }
     ensures { λ _. ⌜ knownAll (now (marks .exit)) (now (sent .exit)) ≡ over (knownIn address (e ∷ [])) 0 (knownAll (now (marks .entry)) (now (sent .entry))) ⌝ }
 {

@@ -1,6 +1,6 @@
 //! What sections say of the station that a receiver stands on: read from what was sent, and told by nobody.
 use crate::Error;
-use crate::evidence_standin::lent;
+use crate::raw::{self, Told as _};
 
 /// A number of the evidence, with its mark.
 #[derive(Clone, Copy, Debug, PartialEq, Eq, Hash)]
@@ -117,6 +117,8 @@ impl Evidence {
 /// - [`Error::Section`] (12): some of the bytes are no section.
 pub fn evidence(sections: &[u8], address: u8, tuner_xtal: u32, driver_xtal: u32) -> Result<Evidence, Error> {
     let mut out = [0; Evidence::SIZE];
-    lent(sections, address, tuner_xtal, driver_xtal, &mut out)?;
+    let (bytes, room) = (sections.as_ptr(), out.as_mut_ptr());
+    // SAFETY: see raw.rs; the sections are only read, and `out` is another slice.
+    unsafe { raw::pasetone_evidence(bytes, sections.len(), address, tuner_xtal, driver_xtal, room, out.len()) }.result()?;
     Ok(Evidence::read(&out))
 }

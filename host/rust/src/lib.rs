@@ -80,7 +80,6 @@ pub mod demod;
 mod driver;
 mod error;
 pub mod evidence;
-mod evidence_standin;
 pub mod gpio;
 mod need;
 mod packet;

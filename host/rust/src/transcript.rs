@@ -4,8 +4,8 @@ use alloc::string::String;
 use alloc::vec::Vec;
 use core::fmt::{self, Write};
 
-pub(crate) const ENTRY: usize = 16;
-pub(crate) const TRAILER: usize = 8;
+const ENTRY: usize = 16;
+const TRAILER: usize = 8;
 
 /// The room of a call with at most this many entries.
 pub(crate) const fn room_for(entries: usize) -> usize {
@@ -410,7 +410,7 @@ impl<'a> Iterator for Entries<'a> {
 
 impl ExactSizeIterator for Entries<'_> {}
 
-pub(crate) fn entry(bytes: &[u8]) -> Entry<'_> {
+fn entry(bytes: &[u8]) -> Entry<'_> {
     Entry {
         kind: EntryKind::of(bytes[0]),
         failed: bytes[1] != 0,

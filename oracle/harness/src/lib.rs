@@ -5,6 +5,7 @@ pub mod case;
 pub mod cases;
 pub mod commands;
 pub mod dice;
+pub mod evidence;
 pub mod files;
 pub mod hops;
 pub mod judge;

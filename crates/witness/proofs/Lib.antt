@@ -1,0 +1,5 @@
+pub mod Sizes
+pub mod Slots
+pub mod Waits
+pub mod Gathered
+pub mod Answered
