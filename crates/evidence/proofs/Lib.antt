@@ -1,5 +1,6 @@
 pub mod Marks
 pub mod Held
+pub mod Units
 pub mod Rates
 pub mod Quiet
 pub mod Worked

@@ -1,15 +1,17 @@
 -- Each mark exactly: sure where each register's last attempt was done, never where none was attempted, else doubtful. Assumes nothing.
-use Prim.Native.Nat.{ℕ}
+use Prim.Native.Nat.{ℕ, _≤_}
 use mathlib.Core.Path.{_≡_, refl, ap}
-use mathlib.Core.Bool.{Bool, true, false, cond, false≢true}
+use mathlib.Core.Bool.{Bool, true, false, cond, _&&_, false≢true, true≢false}
 use mathlib.Core.List.{List, [], _∷_}
 use mathlib.Core.Logic.{_↔_}
 use native.Mathlib.Omega.{arith}
-use lib.Dec.{eqb}
+use borrow.Author.Tests.{eqb-true, le-leb, leb-true}
+use lib.Dec.{eqb, leb}
+use Rattle.transcript.specs.declared.Entry.{Entry}
 use Rattle.attempts.specs.Namings.{Last, doubtIn}
 use Rattle.attempts.specs.Namings.Last.{Never, Tried}
 use Rattle.chip.proofs.Laws.{and-left, and-right}
-use Rattle.evidence.specs.Evidence.{markAll, markOf, same}
+use Rattle.evidence.specs.Evidence.{bothMark, centreMark, chipByte, demodByte, ifMark, ifUnits, loMark, loUnits, markAll, markOf, same}
 
 -- all of them
 abbrev pub Each : (Last → Type 0) → List Last → Type 0
@@ -75,3 +77,38 @@ never-exactly l ls = (λ h. nevers (l ∷ ls) (by-second (same 2 (l ∷ ls)) (sa
 -- a sure one is without doubt
 pub sure-known : (l : Last) → Sure l → doubtIn l ≡ false
 sure-known l p = ap doubtIn (p .1)
+
+-- and one without doubt was tried, and is sure
+pub known-sure : (l : Last) → doubtIn l ≡ false → Sure l
+known-sure Never h = absurd (true≢false h)
+known-sure (Tried byte true) h = (byte, refl)
+known-sure (Tried byte false) h = absurd (true≢false h)
+
+-- ---- the centre's
+
+both-two : (a b : ℕ) → bothMark a b ≡ 2 → (a ≡ 2) × (b ≡ 2)
+both-two a b h = go (eqb a 2) refl (eqb b 2) refl
+  where
+    go : (x : Bool) → eqb a 2 ≡ x → (y : Bool) → eqb b 2 ≡ y → (a ≡ 2) × (b ≡ 2)
+    go true p true q = (eqb-true a 2 p, eqb-true b 2 q)
+    go true p false q = absurd (false≢true (by-tests false (eqb a 0 && eqb b 0) (rw (p, q) at h)))
+    go false p y q = absurd (false≢true (by-tests false (eqb a 0 && eqb b 0) (rw p at h)))
+
+-- "mark 1 where the IF is larger": sure exactly where both are and it is not
+pub centre-exactly : (address r xtal : ℕ) (es : List Entry)
+    → (centreMark address r xtal es ≡ 2) ↔ ((loMark address es ≡ 2) × (ifMark es ≡ 2) × (ifUnits xtal (demodByte es) ≤ loUnits r (chipByte address es)))
+centre-exactly address r xtal es = (to (leb off lo) refl, λ p. rw (le-leb off lo (p .2), p .0, p .1))
+  where
+    lo : ℕ
+    lo = loUnits r (chipByte address es)
+
+    off : ℕ
+    off = ifUnits xtal (demodByte es)
+
+    to : (b : Bool) → leb off lo ≡ b → cond (leb off lo) (bothMark (loMark address es) (ifMark es)) 1 ≡ 2 → (loMark address es ≡ 2) × (ifMark es ≡ 2) × (off ≤ lo)
+    to true e h =
+        let p = both-two (loMark address es) (ifMark es) (rw e at h) in
+        (p .0, p .1, leb-true off lo e)
+    to false e h =
+        let z : _≡_ {A = ℕ} 1 2 = rw e at h in
+        absurd (omega arith)

@@ -7,3 +7,4 @@ pub mod Reloads
 pub mod Sharp
 pub mod Again
 pub mod Centre
+pub mod Filed
