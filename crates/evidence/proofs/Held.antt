@@ -8,14 +8,10 @@ use Rattle.attempts.specs.Attempts as chip
 use Rattle.attempts.specs.Attempts.{Regs, tunerAt}
 use Rattle.attempts.specs.Namings.{Naming, Played, byteIn, lastIn}
 use Rattle.attempts.proofs.Doubt.{sure-byte}
+use Rattle.evidence.specs.Alike.{Agree}
 use Rattle.evidence.specs.Demodulator.{Place, demodulator, lastAt, place}
 use Rattle.evidence.specs.Evidence.{chipByte, demodByte, ifMark, ifPlaces, ifUnits, lasts, loMark, loUnits, markAll, oscillator, rateIn, rateMark, ratePlaces}
 use Rattle.evidence.proofs.Marks.{Each, Sure, sure-exactly, sure-known}
-
--- two readings of some registers are the same
-abbrev pub Agree : (ℕ → ℕ) → (ℕ → ℕ) → List ℕ → Type 0
-Agree g h [] = Unit {0}
-Agree g h (r ∷ rs) = (g r ≡ h r) × Agree g h rs
 
 module _ {P : Type 0} (any : Naming P) (at : ℕ → P) (es : List Entry) (before now : P → ℕ) (played : Played any es before now) where
   agree : (rs : List ℕ) → Each Sure (lasts (λ r. lastIn any es (at r)) rs) → Agree (λ r. now (at r)) (λ r. byteIn 0 (lastIn any es (at r))) rs

@@ -1,2 +1,3 @@
 pub mod Demodulator
 pub mod Evidence
+pub mod Alike

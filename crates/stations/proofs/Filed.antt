@@ -22,7 +22,7 @@ use Rattle.driver.specs.Programs.{ifFor}
 use Rattle.driver.specs.Record.{xtalOf}
 use Rattle.evidence.specs.Demodulator.{Place, demodulator, place}
 use Rattle.evidence.specs.Evidence.{bothMark, centreIn, centreMark, centreOf, chipByte, codeIn, demodByte, ifMark, ifPlaces, ifUnits, ifWord, lasts, loMark, loUnits, oscillator}
-use Rattle.evidence.proofs.Held.{Agree, held}
+use Rattle.evidence.proofs.Held.{held}
 use Rattle.evidence.proofs.Marks.{Sure, known-sure, sure-exactly}
 use Rattle.evidence.proofs.Units.{lo-exactly}
 use Rattle.oscillator.specs.Registers.{Bytes, dividerIn, standsBy, vcoIn}
