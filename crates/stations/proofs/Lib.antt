@@ -7,4 +7,6 @@ pub mod Reloads
 pub mod Sharp
 pub mod Again
 pub mod Centre
+pub mod Waits
+pub mod Locks
 pub mod Filed

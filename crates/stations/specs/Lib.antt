@@ -1,2 +1,3 @@
 pub mod Centre
 pub mod Between
+pub mod Locks
