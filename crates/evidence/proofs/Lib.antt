@@ -3,6 +3,7 @@ pub mod Held
 pub mod Units
 pub mod Heard
 pub mod Summed
+pub mod Cuts
 pub mod Rates
 pub mod Quiet
 pub mod Worked

@@ -9,4 +9,5 @@ pub mod Again
 pub mod Centre
 pub mod Waits
 pub mod Locks
+pub mod CutShort
 pub mod Filed

@@ -1,0 +1,24 @@
+-- What marks say after a call that was cut: of each group of registers that the failing entry names one of. Assumes nothing.
+use Prim.Native.Nat.{ℕ}
+use mathlib.Core.Path.{_≡_}
+use mathlib.Core.Bool.{Bool, true, false, not, _||_}
+use mathlib.Core.List.{List, [], _∷_}
+use lib.Dec.{eqb}
+use Rattle.transcript.specs.declared.Entry.{Entry}
+use Rattle.attempts.specs.Attempts.{names}
+use Rattle.evidence.specs.Demodulator.{demodNames, place}
+use Rattle.evidence.specs.Evidence.{centreMark, ddcMark, ifMark, ifPlaces, loMark, lockMark, oscillator, rateMark, ratePlaces}
+
+abbrev pub among : ℕ → List ℕ → Bool
+among r [] = false
+among r (q ∷ qs) = eqb q r || among r qs
+
+-- the failing entry names a register r, and the number that it belongs to is not sure: 1, the lock 0. The centre hangs on oscillator and IF, by any references
+pub record Marked (address : ℕ) (last : Entry) (es : List Entry) : Type 0 where
+  pub lo : (r : ℕ) → among r oscillator ≡ true → names address last r ≡ true → loMark address es ≡ 1
+  pub lock : (r : ℕ) → among r oscillator ≡ true → names address last r ≡ true → lockMark address es ≡ 0
+  pub offset : (r : ℕ) → among r ifPlaces ≡ true → demodNames last (place 1 r) ≡ true → ifMark es ≡ 1
+  pub rate : (r : ℕ) → among r ratePlaces ≡ true → demodNames last (place 1 r) ≡ true → rateMark es ≡ 1
+  pub ddc : demodNames last (place 1 0x15) ≡ true → ddcMark es ≡ 1
+  pub lo-centre : (r : ℕ) → among r oscillator ≡ true → names address last r ≡ true → (ref xtal : ℕ) → centreMark address ref xtal es ≡ 1
+  pub if-centre : (r : ℕ) → among r ifPlaces ≡ true → demodNames last (place 1 r) ≡ true → (ref xtal : ℕ) → centreMark address ref xtal es ≡ 1
