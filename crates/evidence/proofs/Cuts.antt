@@ -5,7 +5,7 @@ use mathlib.Core.Path.{_≡_, refl, sym, ap, subst, _∙_}
 use mathlib.Core.Bool.{Bool, true, false, cond, not, _&&_, _||_, and-false, or-true, false≢true}
 use mathlib.Core.List.{List, [], _∷_, _++_, append-assoc}
 use borrow.Author.Tests.{eqb-true, not-true}
-use lib.Dec.{eqb, leb}
+use lib.Dec.{eqb}
 use Rattle.transcript.specs.declared.Entry.{Entry}
 use Rattle.attempts.specs.Attempts as chip
 use Rattle.attempts.specs.Attempts.{done, names, tunerAt}
@@ -20,6 +20,7 @@ use Rattle.history.specs.Histories.Closing.{closed, nothing}
 use Rattle.evidence.specs.Cuts.{Marked, among}
 use Rattle.evidence.specs.Demodulator.{Place, covers, demodNames, demodSettles, demodulator, lastAt, place, shakes}
 use Rattle.evidence.specs.Evidence.{bothMark, centreMark, chipByte, ddcMark, demodByte, ifMark, ifPlaces, ifUnits, lasts, loMark, loUnits, lockFrom, lockMark, markAll, markOf, oscillator, planned, rateMark, ratePlaces, same, touches}
+use Rattle.evidence.proofs.Marks.{one-mark}
 use Rattle.evidence.proofs.Heard.{Heard, heard, heard-append, heardFrom}
 
 -- what holds of each holds of one among them
@@ -109,10 +110,6 @@ touches-among address r e named (q ∷ qs) h = go (eqb q r) refl (λ k. touches-
     go true t ih = rw (ap (names address e) (eqb-true q r t) ∙ named)
     go false t ih = rw (ih (rw t at h)) (or-true (names address e q))
 
-either-one : (b : Bool) → _≡_ {A = ℕ} (cond b 1 1) 1
-either-one true = refl
-either-one false = refl
-
 module _ (i : ℕ) (cut whole : List Entry) (c : Cut i cut whole) (address : ℕ) (es : List Entry) where
   abbrev first : List Entry
   first = es ++ c .earlier
@@ -160,12 +157,10 @@ module _ (i : ℕ) (cut whole : List Entry) (c : Cut i cut whole) (address : ℕ
         lock = lock-lost;
         offset = demod-vain ifPlaces if-spared;
         rate = demod-vain ratePlaces rate-spared;
-        ddc = demod-vain (0x15 ∷ []) ddc-spared 0x15 refl;
-        lo-centre = (λ r h named ref xtal.
-            rw (lo-vain r h named) (either-one (leb (ifUnits xtal (demodByte (es ++ cut))) (loUnits ref (chipByte address (es ++ cut))))));
+        ddc = (λ named. sym (one-mark (lastAt (es ++ cut) 0x15)) ∙ demod-vain (0x15 ∷ []) ddc-spared 0x15 refl named);
+        lo-centre = (λ r h named ref xtal. rw (lo-vain r h named));
         if-centre = (λ r h named ref xtal.
-            rw (demod-vain ifPlaces if-spared r h named, and-false (eqb (loMark address (es ++ cut)) 2), and-false (eqb (loMark address (es ++ cut)) 0))
-            (either-one (leb (ifUnits xtal (demodByte (es ++ cut))) (loUnits ref (chipByte address (es ++ cut))))));
+            rw (demod-vain ifPlaces if-spared r h named, and-false (eqb (loMark address (es ++ cut)) 2), and-false (eqb (loMark address (es ++ cut)) 0)));
       }
 
 -- ---- a reset or a power-off, done or not, and no write of register r since

@@ -5,8 +5,8 @@ use mathlib.Core.Bool.{Bool, true, false, cond, _&&_, false≢true, true≢false
 use mathlib.Core.List.{List, [], _∷_}
 use mathlib.Core.Logic.{_↔_}
 use native.Mathlib.Omega.{arith}
-use borrow.Author.Tests.{eqb-true, le-leb, leb-true}
-use lib.Dec.{eqb, leb}
+use borrow.Author.Tests.{eqb-true, le-ltb, ltb-false}
+use lib.Dec.{eqb, ltb}
 use Rattle.transcript.specs.declared.Entry.{Entry}
 use Rattle.attempts.specs.Namings.{Last, doubtIn}
 use Rattle.attempts.specs.Namings.Last.{Never, Tried}
@@ -84,6 +84,13 @@ known-sure Never h = absurd (true≢false h)
 known-sure (Tried byte true) h = (byte, refl)
 known-sure (Tried byte false) h = absurd (true≢false h)
 
+-- of one register it is its own
+pub one-mark : (l : Last) → markAll (l ∷ []) ≡ markOf l
+unfolding markAll
+one-mark Never = refl
+one-mark (Tried byte true) = refl
+one-mark (Tried byte false) = refl
+
 -- ---- the centre's
 
 both-two : (a b : ℕ) → bothMark a b ≡ 2 → (a ≡ 2) × (b ≡ 2)
@@ -97,7 +104,7 @@ both-two a b h = go (eqb a 2) refl (eqb b 2) refl
 -- "mark 1 where the IF is larger": sure exactly where both are and it is not
 pub centre-exactly : (address r xtal : ℕ) (es : List Entry)
     → (centreMark address r xtal es ≡ 2) ↔ ((loMark address es ≡ 2) × (ifMark es ≡ 2) × (ifUnits xtal (demodByte es) ≤ loUnits r (chipByte address es)))
-centre-exactly address r xtal es = (to (leb off lo) refl, λ p. rw (le-leb off lo (p .2), p .0, p .1))
+centre-exactly address r xtal es = (to, λ p. rw (p .0, p .1, le-ltb lo off (p .2)))
   where
     lo : ℕ
     lo = loUnits r (chipByte address es)
@@ -105,10 +112,21 @@ centre-exactly address r xtal es = (to (leb off lo) refl, λ p. rw (le-leb off l
     off : ℕ
     off = ifUnits xtal (demodByte es)
 
-    to : (b : Bool) → leb off lo ≡ b → cond (leb off lo) (bothMark (loMark address es) (ifMark es)) 1 ≡ 2 → (loMark address es ≡ 2) × (ifMark es ≡ 2) × (off ≤ lo)
-    to true e h =
-        let p = both-two (loMark address es) (ifMark es) (rw e at h) in
-        (p .0, p .1, leb-true off lo e)
-    to false e h =
-        let z : _≡_ {A = ℕ} 1 2 = rw e at h in
+    both : ℕ
+    both = bothMark (loMark address es) (ifMark es)
+
+    by : (b : Bool) → ltb lo off ≡ b → both ≡ 2 → cond (eqb both 2 && ltb lo off) 1 both ≡ 2 → off ≤ lo
+    by true e two h =
+        let z : _≡_ {A = ℕ} 1 2 = rw (two, e) at h in
         absurd (omega arith)
+    by false e two h = ltb-false lo off e
+
+    sure-both : (b : Bool) → eqb both 2 ≡ b → cond (eqb both 2 && ltb lo off) 1 both ≡ 2 → both ≡ 2
+    sure-both true e h = eqb-true both 2 e
+    sure-both false e h = rw e at h
+
+    to : cond (eqb both 2 && ltb lo off) 1 both ≡ 2 → (loMark address es ≡ 2) × (ifMark es ≡ 2) × (off ≤ lo)
+    to h =
+        let two : both ≡ 2 = sure-both (eqb both 2) refl h in
+        let p = both-two (loMark address es) (ifMark es) two in
+        (p .0, p .1, by (ltb lo off) refl two h)

@@ -12,7 +12,7 @@ use Rattle.attempts.specs.Namings.Last.{Never}
 use Rattle.attempts.proofs.Lasts.{last-append}
 use Rattle.evidence.specs.Alike.{Agree, Alike, SameLasts, demodPlaces}
 use Rattle.evidence.specs.Demodulator.{Place, demodulator, lastAt, place}
-use Rattle.evidence.specs.Evidence.{bothMark, centreIn, centreMark, centreOf, chipByte, demodByte, ifMark, ifPlaces, ifUnits, ifWord, lasts, lockMark, loMark, loUnits, markAll, oscillator, rateIn, ratePlaces, triesOf}
+use Rattle.evidence.specs.Evidence.{bothMark, centreIn, centreMark, centreOf, chipByte, demodByte, ifMark, ifPlaces, ifUnits, ifWord, lasts, lockMark, loMark, loUnits, markAll, markOf, oscillator, rateIn, ratePlaces, triesOf}
 use Rattle.evidence.proofs.Heard.{Heard, heard, heard-append, heard-plans, heardFrom, plans}
 
 -- the same entries after both
@@ -65,7 +65,7 @@ module _ (address r xtal : ℕ) (es gs : List Entry) (same : SameLasts address e
         lo-mark = lo-two;
         if-mark = if-two;
         rate-mark = ap markAll (agree-lasts (lastAt es) (lastAt gs) ratePlaces (p .1 .1 .1 .1));
-        ddc-mark = ap markAll (agree-lasts (lastAt es) (lastAt gs) (0x15 ∷ []) (p .0, tt));
+        ddc-mark = ap markOf (p .0);
         centre-mark = rw (same-lo, same-offset, lo-two, if-two);
         ddc = ap (byteIn 0) (p .0);
         word = rw (p .1 .0, p .1 .1 .0, p .1 .1 .1 .0);

@@ -6,8 +6,6 @@ use mathlib.Core.Bool.{Bool, true, false}
 use mathlib.Core.List.{List, _++_}
 use native.Mathlib.Omega.{arith}
 use native.Mathlib.Nat.{le-of-mul-le-mul-left, lt-mul-div-succ, mul-div-le, mul-le-mul-left, mul-lt-mul-of-pos-left, pow-succ'}
-use borrow.Author.Tests.{le-leb}
-use lib.Dec.{leb}
 use lib.ListN.{drop, getD}
 use lib.Pow.{pow-pos}
 use Rattle.transcript.specs.declared.Entry.{Entry}
@@ -23,7 +21,7 @@ use Rattle.driver.specs.Record.{xtalOf}
 use Rattle.evidence.specs.Demodulator.{Place, demodulator, place}
 use Rattle.evidence.specs.Evidence.{bothMark, centreIn, centreMark, centreOf, chipByte, codeIn, demodByte, ifMark, ifPlaces, ifUnits, ifWord, lasts, loMark, loUnits, oscillator}
 use Rattle.evidence.proofs.Held.{held}
-use Rattle.evidence.proofs.Marks.{Sure, known-sure, sure-exactly}
+use Rattle.evidence.proofs.Marks.{Sure, centre-exactly, known-sure, sure-exactly}
 use Rattle.evidence.proofs.Units.{lo-exactly}
 use Rattle.oscillator.specs.Registers.{Bytes, dividerIn, standsBy, vcoIn}
 use Rattle.oscillator.proofs.Oscillator.{Says, each-five, same-divider, same-vco}
@@ -119,7 +117,7 @@ module _ (address r xtal hz : ℕ) (all : List Entry) (lo-two : loMark address a
       record {
         lo = lo-two;
         offset = if-two;
-        mark = rw (le-leb (ifUnits xtal (demodByte all)) (loUnits r told) le, lo-two, if-two);
+        mark = centre-exactly address r xtal all .1 (lo-two, if-two, le);
         below = cut-below hz xtal steps m (vcoIn r told) (loUnits r told) some units low high le;
         above = cut-above hz xtal steps m (vcoIn r told) (loUnits r told) some units low high le;
       }
