@@ -46,8 +46,10 @@ use Rattle.stations.specs.Between.{Between, movesAside, movesIf}
 use Rattle.stations.specs.Between.Between.{start as still, later as then, beside as besides}
 use Rattle.stations.specs.Centre.{Filed}
 use Rattle.stations.specs.Locks.{LockTold}
+use Rattle.stations.specs.Rated.{RateTold}
 use Rattle.stations.proofs.Filed as stations
 use Rattle.stations.proofs.Locks as locks
+use Rattle.stations.proofs.Rated as rated-so
 use Rattle.tuners.specs.Over.{overTuning}
 use Rattle.tuning.specs.Tries.{fineOf, powerOf}
 use Rattle.carried.specs.Carried.{Carried}
@@ -196,6 +198,17 @@ module _ (b : List ℕ) (es : List Entry) (c : Carried b es) where
   cut-marked k h e =
       let x = cut-uncut b es c k h e in
       (x, marked (leaves k b .reply .index) (entriesOf k b) (entriesOf (uncut (leaves k b .reply .index) k) b) x (getD b 1 0) es)
+
+  -- a rate that is answered 0: the true one of #104, with the DDC byte of the table's plan for the driver's frequency
+  pub rate-told : (rate : ℕ) (table driver slot os room out : List ℕ) → leaves (lent (Rate rate table driver slot) os room out) b .reply .refusal ≡ 0
+      → let d = driverOf driver .driver in
+      RateTold rate (xtalOf d) (planBy table (d .frequency) .plan .inverted) (es ++ entriesOf (lent (Rate rate table driver slot) os room out) b)
+  rate-told rate table driver slot os room out e =
+      let k : Lent = lent (Rate rate table driver slot) os room out in
+      let d : Driver = driverOf driver .driver in
+      let m = made-here k refl e in
+      subst (λ (l : List Entry). RateTold rate (xtalOf d) (planBy table (d .frequency) .plan .inverted) (es ++ l)) (sym (m .read))
+      (rated-so.rate-told given rate table d os room (rate-done given rate table d os room (m .number)) es)
 
   -- ---- a rate answered 0, calls that move no IF, a tune answered 0 without a repair
 

@@ -1,8 +1,12 @@
 -- A sample rate answered done leaves the demodulator's IF, ratio and DDC byte sure, whatever was before it: its ten writes come after the reset. Assumes nothing.
-use Prim.Native.Nat.{ℕ, _/_, _%_, _^_}
+use Prim.Native.Nat.{ℕ, _*_, _/_, _%_, _^_}
 use mathlib.Core.Path.{_≡_, refl, sym, ap, _∙_}
-use mathlib.Core.Bool.{Bool, true, false, false≢true, true≢false}
+use mathlib.Core.Bool.{Bool, true, false, cond, false≢true, true≢false}
 use mathlib.Core.List.{List, [], _∷_, _++_, map, append-assoc, append-nil}
+use native.Mathlib.Omega.{arith}
+use native.Mathlib.Nat.{div-zero}
+use borrow.Author.Tests.{eqb-true}
+use lib.Dec.{eqb}
 use Rattle.transcript.specs.declared.Entry.{Entry}
 use Rattle.attempts.specs.Namings.{Last, lastFrom, lastIn}
 use Rattle.attempts.specs.Namings.Last.{Never, Tried}
@@ -18,8 +22,10 @@ use Rattle.device.specs.Accesses.{accessEntry, accessStep, demodWrite}
 use Rattle.demod.specs.Programs.{ddcByte, ddcSteps, ifRows, ifSteps, rateRows, rateSteps, resetSteps}
 use Rattle.driver.specs.Programs.{demodSetup, filterSteps, sampleRateSteps}
 use Rattle.history.proofs.Runs.{stopped-run}
-use Rattle.registers.specs.Rates.{ifValueOf}
+use Rattle.registers.specs.Rates.{ifValueOf, ratioOf, sentOf, trueOf}
 use Rattle.evidence.specs.Demodulator.{covers, demodNames, demodSettles, demodulator, lastAt, place, shakes}
+use Rattle.evidence.specs.Evidence.{demodByte, lasts, rateIn, rateMark, ratePlaces, ratioIn}
+use Rattle.evidence.proofs.Marks.{sure-exactly}
 
 -- ---- a program of plain steps that went through
 
@@ -105,3 +111,40 @@ module _ (os : List ℕ) (hz rate xtal : ℕ) (inverted : Bool) (c : Chip) (goin
     pub ddc-told : lastAt all 0x15 ≡ Tried (ddcByte inverted % 2 ^ 8) true
     unfolding lastFrom demodNames demodSettles covers shakes
     ddc-told = settled 0x15 (ddcByte inverted % 2 ^ 8) (λ l. refl)
+
+    -- the ratio as it is sent, in four bytes
+    abbrev sent : ℕ
+    sent = sentOf (ratioOf rate xtal)
+
+    ratio-first : lastAt all 0x9f ≡ Tried (sent / 2 ^ 16 / 2 ^ 8) true
+    unfolding lastFrom demodNames demodSettles covers shakes
+    ratio-first = settled 0x9f (sent / 2 ^ 16 / 2 ^ 8) (λ l. refl)
+
+    ratio-second : lastAt all 0xa0 ≡ Tried (sent / 2 ^ 16 % 2 ^ 8) true
+    unfolding lastFrom demodNames demodSettles covers shakes
+    ratio-second = settled 0xa0 (sent / 2 ^ 16 % 2 ^ 8) (λ l. refl)
+
+    ratio-third : lastAt all 0xa1 ≡ Tried (sent % 2 ^ 16 / 2 ^ 8) true
+    unfolding lastFrom demodNames demodSettles covers shakes
+    ratio-third = settled 0xa1 (sent % 2 ^ 16 / 2 ^ 8) (λ l. refl)
+
+    ratio-fourth : lastAt all 0xa2 ≡ Tried (sent % 2 ^ 16 % 2 ^ 8) true
+    unfolding lastFrom demodNames demodSettles covers shakes
+    ratio-fourth = settled 0xa2 (sent % 2 ^ 16 % 2 ^ 8) (λ l. refl)
+
+    pub rate-sure : rateMark all ≡ 2
+    rate-sure =
+        sure-exactly (lasts (lastAt all) ratePlaces) .1
+        ((sent / 2 ^ 16 / 2 ^ 8, ratio-first), ((sent / 2 ^ 16 % 2 ^ 8, ratio-second), ((sent % 2 ^ 16 / 2 ^ 8, ratio-third), ((sent % 2 ^ 16 % 2 ^ 8, ratio-fourth), tt))))
+
+    pub ratio-told : ratioIn (demodByte all) ≡ sent
+    ratio-told = rw (ratio-first, ratio-second, ratio-third, ratio-fourth) (omega arith)
+
+    -- the rate that is told is the true one of #104
+    pub rate-told : rateIn xtal (demodByte all) ≡ trueOf rate xtal
+    unfolding rateIn trueOf
+    rate-told = ap (λ (r : ℕ). cond (eqb r 0) 0 (xtal * 2 ^ 22 / r)) ratio-told ∙ go (eqb sent 0) refl
+      where
+        go : (b : Bool) → eqb sent 0 ≡ b → cond (eqb sent 0) 0 (xtal * 2 ^ 22 / sent) ≡ xtal * 2 ^ 22 / sent
+        go true e = rw (e, eqb-true sent 0 e) (sym (div-zero (xtal * 2 ^ 22)))
+        go false e = rw e

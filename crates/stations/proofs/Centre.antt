@@ -82,10 +82,10 @@ module _ (t : Tuner) (rate : ℕ) (table : List ℕ) (d : Driver) (os room : Lis
   abbrev offset : ℕ
   offset = ifFor (t .ifreq) rate
 
-  abbrev steps : List Step
+  abbrev pub steps : List Step
   steps = sampleRateSteps offset rate (xtalOf d) (planBy table (d .frequency) .plan .inverted)
 
-  rate-went : isDone (result rated t .answer) ≡ true → (eqb (asked rated t .number) 0 ≡ true) × (trace os steps (t .chip) .progress ≡ Going)
+  pub rate-went : isDone (result rated t .answer) ≡ true → (eqb (asked rated t .number) 0 ≡ true) × (trace os steps (t .chip) .progress ≡ Going)
   unfolding rateResult leftBy
   rate-went h =
       let w = went (asked rated t .number) (Done 0) os steps (t .chip) _ _ room h .1 in

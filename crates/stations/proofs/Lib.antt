@@ -9,5 +9,6 @@ pub mod Again
 pub mod Centre
 pub mod Waits
 pub mod Locks
+pub mod Rated
 pub mod CutShort
 pub mod Filed
