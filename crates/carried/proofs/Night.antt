@@ -22,8 +22,8 @@ use Rattle.sequences.proofs.Demand as sequence
 use Rattle.sequences.proofs.Ties.{entries-most}
 use Rattle.carried.specs.Carried.{Carried}
 use Rattle.carried.specs.Carried.Carried.{fresh as first, next as more, between as aside}
-use Rattle.carried.specs.Exported.{Lent, asideEntriesOf, entriesOf, leaves, readBy, typed}
-use Rattle.carried.specs.Night.{Night, appended, asideAppended}
+use Rattle.carried.specs.Exported.{asideEntriesOf, leaves, readBy}
+use Rattle.carried.specs.Night.{Night, appended}
 use Rattle.carried.specs.Night.Night.{fresh, next, between}
 use Rattle.carried.proofs.Demand.{aside-entries, section-read}
 

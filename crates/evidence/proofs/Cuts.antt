@@ -2,7 +2,7 @@
 -- call that was cut says so itself, whatever was before. Assumes nothing.
 use Prim.Native.Nat.{ℕ}
 use mathlib.Core.Path.{_≡_, refl, sym, ap, subst, _∙_}
-use mathlib.Core.Bool.{Bool, true, false, cond, not, _&&_, _||_, and-false, or-true, false≢true}
+use mathlib.Core.Bool.{Bool, true, false, not, _&&_, _||_, and-false, or-true, false≢true}
 use mathlib.Core.List.{List, [], _∷_, _++_, append-assoc}
 use borrow.Author.Tests.{eqb-true, not-true}
 use lib.Dec.{eqb}
@@ -18,10 +18,10 @@ use Rattle.chip.proofs.Laws.{and-left, and-right}
 use Rattle.history.specs.Histories.{Closing, Cut}
 use Rattle.history.specs.Histories.Closing.{closed, nothing}
 use Rattle.evidence.specs.Cuts.{Marked, among}
-use Rattle.evidence.specs.Demodulator.{Place, covers, demodNames, demodSettles, demodulator, lastAt, place, shakes}
-use Rattle.evidence.specs.Evidence.{bothMark, centreMark, chipByte, ddcMark, demodByte, ifMark, ifPlaces, ifUnits, lasts, loMark, loUnits, lockFrom, lockMark, markAll, markOf, oscillator, planned, rateMark, ratePlaces, same, touches}
+use Rattle.evidence.specs.Demodulator.{covers, demodNames, demodSettles, demodulator, lastAt, place, shakes}
+use Rattle.evidence.specs.Evidence.{ifPlaces, lasts, loMark, lockFrom, lockMark, markAll, markOf, oscillator, ratePlaces, same, touches}
 use Rattle.evidence.proofs.Marks.{one-mark}
-use Rattle.evidence.proofs.Heard.{Heard, heard, heard-append, heardFrom}
+use Rattle.evidence.proofs.Heard.{Heard, heard, heard-append}
 
 -- what holds of each holds of one among them
 abbrev Every : (ℕ → Type 0) → List ℕ → Type 0

@@ -7,7 +7,7 @@ use mathlib.Core.List.{List, [], _∷_, _++_}
 use Rattle.transcript.specs.declared.Entry.{Entry}
 use Rattle.attempts.specs.Attempts.{names}
 use Rattle.chip.specs.Entries.{lockBit}
-use Rattle.evidence.specs.Evidence.{lockFrom, lockMark, oscillator, planned, touches, triesFrom, triesOf, tryOf}
+use Rattle.evidence.specs.Evidence.{lockFrom, oscillator, planned, touches, triesFrom, tryOf}
 
 -- both numbers
 pub record Heard : Type 0 where

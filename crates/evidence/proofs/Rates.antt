@@ -1,7 +1,7 @@
 -- A sample rate answered done leaves the demodulator's IF, ratio and DDC byte sure, whatever was before it: its ten writes come after the reset. Assumes nothing.
 use Prim.Native.Nat.{ℕ, _*_, _/_, _%_, _^_}
 use mathlib.Core.Path.{_≡_, refl, sym, ap, _∙_}
-use mathlib.Core.Bool.{Bool, true, false, cond, false≢true, true≢false}
+use mathlib.Core.Bool.{Bool, true, false, cond}
 use mathlib.Core.List.{List, [], _∷_, _++_, map, append-assoc, append-nil}
 use native.Mathlib.Omega.{arith}
 use native.Mathlib.Nat.{div-zero}
@@ -12,16 +12,15 @@ use Rattle.attempts.specs.Namings.{Last, lastFrom, lastIn}
 use Rattle.attempts.specs.Namings.Last.{Never, Tried}
 use Rattle.attempts.proofs.Lasts.{last-append}
 use Rattle.chip.specs.declared.Chip.{Chip}
-use Rattle.chip.specs.declared.Progress.{Progress}
-use Rattle.chip.specs.declared.Progress.the-variants.{Going, Refused11}
+use Rattle.chip.specs.declared.Progress.the-variants.{Going}
 use Rattle.chip.specs.Entries.{withOutcome}
-use Rattle.chip.specs.Steps.{Step, Trace, goes, inList, line, okFor, progressOf, run, step, taken, trace}
+use Rattle.chip.specs.Steps.{Step, Trace, goes, inList, line, okFor, run, step, taken, trace}
 use Rattle.chip.specs.Steps.Step.{Plain}
 use Rattle.chip.proofs.Laws.{active, run-app}
 use Rattle.device.specs.Accesses.{accessEntry, accessStep, demodWrite}
 use Rattle.demod.specs.Programs.{ddcByte, ddcSteps, ifRows, ifSteps, rateRows, rateSteps, resetSteps}
 use Rattle.driver.specs.Programs.{demodSetup, filterSteps, sampleRateSteps}
-use Rattle.history.proofs.Runs.{stopped-run}
+use Rattle.history.proofs.Runs.{done-by, going-before}
 use Rattle.registers.specs.Rates.{ifValueOf, ratioOf, sentOf, trueOf}
 use Rattle.evidence.specs.Demodulator.{covers, demodNames, demodSettles, demodulator, lastAt, place, shakes}
 use Rattle.evidence.specs.Evidence.{demodByte, lasts, rateIn, rateMark, ratePlaces, ratioIn}
@@ -33,29 +32,16 @@ abbrev pub ended : Entry → Entry
 ended e = withOutcome e true
 
 module _ (os : List ℕ) where
-  going-before : (ss : List Step) (t : Trace) → run inList os ss t .progress ≡ Going → t .progress ≡ Going
-  going-before ss t h = go (t .progress) refl
-    where
-      go : (w : Progress) → t .progress ≡ w → t .progress ≡ Going
-      go Going e = e
-      go (Refused11 k) e =
-          let stopped : goes (t .progress) ≡ false = ap goes e in
-          absurd (true≢false (sym (ap goes (sym (stopped-run os ss t stopped .progress) ∙ h)) ∙ stopped))
-
-  by-ok : (b : Bool) (k : ℕ) → progressOf b k ≡ Going → b ≡ true
-  by-ok true k e = refl
-  by-ok false k e = absurd (false≢true (ap goes e))
-
   pub plain-went : (es : List Entry) (t : Trace) → run inList os (map Plain es) t .progress ≡ Going → run inList os (map Plain es) t .log ≡ t .log ++ map ended es
   unfolding run
   plain-went [] t g = sym (append-nil (t .log))
   plain-went (e ∷ es) t g =
       let s : Step = Plain e in
       let next : Trace = step inList os s t in
-      let still : next .progress ≡ Going = going-before (map Plain es) next g in
-      let start : t .progress ≡ Going = going-before (s ∷ map Plain es) t g in
+      let still : next .progress ≡ Going = going-before os (map Plain es) next g in
+      let start : t .progress ≡ Going = going-before os (s ∷ map Plain es) t g in
       let did : taken inList os (okFor os (t .count) s) s t ≡ next = active inList os s t (ap goes start) in
-      let ok : okFor os (t .count) s ≡ true = by-ok (okFor os (t .count) s) (t .count) (ap (λ (u : Trace). u .progress) did ∙ still) in
+      let ok : okFor os (t .count) s ≡ true = done-by (okFor os (t .count) s) (t .count) (ap (λ (u : Trace). u .progress) did ∙ still) in
       let one : next .log ≡ t .log ++ (ended e ∷ []) = sym (ap (λ (u : Trace). u .log) did) ∙ ap (λ (b : Bool). t .log ++ (withOutcome e b ∷ [])) ok in
       plain-went es next g ∙ ap (λ (l : List Entry). l ++ map ended es) one ∙ append-assoc (t .log) (ended e ∷ []) (map ended es)
 

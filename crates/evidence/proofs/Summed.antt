@@ -1,6 +1,6 @@
 -- What a long file's older part may be summed up in: what entries tell of a station depends on those before them only through the last attempts at thirteen
 -- places, and lock and tries only through their two numbers, or not at all where a register that a plan sets is named later. Assumes nothing.
-use Prim.Native.Nat.{ℕ, _+_, _*_, _%_}
+use Prim.Native.Nat.{ℕ}
 use mathlib.Core.Path.{_≡_, refl, sym, ap, _∙_}
 use mathlib.Core.Bool.{true}
 use mathlib.Core.List.{List, [], _∷_, _++_}
@@ -11,8 +11,8 @@ use Rattle.attempts.specs.Namings.{Last, Naming, byteIn, lastFrom, lastIn}
 use Rattle.attempts.specs.Namings.Last.{Never}
 use Rattle.attempts.proofs.Lasts.{last-append}
 use Rattle.evidence.specs.Alike.{Agree, Alike, SameLasts, demodPlaces}
-use Rattle.evidence.specs.Demodulator.{Place, demodulator, lastAt, place}
-use Rattle.evidence.specs.Evidence.{bothMark, centreIn, centreMark, centreOf, chipByte, demodByte, ifMark, ifPlaces, ifUnits, ifWord, lasts, lockMark, loMark, loUnits, markAll, markOf, oscillator, rateIn, ratePlaces, triesOf}
+use Rattle.evidence.specs.Demodulator.{demodulator, lastAt, place}
+use Rattle.evidence.specs.Evidence.{centreOf, chipByte, demodByte, ifMark, ifPlaces, ifUnits, lasts, lockMark, loMark, loUnits, markAll, markOf, oscillator, rateIn, ratePlaces, triesOf}
 use Rattle.evidence.proofs.Heard.{Heard, heard, heard-append, heard-plans, heardFrom, plans}
 
 -- the same entries after both

@@ -2,7 +2,7 @@
 -- answer's own number. Assumes nothing.
 use Prim.Native.Nat.{ℕ, suc, _+_, _-_, _*_, _/_, _%_, _^_, _≤_, _<_}
 use mathlib.Core.Path.{_≡_, refl, sym, ap, subst, _∙_}
-use mathlib.Core.Bool.{Bool, true, false}
+use mathlib.Core.Bool.{true, false}
 use mathlib.Core.List.{List, _++_}
 use native.Mathlib.Omega.{arith}
 use native.Mathlib.Nat.{le-of-mul-le-mul-left, lt-mul-div-succ, mul-div-le, mul-le-mul-left, mul-lt-mul-of-pos-left, pow-succ'}
@@ -19,7 +19,7 @@ use Rattle.driver.specs.declared.Driver.{Driver}
 use Rattle.driver.specs.Programs.{ifFor}
 use Rattle.driver.specs.Record.{xtalOf}
 use Rattle.evidence.specs.Demodulator.{Place, demodulator, place}
-use Rattle.evidence.specs.Evidence.{bothMark, centreIn, centreMark, centreOf, chipByte, codeIn, demodByte, ifMark, ifPlaces, ifUnits, ifWord, lasts, loMark, loUnits, oscillator}
+use Rattle.evidence.specs.Evidence.{centreOf, chipByte, codeIn, demodByte, ifMark, ifPlaces, ifUnits, ifWord, lasts, loMark, loUnits, oscillator}
 use Rattle.evidence.proofs.Held.{held}
 use Rattle.evidence.proofs.Marks.{Sure, centre-exactly, known-sure, sure-exactly}
 use Rattle.evidence.proofs.Units.{lo-exactly}

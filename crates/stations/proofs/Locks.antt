@@ -3,7 +3,7 @@
 use Prim.Native.Nat.{ℕ}
 use mathlib.Core.Path.{_≡_, refl, sym, ap, _∙_}
 use mathlib.Core.Bool.{Bool, true, false, _&&_, false≢true}
-use mathlib.Core.List.{List, [], _∷_, _++_}
+use mathlib.Core.List.{List, [], _++_}
 use lib.ListN.{drop, length}
 use Rattle.transcript.specs.declared.Entry.{Entry}
 use Rattle.attempts.specs.Attempts.{names}
@@ -15,9 +15,8 @@ use Rattle.chip.specs.declared.Answer.the-variants.{Done, Refused, Stopped}
 use Rattle.chip.specs.declared.Chip.{Chip}
 use Rattle.chip.specs.declared.LockTries.{LockTries}
 use Rattle.chip.specs.declared.Progress.the-variants.{Going}
-use Rattle.chip.specs.Calls.{Called, callOf, refusalWith}
-use Rattle.chip.specs.Courses.{leftBy}
-use Rattle.chip.specs.Steps.{Step, Trace, line, trace}
+use Rattle.chip.specs.Calls.{Called, refusalWith}
+use Rattle.chip.specs.Steps.{Step, line, trace}
 use Rattle.demod.specs.Programs.{ddcSteps}
 use Rattle.driver.specs.declared.Driver.{Driver}
 use Rattle.driver.specs.Calls.{Both, both}
@@ -29,13 +28,13 @@ use Rattle.r82xx.specs.Calls.{hzRefusal, planFor, refusalOf}
 use Rattle.r82xx.specs.Orders.{lockKept, lockTriesOf, resultOf, tuneOf}
 use Rattle.r82xx.specs.Orders.Order.{Tune}
 use Rattle.r82xx.specs.Record.{sound}
-use Rattle.tuning.specs.Program.{tuneAnswer, tuneSteps}
+use Rattle.tuning.specs.Program.{tuneSteps}
 use Rattle.sequences.specs.Calls.{call, entries, result}
 use Rattle.sequences.specs.Calls.Order.{BoardTune, Tuned}
 use Rattle.sequences.specs.Waited.{waitedFrom}
 use Rattle.sequences.proofs.Most.{byPlan, tune-by-plan}
 use Rattle.sequences.proofs.Tried.{board-told-when-done, told-when-done}
-use Rattle.sequences.proofs.Tunings.{isDone, went}
+use Rattle.sequences.proofs.Tunings.{byHop, hop-by-plan, isDone, went}
 use Rattle.evidence.proofs.Heard.{Heard, heard, heard-append, heard-none, heardFrom}
 use Rattle.stations.specs.Locks.{LockTold}
 use Rattle.stations.proofs.Waits.{at-tune, effects, effects-app, ended, run-heard}
@@ -99,14 +98,6 @@ module _ (t : Tuner) (hz : ℕ) (table rs : List ℕ) (d : Driver) (os room : Li
   abbrev number : ℕ
   number = refusalWith (sound t && soundDriver d) (hopRefusal at (t .ifreq)) 64 38 (length room) (length os) (length rs)
 
-  abbrev byHop : Pll → Called Both
-  byHop plan =
-      callOf number (tuneAnswer plan hz) os (hopSteps (t .kind) (t .chip .address) (at .plan) plan rs) (t .chip) (hopKept t d (at .plan) (tuneAnswer plan hz) hz) (both t d) room
-
-  hop-by-plan : hopResult at hz rs os t d room ≡ byHop (planFor t (at .plan .hz))
-  unfolding hopResult leftBy
-  hop-by-plan = refl
-
   -- the DDC byte after it is the demodulator's
   at-ddc : (inverted : Bool) (h : Heard) → effects (t .chip .address) (ddcSteps inverted) h ≡ h
   unfolding names ddcSteps
@@ -120,12 +111,12 @@ module _ (t : Tuner) (hz : ℕ) (table rs : List ℕ) (d : Driver) (os room : Li
       by : (x : Pll) → planFor t (at .plan .hz) ≡ x
           → LockTold (t .chip .address) (hopLockTries at hz rs os t d room) (es ++ entries (call (BoardTune hz table rs d) os room) t)
       by pll-variants.Refused e =
-          let is = hop-by-plan ∙ ap byHop e in
+          let is = hop-by-plan t hz table rs d os room ∙ ap (byHop t hz table rs d os room) e in
           absurd (false≢true (went number (Refused 2) os (hopSteps (t .kind) (t .chip .address) (at .plan) pll-variants.Refused rs) (t .chip) (hopKept t d (at .plan) (Refused 2) hz) (both t d) room
           (ap (λ (x : Called Both). isDone (x .answer)) (sym is) ∙ h) .0))
       by (pll-variants.Planned p) e =
           let address : ℕ = t .chip .address in
-          let is = hop-by-plan ∙ ap byHop e in
+          let is = hop-by-plan t hz table rs d os room ∙ ap (byHop t hz table rs d os room) e in
           let pre : List Step = pathPart (t .kind) (at .plan .path) rs in
           let ss : List Step = tuneSteps address (t .kind) (at .plan .notch) (pll-variants.Planned p) (at .plan .hz) left in
           let post : List Step = ddcSteps (at .plan .inverted) in

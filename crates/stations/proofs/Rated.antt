@@ -1,17 +1,16 @@
 -- A rate that is answered done is told by its entries, whatever was sent before: sure, and as #104 has it. Assumes nothing.
-use Prim.Native.Nat.{ℕ, _/_, _%_, _^_}
-use mathlib.Core.Path.{_≡_, sym, ap, subst, _∙_}
+use Prim.Native.Nat.{ℕ}
+use mathlib.Core.Path.{_≡_, sym, ap, subst}
 use mathlib.Core.Bool.{Bool, true}
 use mathlib.Core.List.{List, _++_}
 use Rattle.transcript.specs.declared.Entry.{Entry}
-use Rattle.attempts.specs.Namings.{Last, byteIn}
+use Rattle.attempts.specs.Namings.{byteIn}
 use Rattle.bands.specs.Tables.{planBy}
 use Rattle.chip.specs.declared.Progress.the-variants.{Going}
-use Rattle.chip.specs.Steps.{Step, trace}
+use Rattle.chip.specs.Steps.{trace}
 use Rattle.driver.specs.declared.Driver.{Driver}
 use Rattle.driver.specs.Programs.{ifFor}
 use Rattle.driver.specs.Record.{xtalOf}
-use Rattle.registers.specs.Rates.{ifValueOf}
 use Rattle.r82xx.specs.declared.Tuner.{Tuner}
 use Rattle.sequences.specs.Calls.{call, entries, result}
 use Rattle.sequences.specs.Calls.Order.{SampleRate}

@@ -1,7 +1,7 @@
 -- What a tuning's steps do to lock and tries, as entries tell them: the writes of its plan forget what was before, and each try counts. Assumes nothing.
 use Prim.Native.Nat.{ℕ, zero, suc, _+_, _-_, _*_, _≤_}
 use mathlib.Core.Path.{_≡_, refl, sym, ap, _∙_}
-use mathlib.Core.Bool.{Bool, true, false, cond, _&&_, _||_, false≢true}
+use mathlib.Core.Bool.{Bool, true, false, cond, _&&_, _||_}
 use mathlib.Core.List.{List, [], _∷_, _++_}
 use native.Mathlib.Omega.{arith}
 use borrow.Author.Tests.{eq-eqb, ne-eqb}
@@ -13,21 +13,20 @@ use Rattle.attempts.proofs.Named.{one-byte}
 use Rattle.chip.specs.declared.Chip.{Chip}
 use Rattle.chip.specs.declared.LockTries.{LockTries}
 use Rattle.chip.specs.declared.Progress.{Progress}
-use Rattle.chip.specs.declared.Progress.the-variants.{Going, Refused11}
-use Rattle.chip.specs.declared.Update.{Update}
+use Rattle.chip.specs.declared.Progress.the-variants.{Going}
 use Rattle.chip.specs.Chips.{maskedByte, pair}
 use Rattle.chip.specs.Entries.{lockTries, pointer, readEntry, repeater, wait, withOutcome, written}
-use Rattle.chip.specs.Steps.{Step, Trace, acts, emit, goes, inList, okFor, progressFor, progressOf, masked, run, step, taken, updates, whileOpen}
+use Rattle.chip.specs.Steps.{Step, Trace, acts, emit, goes, inList, okFor, progressFor, progressOf, masked, run, step, taken, updates}
 use Rattle.chip.specs.Steps.Step.{Open, Close, Send, Mask, Plain}
 use Rattle.chip.proofs.Laws.{active, step-address}
+use Rattle.history.proofs.Runs.{done-by, going-before}
 use Rattle.pll.specs.declared.Kind.{Kind}
 use Rattle.pll.specs.declared.Plan.{Plan}
 use Rattle.pll.specs.declared.Pll.the-variants as pll-variants
 use Rattle.tuning.specs.Mux.{muxUpdates, pllUpdates, rangeOf}
 use Rattle.tuning.specs.Program.{innerSteps, tuneSteps}
-use Rattle.tuning.specs.Tries.{afterTry, again, fineOf, locked, locksAt, powerOf, repairUpdates, replyBytes, statusSteps, triesFrom, tryRead}
+use Rattle.tuning.specs.Tries.{afterTry, fineOf, locked, locksAt, powerOf, repairUpdates, replyBytes, statusSteps, triesFrom, tryRead}
 use Rattle.sequences.specs.Waited.{waitedFrom}
-use Rattle.sequences.proofs.Stands.{going-before}
 use Rattle.sequences.proofs.Tried.{reply-bit}
 use Rattle.evidence.specs.Evidence.{oscillator, planned, touches}
 use Rattle.evidence.proofs.Heard.{Heard, heard, heard-snoc, heardBy, heardFrom}
@@ -85,10 +84,6 @@ module _ (address : ℕ) where
   closing ok h = refl
 
   module _ (os : List ℕ) where
-    by-ok : (b : Bool) (k : ℕ) → progressOf b k ≡ Going → b ≡ true
-    by-ok true k e = refl
-    by-ok false k e = absurd (false≢true (ap goes e))
-
     -- a step of a call that went through, from a trace that the entries before left at h
     module _ (h : Heard) where
       at : Trace → Heard
@@ -110,7 +105,7 @@ module _ (address : ℕ) where
           let start : u .progress ≡ Going = going-before os (s ∷ []) u g in
           let active-here : acts s (u .progress) (u .opened) ≡ true = by (u .progress) (u .opened) ∙ ap goes start in
           let ok : okFor os (u .count) s ≡ true =
-          by-ok (okFor os (u .count) s) (u .count)
+          done-by (okFor os (u .count) s) (u .count)
           (sym (told (okFor os (u .count) s) (u .progress)) ∙ ap (λ (w : Trace). w .progress) (active inList os s u active-here) ∙ g) in
           done-step s u active-here ok e
 
