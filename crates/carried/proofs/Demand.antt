@@ -423,7 +423,7 @@ module _ (b : List ℕ) (es : List Entry) (c : Carried b es) where
             ∙ sym (ap (λ (l : List Entry). not (every passable l)) (made-entries t es calls ranges inner h (leaves k b) same room))
 
     -- refused 11, it was made, and its answer names the entry of its index
-    stopped : reply .refusal ≡ 11
+    pub stopped : reply .refusal ≡ 11
         → (eqb number 0 ≡ true) × (result inner t .answer ≡ Stopped (reply .index)) × (entriesOf k b ≡ entries inner t)
     stopped e = go pass
       where

@@ -5,6 +5,7 @@ use Prim.Native.Nat.{ℕ, _+_, _≤_, _<_}
 use mathlib.Core.Path.{_≡_, refl, sym, ap, subst, _∙_}
 use mathlib.Core.Bool.{Bool, true, false, cond}
 use mathlib.Core.List.{List, _++_, append-assoc, append-nil}
+use mathlib.Core.Logic.{_⊎_}
 use borrow.Author.Tests.{eqb-false}
 use lib.ListN.{drop, getD}
 use Rattle.transcript.specs.declared.Entry.{Entry}
@@ -19,7 +20,7 @@ use Rattle.driver.specs.Calls.{rateResult}
 use Rattle.driver.specs.Programs.{ifFor}
 use Rattle.driver.specs.Record.{xtalOf}
 use Rattle.drivers.specs.Drivers.{hopOver}
-use Rattle.evidence.specs.Cuts.{Marked}
+use Rattle.evidence.specs.Cuts.{CutRate, Marked, tuners}
 use Rattle.evidence.specs.Evidence.{lockMark, triesOf}
 use Rattle.evidence.proofs.Cuts.{marked}
 use Rattle.history.specs.Histories.{Cut}
@@ -46,6 +47,7 @@ use Rattle.stations.specs.Between.Between.{start as still, later as then, besid
 use Rattle.stations.specs.Centre.{Filed}
 use Rattle.stations.specs.Locks.{LockTold}
 use Rattle.stations.specs.Rated.{RateTold}
+use Rattle.stations.proofs.CutShort as cut-short
 use Rattle.stations.proofs.Filed as stations
 use Rattle.stations.proofs.Locks as locks
 use Rattle.stations.proofs.Rated as rated-so
@@ -56,7 +58,7 @@ use Rattle.carried.specs.Exported.{Left, Lent, amiss, asideEntriesOf, en
 use Rattle.carried.specs.Exported.Exported.{Hop, Own, Rate}
 use Rattle.carried.specs.Night.{Meanwhile, Night}
 use Rattle.carried.specs.Night.Meanwhile.{start, later, beside}
-use Rattle.carried.proofs.Demand.{address, address-byte, aside-entries, away-entries, board-tries-told, calls, cut-uncut, done-zero, entries-read, is, ranges, same-tuner, t, tries-told}
+use Rattle.carried.proofs.Demand.{address, address-byte, aside-entries, away-entries, board-tries-told, calls, cut-uncut, done-zero, entries-read, is, ranges, same-tuner, stopped, t, tries-told}
 use Rattle.carried.proofs.Night.{night-read}
 use Rattle.carried.proofs.Passed.{Passed, next-ranged, passed, turned}
 use Rattle.carried.proofs.Passed.Passed.{away, made}
@@ -197,6 +199,18 @@ module _ (b : List ℕ) (es : List Entry) (c : Carried b es) where
   cut-marked k h e =
       let x = cut-uncut b es c k h e in
       (x, marked (leaves k b .reply .index) (entriesOf k b) (entriesOf (uncut (leaves k b .reply .index) k) b) x (getD b 1 0) es)
+
+  -- a rate that is refused 11 wrote no register of the demodulator, or it says so
+  pub cut-rate : (rate : ℕ) (table driver slot os room out : List ℕ) → leaves (lent (Rate rate table driver slot) os room out) b .reply .refusal ≡ 11
+      → (every tuners (entriesOf (lent (Rate rate table driver slot) os room out) b) ≡ true)
+      ⊎ CutRate (ifFor (tunerOf b .tuner .ifreq) rate) (xtalOf (driverOf driver .driver)) (es ++ entriesOf (lent (Rate rate table driver slot) os room out) b)
+  cut-rate rate table driver slot os room out e =
+      let k : Lent = lent (Rate rate table driver slot) os room out in
+      let d : Driver = driverOf driver .driver in
+      let p = stopped b es c k refl e in
+      subst (λ (x : Tuner). (every tuners (entriesOf k b) ≡ true) ⊎ CutRate (ifFor (x .ifreq) rate) (xtalOf d) (es ++ entriesOf k b)) (same-tuner b es c)
+      (subst (λ (l : List Entry). (every tuners l ≡ true) ⊎ CutRate (ifFor (given .ifreq) rate) (xtalOf d) (es ++ l)) (sym (p .2))
+      (cut-short.cut-rate given rate table d os room (leaves k b .reply .index) (p .1) es))
 
   -- a rate that is answered 0: the true one of #104, with the DDC byte of the table's plan for the driver's frequency
   pub rate-told : (rate : ℕ) (table driver slot os room out : List ℕ) → leaves (lent (Rate rate table driver slot) os room out) b .reply .refusal ≡ 0

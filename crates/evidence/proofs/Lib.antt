@@ -4,6 +4,7 @@ pub mod Units
 pub mod Heard
 pub mod Summed
 pub mod Cuts
+pub mod CutRates
 pub mod Rates
 pub mod Quiet
 pub mod Worked

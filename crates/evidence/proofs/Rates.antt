@@ -52,7 +52,7 @@ setup hz rate xtal inverted =
     (demodWrite 1 0x01 0x14 ∷ demodWrite 1 0x01 0x10 ∷ [])
     ++ ((map accessEntry (rateRows rate xtal) ++ map accessEntry (ifRows hz xtal)) ++ (demodWrite 1 0x15 (ddcByte inverted) ∷ []))
 
-setup-steps : (hz rate xtal : ℕ) (inverted : Bool) → demodSetup hz rate xtal ++ ddcSteps inverted ≡ map Plain (setup hz rate xtal inverted)
+pub setup-steps : (hz rate xtal : ℕ) (inverted : Bool) → demodSetup hz rate xtal ++ ddcSteps inverted ≡ map Plain (setup hz rate xtal inverted)
 unfolding resetSteps rateSteps ifSteps ddcSteps accessStep
 setup-steps hz rate xtal inverted = refl
 
