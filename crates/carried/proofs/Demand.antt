@@ -246,7 +246,7 @@ module _ (t : Tuner) (r : Ranged t) where
       ∙ List·getD-map flagByte (t .chip .doubtful) i true
 
 -- a reload that is not refused is done, with the value 0
-done-zero : {R : Type 0} (number : ℕ) (os : List ℕ) (ss : List Step) (c : Chip) (keep : Trace → R) (old : R) (room : List ℕ)
+pub done-zero : {R : Type 0} (number : ℕ) (os : List ℕ) (ss : List Step) (c : Chip) (keep : Trace → R) (old : R) (room : List ℕ)
     → numberOf (callOf number (Done 0) os ss c keep old room .answer) ≡ 0 → callOf number (Done 0) os ss c keep old room .answer ≡ Done 0
 unfolding callOf
 done-zero {R} number os ss c keep old room = go (eqb number 0) refl
@@ -423,7 +423,7 @@ module _ (b : List ℕ) (es : List Entry) (c : Carried b es) where
             ∙ sym (ap (λ (l : List Entry). not (every passable l)) (made-entries t es calls ranges inner h (leaves k b) same room))
 
     -- refused 11, it was made, and its answer names the entry of its index
-    stopped : reply .refusal ≡ 11
+    pub stopped : reply .refusal ≡ 11
         → (eqb number 0 ≡ true) × (result inner t .answer ≡ Stopped (reply .index)) × (entriesOf k b ≡ entries inner t)
     stopped e = go pass
       where

@@ -13,3 +13,5 @@ pub mod Crashed
 pub mod FedCrashed
 pub mod Died
 pub mod EndedDriver
+pub mod Night
+pub mod Evidence

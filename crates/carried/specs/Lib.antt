@@ -4,3 +4,4 @@ pub mod Carried
 pub mod Driven
 pub mod Holding
 pub mod Crashed
+pub mod Night

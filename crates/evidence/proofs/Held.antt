@@ -1,21 +1,17 @@
 -- What is sure is held: by any chip and by any demodulator that the entries were played on. The premises stand at the heads of
 -- crates/attempts/specs/Namings.antt and specs/Demodulator.antt. Assumes nothing.
 use Prim.Native.Nat.{ℕ}
-use mathlib.Core.Path.{_≡_}
+use mathlib.Core.Path.{_≡_, _∙_}
 use mathlib.Core.List.{List, [], _∷_}
 use Rattle.transcript.specs.declared.Entry.{Entry}
 use Rattle.attempts.specs.Attempts as chip
 use Rattle.attempts.specs.Attempts.{Regs, tunerAt}
 use Rattle.attempts.specs.Namings.{Naming, Played, byteIn, lastIn}
 use Rattle.attempts.proofs.Doubt.{sure-byte}
+use Rattle.evidence.specs.Alike.{Agree}
 use Rattle.evidence.specs.Demodulator.{Place, demodulator, lastAt, place}
-use Rattle.evidence.specs.Evidence.{chipByte, demodByte, ifMark, ifPlaces, ifUnits, lasts, loMark, loUnits, markAll, oscillator, rateIn, rateMark, ratePlaces}
-use Rattle.evidence.proofs.Marks.{Each, Sure, sure-exactly, sure-known}
-
--- two readings of some registers are the same
-abbrev pub Agree : (ℕ → ℕ) → (ℕ → ℕ) → List ℕ → Type 0
-Agree g h [] = Unit {0}
-Agree g h (r ∷ rs) = (g r ≡ h r) × Agree g h rs
+use Rattle.evidence.specs.Evidence.{chipByte, ddcMark, demodByte, ifMark, ifPlaces, ifUnits, lasts, loMark, loUnits, markAll, oscillator, rateIn, rateMark, ratePlaces}
+use Rattle.evidence.proofs.Marks.{Each, Sure, one-mark, sure-exactly, sure-known}
 
 module _ {P : Type 0} (any : Naming P) (at : ℕ → P) (es : List Entry) (before now : P → ℕ) (played : Played any es before now) where
   agree : (rs : List ℕ) → Each Sure (lasts (λ r. lastIn any es (at r)) rs) → Agree (λ r. now (at r)) (λ r. byteIn 0 (lastIn any es (at r))) rs
@@ -50,5 +46,5 @@ module _ (es : List Entry) (before now : Place → ℕ) (played : Played demodul
       let p = held demodulator (place 1) es before now played ratePlaces h in
       rw (p .0, p .1 .0, p .1 .1 .0, p .1 .1 .1 .0)
 
-  pub ddc-held : markAll (lasts (lastAt es) (0x15 ∷ [])) ≡ 2 → page 0x15 ≡ demodByte es 0x15
-  ddc-held h = held demodulator (place 1) es before now played (0x15 ∷ []) h .0
+  pub ddc-held : ddcMark es ≡ 2 → page 0x15 ≡ demodByte es 0x15
+  ddc-held h = held demodulator (place 1) es before now played (0x15 ∷ []) (one-mark (lastAt es 0x15) ∙ h) .0

@@ -1,5 +1,10 @@
 pub mod Marks
 pub mod Held
+pub mod Units
+pub mod Heard
+pub mod Summed
+pub mod Cuts
+pub mod CutRates
 pub mod Rates
 pub mod Quiet
 pub mod Worked

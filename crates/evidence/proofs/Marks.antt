@@ -1,15 +1,17 @@
 -- Each mark exactly: sure where each register's last attempt was done, never where none was attempted, else doubtful. Assumes nothing.
-use Prim.Native.Nat.{ℕ}
+use Prim.Native.Nat.{ℕ, _≤_}
 use mathlib.Core.Path.{_≡_, refl, ap}
-use mathlib.Core.Bool.{Bool, true, false, cond, false≢true}
+use mathlib.Core.Bool.{Bool, true, false, cond, _&&_, false≢true, true≢false}
 use mathlib.Core.List.{List, [], _∷_}
 use mathlib.Core.Logic.{_↔_}
 use native.Mathlib.Omega.{arith}
-use lib.Dec.{eqb}
+use borrow.Author.Tests.{eqb-true, le-ltb, ltb-false}
+use lib.Dec.{eqb, ltb}
+use Rattle.transcript.specs.declared.Entry.{Entry}
 use Rattle.attempts.specs.Namings.{Last, doubtIn}
 use Rattle.attempts.specs.Namings.Last.{Never, Tried}
 use Rattle.chip.proofs.Laws.{and-left, and-right}
-use Rattle.evidence.specs.Evidence.{markAll, markOf, same}
+use Rattle.evidence.specs.Evidence.{bothMark, centreMark, chipByte, demodByte, ifMark, ifUnits, loMark, loUnits, markAll, markOf, same}
 
 -- all of them
 abbrev pub Each : (Last → Type 0) → List Last → Type 0
@@ -75,3 +77,56 @@ never-exactly l ls = (λ h. nevers (l ∷ ls) (by-second (same 2 (l ∷ ls)) (sa
 -- a sure one is without doubt
 pub sure-known : (l : Last) → Sure l → doubtIn l ≡ false
 sure-known l p = ap doubtIn (p .1)
+
+-- and one without doubt was tried, and is sure
+pub known-sure : (l : Last) → doubtIn l ≡ false → Sure l
+known-sure Never h = absurd (true≢false h)
+known-sure (Tried byte true) h = (byte, refl)
+known-sure (Tried byte false) h = absurd (true≢false h)
+
+-- of one register it is its own
+pub one-mark : (l : Last) → markAll (l ∷ []) ≡ markOf l
+unfolding markAll
+one-mark Never = refl
+one-mark (Tried byte true) = refl
+one-mark (Tried byte false) = refl
+
+-- ---- the centre's
+
+both-two : (a b : ℕ) → bothMark a b ≡ 2 → (a ≡ 2) × (b ≡ 2)
+both-two a b h = go (eqb a 2) refl (eqb b 2) refl
+  where
+    go : (x : Bool) → eqb a 2 ≡ x → (y : Bool) → eqb b 2 ≡ y → (a ≡ 2) × (b ≡ 2)
+    go true p true q = (eqb-true a 2 p, eqb-true b 2 q)
+    go true p false q = absurd (false≢true (by-tests false (eqb a 0 && eqb b 0) (rw (p, q) at h)))
+    go false p y q = absurd (false≢true (by-tests false (eqb a 0 && eqb b 0) (rw p at h)))
+
+-- "mark 1 where the IF is larger": sure exactly where both are and it is not
+pub centre-exactly : (address r xtal : ℕ) (es : List Entry)
+    → (centreMark address r xtal es ≡ 2) ↔ ((loMark address es ≡ 2) × (ifMark es ≡ 2) × (ifUnits xtal (demodByte es) ≤ loUnits r (chipByte address es)))
+centre-exactly address r xtal es = (to, λ p. rw (p .0, p .1, le-ltb lo off (p .2)))
+  where
+    lo : ℕ
+    lo = loUnits r (chipByte address es)
+
+    off : ℕ
+    off = ifUnits xtal (demodByte es)
+
+    both : ℕ
+    both = bothMark (loMark address es) (ifMark es)
+
+    by : (b : Bool) → ltb lo off ≡ b → both ≡ 2 → cond (eqb both 2 && ltb lo off) 1 both ≡ 2 → off ≤ lo
+    by true e two h =
+        let z : _≡_ {A = ℕ} 1 2 = rw (two, e) at h in
+        absurd (omega arith)
+    by false e two h = ltb-false lo off e
+
+    sure-both : (b : Bool) → eqb both 2 ≡ b → cond (eqb both 2 && ltb lo off) 1 both ≡ 2 → both ≡ 2
+    sure-both true e h = eqb-true both 2 e
+    sure-both false e h = rw e at h
+
+    to : cond (eqb both 2 && ltb lo off) 1 both ≡ 2 → (loMark address es ≡ 2) × (ifMark es ≡ 2) × (off ≤ lo)
+    to h =
+        let two : both ≡ 2 = sure-both (eqb both 2) refl h in
+        let p = both-two (loMark address es) (ifMark es) two in
+        (p .0, p .1, by (ltb lo off) refl two h)

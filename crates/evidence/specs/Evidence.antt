@@ -4,7 +4,7 @@
 use Prim.Native.Nat.{ℕ, _+_, _-_, _*_, _/_, _%_, _^_}
 use mathlib.Core.Bool.{Bool, true, false, cond, _&&_, _||_}
 use mathlib.Core.List.{List, [], _∷_}
-use lib.Dec.{eqb}
+use lib.Dec.{eqb, ltb}
 use Rattle.transcript.specs.declared.Entry.{Entry}
 use Rattle.attempts.specs.Attempts.{lastIn, names}
 use Rattle.attempts.specs.Namings.{Last, byteIn}
@@ -87,9 +87,21 @@ ifMark es = markAll (lasts (lastAt es) ifPlaces)
 abbrev pub rateMark : List Entry → ℕ
 rateMark es = markAll (lasts (lastAt es) ratePlaces)
 
+abbrev pub ddcMark : List Entry → ℕ
+ddcMark es = markOf (lastAt es 0x15)
+
 -- "sure where both are"
 abbrev pub bothMark : ℕ → ℕ → ℕ
 bothMark a b = cond (eqb a 2 && eqb b 2) 2 (cond (eqb a 0 && eqb b 0) 0 1)
+
+-- "oscillator less IF; mark 1 where the IF is larger": r is the tuner's reference, xtal the driver's
+abbrev pub centreMark : ℕ → ℕ → ℕ → List Entry → ℕ
+centreMark address r xtal es =
+    let both = bothMark (loMark address es) (ifMark es) in
+    cond (eqb both 2 && ltb (loUnits r (chipByte address es)) (ifUnits xtal (demodByte es))) 1 both
+
+abbrev pub centreIn : ℕ → ℕ → ℕ → List Entry → ℕ
+centreIn address r xtal es = centreOf (loUnits r (chipByte address es)) (ifUnits xtal (demodByte es))
 
 -- ---- the lock
 

@@ -1,2 +1,4 @@
 pub mod Demodulator
 pub mod Evidence
+pub mod Alike
+pub mod Cuts

@@ -22,7 +22,7 @@ use Rattle.chip.specs.declared.Progress.the-variants.{Going, Refused11}
 use Rattle.chip.specs.Calls.{Called, answerOf, callEntries, callOf, called, tooShort, performed}
 use Rattle.chip.specs.Steps.{Step, Trace, every, trace}
 use Rattle.history.specs.Programs.{fine}
-use Rattle.history.specs.Histories.{Cut, History, stops, progressIn}
+use Rattle.history.specs.Histories.{Cut, History, isDone, stops, progressIn}
 use Rattle.history.specs.Histories.History.{called as more}
 use Rattle.history.proofs.Cuts.{cut-trace}
 use Rattle.history.proofs.Progressed.{told-trace}
@@ -125,3 +125,30 @@ call-history {R} chipOf init es number whole os ss keep old room f l h = go (eqb
     go false e =
         rw (ap (λ (d : Called R). d .next) (call-refused number whole os ss (chipOf old) keep old room e), e, append-nil es)
         h
+
+-- ---- a call that is answered done
+
+-- what is known of one
+pub record Went {R : Type 0} (number : ℕ) (os : List ℕ) (ss : List Step) (c : Chip) (keep : Trace → R) (x : Called R) : Type 0 where
+  pub taken-up : eqb number 0 ≡ true
+  pub going : trace os ss c .progress ≡ Going
+  pub left : x .next ≡ keep (trace os ss c)
+
+pub went : {R : Type 0} (number : ℕ) (whole : Answer) (os : List ℕ) (ss : List Step) (c : Chip) (keep : Trace → R) (old : R) (room : List ℕ)
+    → isDone (callOf number whole os ss c keep old room .answer) ≡ true
+    → (isDone whole ≡ true) × Went number os ss c keep (callOf number whole os ss c keep old room)
+unfolding callOf
+went {R} number whole os ss c keep old room h = go (eqb number 0) refl
+  where
+    by : (w : Progress) → trace os ss c .progress ≡ w → isDone (answerOf whole w) ≡ true → (isDone whole ≡ true) × (trace os ss c .progress ≡ Going)
+    by Going e q = (q, e)
+    by (Refused11 k) e q = absurd (false≢true q)
+
+    go : (b : Bool) → eqb number 0 ≡ b → (isDone whole ≡ true) × Went number os ss c keep (callOf number whole os ss c keep old room)
+    go true e =
+        let same : callOf number whole os ss c keep old room ≡ performed whole keep room (trace os ss c) = rw e in
+        let p = by (trace os ss c .progress) refl (ap (λ (d : Called R). isDone (d .answer)) (sym same) ∙ h) in
+        (p .0, record { taken-up = e; going = p .1; left = ap (λ (d : Called R). d .next) same })
+    go false e =
+        let same : callOf number whole os ss c keep old room ≡ called old room 0 (Refused number) = rw e in
+        absurd (false≢true (ap (λ (d : Called R). isDone (d .answer)) (sym same) ∙ h))

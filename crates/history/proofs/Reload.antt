@@ -1,7 +1,7 @@
 -- Reload's program, done: the last attempt of each of the 27 registers is the byte sent, and it was done. Assumes nothing.
 use Prim.Native.Nat.{ℕ, _+_, _-_, _≤_, _<_}
 use mathlib.Core.Path.{_≡_, refl, sym, ap, _∙_}
-use mathlib.Core.Bool.{Bool, true, false, cond, _&&_, _||_, true≢false, false≢true}
+use mathlib.Core.Bool.{Bool, true, false, cond, _&&_, _||_, false≢true}
 use mathlib.Core.List.{List, [], _∷_, map}
 use native.Mathlib.Omega.{arith}
 use borrow.Author.Tests.{leb-true, leb-false, ltb-true, ltb-false}
@@ -17,8 +17,7 @@ use Rattle.attempts.proofs.Named.{named, other-kind, below-first, past-last}
 use Rattle.attempts.proofs.Lasts.{last-snoc, last-same}
 use Rattle.chip.specs.declared.Chip.{Chip}
 use Rattle.chip.specs.declared.Chunk.{Chunk}
-use Rattle.chip.specs.declared.Progress.{Progress}
-use Rattle.chip.specs.declared.Progress.the-variants.{Going, Refused11}
+use Rattle.chip.specs.declared.Progress.the-variants.{Going}
 use Rattle.chip.specs.Chips.{attemptedBy}
 use Rattle.chip.specs.Entries.{written}
 use Rattle.chip.specs.Steps.{Step, Trace, acts, whileOpen, chunkBytes, chunkStep, chunkTable, emit, every, goes, inList, line, okFor, run, step, taken, progressOf, trace, tunerWrite, within}
@@ -26,7 +25,7 @@ use Rattle.chip.specs.Steps.Step.{Open, Close, Send}
 use Rattle.chip.proofs.Laws.{active, and-left, and-right, close-progress, idle, run-address, run-app}
 use Rattle.chip.proofs.Chunks.{seven, inside, first-register}
 use Rattle.history.specs.Programs.{reloadSteps}
-use Rattle.history.proofs.Runs.{Rest, stopped-run}
+use Rattle.history.proofs.Runs.{going-before}
 use Rattle.history.proofs.Tracked.{sets-at}
 use Rattle.history.proofs.Fitted.{test-true}
 use Rattle.history.proofs.Fine.{table-part}
@@ -101,16 +100,6 @@ module _ (address : ℕ) (bs : List ℕ) (long : length bs ≡ 27) (k : Chunk) (
 -- ---- runs that went through
 
 module _ (os : List ℕ) where
-  -- a run that goes was going before
-  going-before : (ss : List Step) (t : Trace) → run inList os ss t .progress ≡ Going → t .progress ≡ Going
-  going-before ss t h = go (t .progress) refl
-    where
-      go : (u : Progress) → t .progress ≡ u → t .progress ≡ Going
-      go Going e = e
-      go (Refused11 k) e =
-          let r : Rest os t (run inList os ss t) = stopped-run os ss t (ap goes e) in
-          absurd (true≢false (ap goes (sym h ∙ r .progress ∙ e)))
-
   -- a write after which it still goes was done
   sent-done : (n : ℕ) (bytes : List ℕ) (t : Trace) → t .progress ≡ Going → step inList os (Send n bytes) t .progress ≡ Going
       → taken inList os true (Send n bytes) t ≡ step inList os (Send n bytes) t
@@ -156,8 +145,8 @@ module _ (os : List ℕ) where
     chunks-last (k ∷ ks) w t a g =
         let s : Step = chunkStep bs k in
         let next : Trace = step inList os s t in
-        let still : next .progress ≡ Going = going-before (map (chunkStep bs) ks) next g in
-        let made : taken inList os true s t ≡ next = sent-done (k .size + 1) (chunkBytes bs (k .at) (k .size)) t (going-before (s ∷ map (chunkStep bs) ks) t g) still in
+        let still : next .progress ≡ Going = going-before os (map (chunkStep bs) ks) next g in
+        let made : taken inList os true s t ≡ next = sent-done (k .size + 1) (chunkBytes bs (k .at) (k .size)) t (going-before os (s ∷ map (chunkStep bs) ks) t g) still in
         let same : next .chip .address ≡ address = sym (ap (λ (u : Trace). u .chip .address) made) ∙ a in
         let one : lastIn address (next .log) (5 + i) ≡ cond (inChunk k i) now (lastIn address (t .log) (5 + i)) =
         sym (ap (λ (u : Trace). lastIn address (u .log) (5 + i)) made)

@@ -8,12 +8,18 @@ use native.Mathlib.Omega.{arith}
 use lib.ListN.{length, length-append}
 use Rattle.transcript.specs.declared.Entry.{Entry}
 use Rattle.chip.specs.declared.Progress.{Progress}
+use Rattle.chip.specs.declared.Progress.the-variants.{Going, Refused11}
 use Rattle.chip.specs.Entries.{repeater}
-use Rattle.chip.specs.Steps.{Step, Trace, acts, chipAfter, emit, every, goes, inList, okFor, run, step, taken}
+use Rattle.chip.specs.Steps.{Step, Trace, acts, emit, every, goes, inList, okFor, progressOf, run, step, taken}
 use Rattle.chip.specs.Steps.Step.{Open, Close, Send, Mask, Plain}
 use Rattle.chip.proofs.Laws.{active, and-left, and-right, idle}
 use Rattle.history.specs.Histories.{Closing}
 use Rattle.history.specs.Histories.Closing.{nothing, closed}
+
+-- a step after which it goes was done
+pub done-by : (ok : Bool) (k : ℕ) → progressOf ok k ≡ Going → ok ≡ true
+done-by true k h = refl
+done-by false k h = absurd (true≢false (sym (ap goes h)))
 
 module _ (os : List ℕ) where
   -- one induction for all that a step keeps
@@ -129,3 +135,11 @@ module _ (os : List ℕ) where
       go : (b : Bool) → t .opened ≡ b → Rest t (run inList os ss t)
       go true h = rest-opened ss t g h
       go false h = subst (Rest t) (shut-run ss t g h) (rest-none t)
+
+  -- a run that goes was going before
+  pub going-before : (ss : List Step) (t : Trace) → run inList os ss t .progress ≡ Going → t .progress ≡ Going
+  going-before ss t h = go (t .progress) refl
+    where
+      go : (w : Progress) → t .progress ≡ w → t .progress ≡ Going
+      go Going e = e
+      go (Refused11 k) e = absurd (true≢false (ap goes (sym h ∙ stopped-run ss t (ap goes e) .progress ∙ e)))

@@ -96,3 +96,9 @@ abbrev pub stops : Answer → Bool
 stops (Done value) = false
 stops (Refused number) = false
 stops (Stopped index) = true
+
+-- a call that is answered with a value
+abbrev pub isDone : Answer → Bool
+isDone (Done value) = true
+isDone (Refused number) = false
+isDone (Stopped index) = false

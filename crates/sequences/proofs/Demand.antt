@@ -7,8 +7,8 @@
 -- on it, by those premises and nothing more. Registers are 5 + i for the record's 27 places. That entries reach a chip over USB, and that no
 -- other host writes it, is premise. Assumes nothing.
 use Prim.Native.Nat.{ℕ, _+_, _*_, _≤_, _<_}
-use mathlib.Core.Path.{_≡_, refl, sym, ap, subst, _∙_}
-use mathlib.Core.Bool.{Bool, true, false, _&&_, false≢true}
+use mathlib.Core.Path.{_≡_, refl, sym, ap, subst}
+use mathlib.Core.Bool.{Bool, true, false, _&&_}
 use mathlib.Core.List.{List, [], _++_}
 use mathlib.Core.Logic.{_↔_}
 use native.Mathlib.Omega.{arith}
@@ -19,12 +19,10 @@ use Rattle.transcript.specs.Sections.{AllFit, Parted}
 use Rattle.attempts.specs.Attempts.{Played, Regs, byteIn, doubtIn, lastIn}
 use Rattle.attempts.specs.Namings.Last.{Never, Tried}
 use Rattle.attempts.proofs.Doubt.{InVain}
-use Rattle.chip.specs.declared.Answer.{Answer}
-use Rattle.chip.specs.declared.Answer.the-variants.{Done, Refused, Stopped}
+use Rattle.chip.specs.declared.Answer.the-variants.{Done, Stopped}
 use Rattle.chip.specs.declared.Chip.{Chip}
-use Rattle.chip.specs.declared.Progress.{Progress}
 use Rattle.chip.specs.declared.Progress.the-variants.{Going, Refused11}
-use Rattle.chip.specs.Calls.{Called, answerOf}
+use Rattle.chip.specs.Calls.{Called}
 use Rattle.chip.specs.Chips.{maskOf, maskedByte}
 use Rattle.chip.specs.Steps.{Trace, trace}
 use Rattle.device.specs.Calls.{noChip}
@@ -35,11 +33,11 @@ use Rattle.r82xx.specs.Record.{freshChip, madeOf, withChip}
 use Rattle.r82xx.specs.Calls.{refusalOf}
 use Rattle.r82xx.specs.Orders as tuner
 use Rattle.r82xx.specs.Orders.Order.{Reload}
-use Rattle.history.specs.Histories.{Cut, Fresh, History, Restored, progressIn}
+use Rattle.history.specs.Histories.{Cut, Fresh, History, Restored, isDone, progressIn}
 use Rattle.history.specs.Histories.History.{made}
-use Rattle.history.proofs.Calls.{call-performed, call-refused}
+use Rattle.history.proofs.Calls.{call-performed, went}
 use Rattle.history.proofs.Demand as demand
-use Rattle.chip.specs.Courses.{Asked, leftBy}
+use Rattle.chip.specs.Courses.{leftBy}
 use Rattle.sequences.specs.Calls.{Call, tunerAfter, asked, call, entries, given, result, uncut}
 use Rattle.sequences.specs.Calls.Order.{Tuned}
 use Rattle.sequences.specs.Asides.{Aside, asideAsked, asideEntries, asideGiven, asideResult, asideUncut}
@@ -150,11 +148,6 @@ module _ (t : Tuner) (es : List Entry) (s : Sequence t es) where
 
 -- ---- (d) reload
 
-abbrev isDone : Answer → Bool
-isDone (Done value) = true
-isDone (Refused number) = false
-isDone (Stopped index) = false
-
 module _ (t : Tuner) (es : List Entry) (s : Sequence t es) (os room : List ℕ) where
   abbrev k : Call
   k = call (Tuned Reload) os room
@@ -171,17 +164,9 @@ module _ (t : Tuner) (es : List Entry) (s : Sequence t es) (os room : List ℕ) 
   -- answered done, it was not refused, and no step failed
   performed : result k t .answer ≡ Done 0 → (eqb number 0 ≡ true) × (tr .progress ≡ Going)
   unfolding tuner.resultOf leftBy
-  performed h = go (eqb number 0) refl
-    where
-      by-progress : (w : Progress) → tr .progress ≡ w → answerOf (Done 0) w ≡ Done 0 → tr .progress ≡ Going
-      by-progress Going e q = e
-      by-progress (Refused11 j) e q = absurd (false≢true (ap isDone q))
-
-      go : (b : Bool) → eqb number 0 ≡ b → (eqb number 0 ≡ true) × (tr .progress ≡ Going)
-      go false e =
-          absurd (false≢true (ap isDone (sym (ap (λ (d : Called Tuner). d .answer) (call-refused number (Done 0) os (sendAll (t .chip .shadow)) (t .chip) keep t room e)) ∙ h)))
-      go true e =
-          (e, by-progress (tr .progress) refl (sym (ap (λ (d : Called Tuner). d .answer) (call-performed number (Done 0) os (sendAll (t .chip .shadow)) (t .chip) keep t room e)) ∙ h))
+  performed h =
+      let w = went number (Done 0) os (sendAll (t .chip .shadow)) (t .chip) keep t room (ap isDone h) .1 in
+      (w .taken-up, w .going)
 
   left : eqb number 0 ≡ true → tunerAfter k t .chip ≡ tr .chip
   unfolding tuner.resultOf leftBy

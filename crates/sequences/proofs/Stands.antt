@@ -2,29 +2,27 @@
 -- of them in doubt. Assumes nothing.
 use Prim.Native.Nat.{ℕ, zero, suc, _+_, _-_, _*_, _/_, _%_, _≤_, _<_}
 use mathlib.Core.Path.{_≡_, refl, sym, ap, subst, _∙_}
-use mathlib.Core.Bool.{Bool, true, false, not, cond, _&&_, _||_, false≢true, true≢false}
+use mathlib.Core.Bool.{Bool, true, false, not, cond, _&&_, _||_, false≢true}
 use mathlib.Core.List.{List, [], _∷_, _++_}
 use native.Mathlib.Omega.{arith}
 use native.Mathlib.Nat.{mod-eq-of-lt}
 use borrow.Author.Tests.{eqb-false, eqb-true, not-true}
 use lib.Bits.{bitAnd, bitOr, and-high, and-mask, and-mod, and-shr, and-zero-r, mask-lt, or-mod, or-shifted-r, or-shr, or-zero-l}
-use lib.Dec.{eqb, leb, ltb}
+use lib.Dec.{eqb, ltb}
 use lib.ListN.{getD, length, length-set, set}
 use lib.Seq.{getD-set-other, getD-set-same}
 use Rattle.transcript.specs.declared.Entry.{Entry}
-use Rattle.chip.specs.declared.Answer.{Answer}
-use Rattle.chip.specs.declared.Answer.the-variants.{Done, Refused, Stopped}
 use Rattle.chip.specs.declared.Chip.{Chip}
 use Rattle.chip.specs.declared.Progress.{Progress}
 use Rattle.chip.specs.declared.Progress.the-variants.{Going, Refused11}
 use Rattle.chip.specs.declared.Update.{Update}
 use Rattle.chip.specs.Entries.{pointer, readEntry, wait}
-use Rattle.chip.specs.Chips.{attemptedBy, maskOf, maskedByte, pair}
-use Rattle.chip.specs.Steps.{Step, Trace, acts, chipAfter, every, goes, inList, line, masked, okFor, progressOf, run, step, taken, trace, updates}
+use Rattle.chip.specs.Chips.{attemptedBy, maskOf, maskedByte}
+use Rattle.chip.specs.Steps.{Step, Trace, acts, chipAfter, every, goes, inList, masked, okFor, run, step, taken, updates}
 use Rattle.chip.specs.Steps.Step.{Open, Close, Send, Mask, Plain}
 use Rattle.chip.proofs.Laws.{active, and-left, and-right, run-app}
 use Rattle.history.proofs.Fine.{every-append}
-use Rattle.history.proofs.Runs.{run-keeps, run-always, stopped-run}
+use Rattle.history.proofs.Runs.{done-by, going-before, run-keeps}
 use Rattle.oscillator.specs.Registers.{off}
 use Rattle.pll.specs.declared.Kind.{Kind}
 use Rattle.pll.specs.declared.Plan.{Plan}
@@ -61,16 +59,6 @@ unfolding attemptedBy
 mask-doubt c r v m ok = refl
 
 module _ (os : List ℕ) where
-  -- what was Going at the end was so before
-  pub going-before : (ss : List Step) (t : Trace) → run inList os ss t .progress ≡ Going → t .progress ≡ Going
-  going-before ss t h = go (t .progress) refl
-    where
-      go : (w : Progress) → t .progress ≡ w → t .progress ≡ Going
-      go Going e = e
-      go (Refused11 k) e =
-          let stopped : goes (t .progress) ≡ false = ap goes e in
-          absurd (true≢false (sym (ap goes (sym (stopped-run os ss t stopped .progress) ∙ h)) ∙ stopped))
-
   -- the element x, in both lists
   abbrev pub Holds : ℕ → ℕ → Bool → Trace → Type 0
   Holds x a d t = (getD (t .chip .shadow) x 0 ≡ a) × (getD (t .chip .doubtful) x true ≡ d)
@@ -124,7 +112,7 @@ module _ (os : List ℕ) where
       let s : Step = Mask (5 + x) v m in
       let ok : Bool = okFor os (t .count) s in
       let did : taken inList os ok s t ≡ step inList os s t = active inList os s t (ap goes before) in
-      let went : ok ≡ true = by-ok ok (ap (λ (u : Trace). u .progress) did ∙ g) in
+      let went : ok ≡ true = done-by ok (t .count) (ap (λ (u : Trace). u .progress) did ∙ g) in
       subst (Holds x (maskOf (getD (t .chip .shadow) x 0) v m) false) did (
         ap (λ (l : List ℕ). getD l x 0) (mask-shadow (t .chip) (5 + x) v m ok)
             ∙ ap (λ (j : ℕ). getD (set (t .chip .shadow) j (maskOf (getD (t .chip .shadow) j 0) v m)) x 0) at
@@ -134,10 +122,6 @@ module _ (os : List ℕ) where
             ∙ getD-set-same (t .chip .doubtful) x (not ok) true (omega (arith, long .1))
             ∙ ap not went,
       )
-    where
-      by-ok : (b : Bool) → progressOf b (t .count) ≡ Going → b ≡ true
-      by-ok true e = refl
-      by-ok false e = absurd (false≢true (ap goes e))
 
   -- the last write of register 5 + x in a program that went through
   pub last-write : (before : List Step) (x v m : ℕ) (after : List Step) (t : Trace) → x < 27 → Long t → every plainly before ≡ true
@@ -151,8 +135,8 @@ module _ (os : List ℕ) where
       let w : Trace = step inList os s u in
       let app : run inList os (before ++ (s ∷ after)) t ≡ run inList os after w = run-app inList os before (s ∷ after) t in
       let end : run inList os after w .progress ≡ Going = ap (λ (z : Trace). z .progress) (sym app) ∙ g in
-      let mid : w .progress ≡ Going = going-before after w end in
-      let start : u .progress ≡ Going = going-before (s ∷ []) u mid in
+      let mid : w .progress ≡ Going = going-before os after w end in
+      let start : u .progress ≡ Going = going-before os (s ∷ []) u mid in
       let here : Holds x (maskOf (getD (u .chip .shadow) x 0) v m) false w = mask-done x v m u h (long-run before t p long) mid start in
       (getD (u .chip .shadow) x 0, subst (Holds x (maskOf (getD (u .chip .shadow) x 0) v m) false) (sym app) (spared x (maskOf (getD (u .chip .shadow) x 0) v m) false after w q here))
 
@@ -177,10 +161,6 @@ module _ (os : List ℕ) where
         by-going : (w : Progress) → goes w ≡ true → w ≡ Going
         by-going Going e = refl
         by-going (Refused11 k) e = absurd (false≢true e)
-
-        by-ok : (b : Bool) (k : ℕ) → progressOf b k ≡ Going → b ≡ true
-        by-ok true k e = refl
-        by-ok false k e = absurd (false≢true (ap goes e))
 
         keeps : (s : Step) (u : Trace) → clears s ≡ true → acts s (u .progress) (u .opened) ≡ true → Steady u
             → Steady (taken inList os (okFor os (u .count) s) s u)
@@ -221,7 +201,7 @@ module _ (os : List ℕ) where
                   ap (λ (l : List Bool). getD l 13 true) (mask-doubt (u .chip) r v m ok)
                       ∙ ap (λ (j : ℕ). getD (set (u .chip .doubtful) j (not ok)) 13 true) (sym at)
                       ∙ getD-set-same (u .chip .doubtful) 13 (not ok) true (omega (arith, p .0 .1))
-                      ∙ ap not (by-ok ok (u .count) z),
+                      ∙ ap not (done-by ok (u .count) z),
                 )
 
 -- the three high bits of 0x10

@@ -11,13 +11,11 @@ use lib.ListN.{drop, getD, length, replicate, take}
 use lib.Seq.{getD-drop, sets}
 use Rattle.transcript.specs.declared.Entry.{Entry}
 use Rattle.transcript.specs.Entries.{zeros8}
-use Rattle.chip.specs.declared.Answer.{Answer}
 use Rattle.chip.specs.declared.Answer.the-variants.{Done, Refused, Stopped}
 use Rattle.chip.specs.declared.Chip.{Chip}
 use Rattle.chip.specs.declared.LockTries.{LockTries}
 use Rattle.chip.specs.declared.Update.{Update}
-use Rattle.chip.specs.declared.Progress.{Progress}
-use Rattle.chip.specs.declared.Progress.the-variants.{Going, Refused11}
+use Rattle.chip.specs.declared.Progress.the-variants.{Going}
 use Rattle.bands.specs.declared.Planned.{Planned}
 use Rattle.bands.specs.Tables.{planBy}
 use Rattle.board.specs.declared.Plan as board
@@ -31,12 +29,11 @@ use Rattle.device.specs.Gpio.{bitSteps, outputSteps}
 use Rattle.driver.specs.declared.Driver.{Driver}
 use Rattle.driver.specs.Calls.{both}
 use Rattle.driver.specs.Record.{soundDriver}
-use Rattle.chip.specs.Calls.{answerOf, callEntries, callOf, called, tooShort, lockedIn, performed, lockTriesIn, refusalWith, triesIn}
-use Rattle.chip.specs.Chips.{pair}
+use Rattle.chip.specs.Calls.{callEntries, callOf, tooShort, lockedIn, lockTriesIn, refusalWith, triesIn}
 use Rattle.chip.specs.Courses.{leftBy}
 use Rattle.chip.specs.Entries.{flagOf, isTry, lockBit, pointer, readEntry, lockTries, noTries, wait}
 use Rattle.status.specs.Reversal.{lockedBy}
-use Rattle.chip.specs.Steps.{Step, Trace, emit, every, goes, inList, line, okFor, run, step, progressOf, trace, updates}
+use Rattle.chip.specs.Steps.{Step, Trace, emit, every, goes, inList, line, okFor, run, step, trace, updates}
 use Rattle.chip.specs.Steps.Step.{Open, Close, Send, Mask, Plain}
 use Rattle.chip.proofs.Laws.{active, run-app}
 use Rattle.chip.proofs.Taken.{untried}
@@ -59,7 +56,9 @@ use Rattle.r82xx.specs.Calls.{hzRefusal, planFor, refusalOf}
 use Rattle.r82xx.specs.Orders.{lockKept, resultOf, lockTriesOf, tuneOf}
 use Rattle.r82xx.specs.Orders.Order.{Tune}
 use Rattle.r82xx.specs.Record.{freshTuner, sound}
-use Rattle.history.proofs.Runs.{run-keeps, stopped-run}
+use Rattle.history.specs.Histories.{isDone}
+use Rattle.history.proofs.Calls.{went}
+use Rattle.history.proofs.Runs.{done-by, going-before, run-keeps}
 use Rattle.sequences.specs.Calls.{call, entries}
 use Rattle.sequences.specs.Calls.Order.{BoardTune, Tuned}
 use Rattle.sequences.specs.Waited.{waitedFrom}
@@ -205,11 +204,6 @@ reply-bit rs i =
     let place : (5 + 3 * i) + 2 ≡ 7 + 3 * i = omega arith in
     ap lockedBy (third-of (drop (5 + 3 * i) rs) ∙ getD-drop (5 + 3 * i) rs 2 0 ∙ ap (λ (k : ℕ). getD rs k 0) place)
 
--- a step that was done, by how it went on
-done-by : (ok : Bool) (k : ℕ) → progressOf ok k ≡ Going → ok ≡ true
-done-by true k h = refl
-done-by false k h = absurd (false≢true (ap goes h))
-
 pub quiet-updates : (us : List Update) → every quiet (updates us) ≡ true
 unfolding every
 quiet-updates [] = refl
@@ -220,14 +214,6 @@ unfolding every
 quiet-after i = every-app quiet (updates (again i)) (Plain (wait 1) ∷ []) (quiet-updates (again i)) refl
 
 module _ (os : List ℕ) where
-  -- what went on at its end went on before
-  going-back : (ss : List Step) (t : Trace) → run inList os ss t .progress ≡ Going → t .progress ≡ Going
-  going-back ss t h = go (t .progress) refl
-    where
-      go : (w : Progress) → t .progress ≡ w → t .progress ≡ Going
-      go Going e = e
-      go (Refused11 k) e = absurd (false≢true (sym (ap goes (stopped-run os ss t (ap goes e) .progress ∙ e)) ∙ ap goes h))
-
   -- a read of three bytes that was done is a try, and says what its third byte says
   try-done : (address : ℕ) (bytes : List ℕ) (t : Trace) → t .progress ≡ Going → step inList os (Plain (readEntry address 3 bytes)) t .progress ≡ Going
       → lockTriesIn (step inList os (Plain (readEntry address 3 bytes)) t .log) ≡ lockTries (triesIn (t .log) + 1) (lockedIn (t .log) || lockedBy (getD bytes 2 0))
@@ -248,7 +234,7 @@ module _ (os : List ℕ) where
     try-said i n t h e =
         let u : Trace = step inList os (Plain (pointer address)) t in
         let same : lockTriesIn (u .log) ≡ lockTries n false = quiet-run os (Plain (pointer address) ∷ []) t refl ∙ e in
-        let goes-on : u .progress ≡ Going = going-back (Plain (readEntry address 3 (replyBytes rs (5 + 3 * i) 3)) ∷ []) u h in
+        let goes-on : u .progress ≡ Going = going-before os (Plain (readEntry address 3 (replyBytes rs (5 + 3 * i) 3)) ∷ []) u h in
         try-done address (replyBytes rs (5 + 3 * i) 3) u goes-on h
         ∙ (λ j. lockTries (same j .tries + 1) (same j .locked || reply-bit rs i j))
 
@@ -263,14 +249,14 @@ module _ (os : List ℕ) where
         let ended : run inList os (updates locked) after .progress ≡ Going = ap (λ (u : Trace). u .progress) (sym split) ∙ h in
         ap (λ (u : Trace). lockTriesIn (u .log)) split
         ∙ quiet-run os (updates locked) after (quiet-updates locked)
-        ∙ try-said i i t (going-back (updates locked) after ended) e
+        ∙ try-said i i t (going-before os (updates locked) after ended) e
         ∙ ap (lockTries (i + 1)) l
     turn-said i more t false end l e ih h =
         let after : Trace = run inList os (tryRead address rs i) t in
         let mid : Trace = run inList os (afterTry i) after in
         let split = run-app inList os (tryRead address rs i) (afterTry i ++ more) t ∙ run-app inList os (afterTry i) more after in
         let ended : run inList os more mid .progress ≡ Going = ap (λ (u : Trace). u .progress) (sym split) ∙ h in
-        let before : after .progress ≡ Going = going-back (afterTry i) after (going-back more mid ended) in
+        let before : after .progress ≡ Going = going-before os (afterTry i) after (going-before os more mid ended) in
         ap (λ (u : Trace). lockTriesIn (u .log)) split
         ∙ ih mid ended (quiet-run os (afterTry i) after (quiet-after i) ∙ try-said i i t before e ∙ ap (lockTries (i + 1)) l)
 
@@ -300,7 +286,7 @@ tune-said os address kind notch p hz rs start h e =
     run-app inList os (mux ++ (status ++ (fix ++ tries))) (Close ∷ []) opened
     ∙ ap (λ (u : Trace). run inList os (Close ∷ []) u)
     (run-app inList os mux (status ++ (fix ++ tries)) opened ∙ run-app inList os status (fix ++ tries) written ∙ run-app inList os fix tries probed) in
-    let ended : waited .progress ≡ Going = going-back os (Close ∷ []) waited (ap (λ (u : Trace). u .progress) (sym split) ∙ h) in
+    let ended : waited .progress ≡ Going = going-before os (Close ∷ []) waited (ap (λ (u : Trace). u .progress) (sym split) ∙ h) in
     ap (λ (u : Trace). lockTriesIn (u .log)) split
     ∙ quiet-run os (Close ∷ []) waited refl
     ∙ tries-said os address rs 10 0 repaired ended
@@ -315,36 +301,21 @@ planned-said : (os rs : List ℕ) (hz : ℕ) (t : Tuner) (p : Plan) → trace os
 unfolding trace triesIn lockedIn
 planned-said os rs hz t p h = tune-said os (t .chip .address) (t .kind) (t .notch) p hz rs (line (t .chip) [] 0 Going false) h refl
 
-abbrev isDone : Answer → Bool
-isDone (Done value) = true
-isDone (Refused number) = false
-isDone (Stopped index) = false
-
-progress-on : (whole : Answer) (w : Progress) → isDone (answerOf whole w) ≡ true → (w ≡ Going) × (isDone whole ≡ true)
-progress-on whole Going h = (refl, h)
-progress-on whole (Refused11 k) h = absurd (false≢true h)
-
-by-plan : (os rs : List ℕ) (hz : ℕ) (t : Tuner) (plan : Pll) → isDone (answerOf (tuneAnswer plan hz) (trace os (tuneOf t plan hz rs) (t .chip) .progress)) ≡ true
-    → lockTriesIn (trace os (tuneOf t plan hz rs) (t .chip) .log) ≡ waitedFrom rs 10 0
-by-plan os rs hz t pll-variants.Refused h = absurd (false≢true (progress-on (Refused 2) (trace os (tuneOf t pll-variants.Refused hz rs) (t .chip) .progress) h .1))
-by-plan os rs hz t (pll-variants.Planned p) h = planned-said os rs hz t p (progress-on (Done hz) (trace os (tuneOf t (pll-variants.Planned p) hz rs) (t .chip) .progress) h .0)
+-- by the plan: a tuning that is answered done has one
+by-plan : (number : ℕ) (os rs room : List ℕ) (hz : ℕ) (t : Tuner) (plan : Pll)
+    → isDone (callOf number (tuneAnswer plan hz) os (tuneOf t plan hz rs) (t .chip) (lockKept t) t room .answer) ≡ true
+    → lockTriesIn (callEntries number os (tuneOf t plan hz rs) (t .chip)) ≡ waitedFrom rs 10 0
+by-plan number os rs room hz t pll-variants.Refused h =
+    absurd (false≢true (went number (Refused 2) os (tuneOf t pll-variants.Refused hz rs) (t .chip) (lockKept t) t room h .0))
+by-plan number os rs room hz t (pll-variants.Planned p) h =
+    let w = went number (Done hz) os (tuneOf t (pll-variants.Planned p) hz rs) (t .chip) (lockKept t) t room h .1 in
+    rw (w .taken-up) (planned-said os rs hz t p (w .going))
 
 -- a tuning that is done tells the try whose reply has the lock bit, or all ten
 pub told-when-done : (hz value : ℕ) (rs os room : List ℕ) (t : Tuner) → resultOf (Tune hz rs) os t room .answer ≡ Done value
     → lockTriesOf (Tune hz rs) os t room ≡ waitedFrom rs 10 0
-unfolding resultOf leftBy callOf lockTriesOf
-told-when-done hz value rs os room t h = go (eqb number 0) (ap isDone h)
-  where
-    number : ℕ
-    number = refusalOf t (hzRefusal hz (t .ifreq)) 53 35 (length room) (length os) (length rs)
-
-    tr : Trace
-    tr = trace os (tuneOf t (planFor t hz) hz rs) (t .chip)
-
-    go : (b : Bool) → isDone (cond b (performed (tuneAnswer (planFor t hz) hz) (lockKept t) room tr) (called t room 0 (Refused number)) .answer) ≡ true
-        → lockTriesIn (cond b (tr .log) []) ≡ waitedFrom rs 10 0
-    go true e = by-plan os rs hz t (planFor t hz) e
-    go false e = absurd (false≢true e)
+unfolding resultOf leftBy lockTriesOf
+told-when-done hz value rs os room t h = by-plan _ os rs room hz t (planFor t hz) (ap isDone h)
 
 -- a board-level tune's waiting takes the replies that the board's path left
 hop-said : (os rs : List ℕ) (at : board.Plan) (t : Tuner) (p : Plan) → trace os (hopSteps (t .kind) (t .chip .address) at (pll-variants.Planned p) rs) (t .chip) .progress ≡ Going
@@ -359,40 +330,24 @@ hop-said os rs at t p h =
     let u : Trace = run inList os pre (line (t .chip) [] 0 Going false) in
     let v : Trace = run inList os ss u in
     let split = run-app inList os pre (ss ++ post) (line (t .chip) [] 0 Going false) ∙ run-app inList os ss post u in
-    let ended : v .progress ≡ Going = going-back os post v (ap (λ (w : Trace). w .progress) (sym split) ∙ h) in
+    let ended : v .progress ≡ Going = going-before os post v (ap (λ (w : Trace). w .progress) (sym split) ∙ h) in
     ap (λ (w : Trace). lockTriesIn (w .log)) split
     ∙ quiet-run os post v (quiet-ddc (at .inverted))
     ∙ tune-said os (t .chip .address) (t .kind) (at .notch) p (at .hz) left u ended (quiet-run os pre (line (t .chip) [] 0 Going false) (quiet-path (t .kind) (at .path) rs))
 
-hop-by : (os rs : List ℕ) (hz : ℕ) (at : board.Plan) (t : Tuner) (plan : Pll)
-    → isDone (answerOf (tuneAnswer plan hz) (trace os (hopSteps (t .kind) (t .chip .address) at plan rs) (t .chip) .progress)) ≡ true
-    → lockTriesIn (trace os (hopSteps (t .kind) (t .chip .address) at plan rs) (t .chip) .log) ≡ waitedFrom (drop (pathReplies (t .kind) (at .path)) rs) 10 0
-hop-by os rs hz at t pll-variants.Refused h =
-    absurd (false≢true (progress-on (Refused 2) (trace os (hopSteps (t .kind) (t .chip .address) at pll-variants.Refused rs) (t .chip) .progress) h .1))
-hop-by os rs hz at t (pll-variants.Planned p) h =
-    hop-said os rs at t p (progress-on (Done hz) (trace os (hopSteps (t .kind) (t .chip .address) at (pll-variants.Planned p) rs) (t .chip) .progress) h .0)
+hop-by : (number : ℕ) (os rs room : List ℕ) (hz : ℕ) (at : board.Plan) (t : Tuner) (d : Driver) (plan : Pll)
+    → isDone (callOf number (tuneAnswer plan hz) os (hopSteps (t .kind) (t .chip .address) at plan rs) (t .chip) (hopKept t d at (tuneAnswer plan hz) hz) (both t d) room .answer) ≡ true
+    → lockTriesIn (callEntries number os (hopSteps (t .kind) (t .chip .address) at plan rs) (t .chip)) ≡ waitedFrom (drop (pathReplies (t .kind) (at .path)) rs) 10 0
+hop-by number os rs room hz at t d pll-variants.Refused h =
+    absurd (false≢true (went number (Refused 2) os (hopSteps (t .kind) (t .chip .address) at pll-variants.Refused rs) (t .chip) (hopKept t d at (Refused 2) hz) (both t d) room h .0))
+hop-by number os rs room hz at t d (pll-variants.Planned p) h =
+    let w = went number (Done hz) os (hopSteps (t .kind) (t .chip .address) at (pll-variants.Planned p) rs) (t .chip) (hopKept t d at (Done hz) hz) (both t d) room h .1 in
+    rw (w .taken-up) (hop-said os rs at t p (w .going))
 
 pub board-told-when-done : (hz value : ℕ) (table rs os room : List ℕ) (d : Driver) (t : Tuner) → hopResult (planBy table hz) hz rs os t d room .answer ≡ Done value
     → hopLockTries (planBy table hz) hz rs os t d room ≡ waitedFrom (drop (pathReplies (t .kind) (planBy table hz .plan .path)) rs) 10 0
-unfolding hopResult leftBy callOf hopLockTries
-board-told-when-done hz value table rs os room d t h = go (eqb number 0) (ap isDone h)
-  where
-    at : Planned
-    at = planBy table hz
-
-    number : ℕ
-    number = refusalWith (sound t && soundDriver d) (hopRefusal at (t .ifreq)) 64 38 (length room) (length os) (length rs)
-
-    by : Pll
-    by = planFor t (at .plan .hz)
-
-    tr : Trace
-    tr = trace os (hopSteps (t .kind) (t .chip .address) (at .plan) by rs) (t .chip)
-
-    go : (b : Bool) → isDone (cond b (performed (tuneAnswer by hz) (hopKept t d (at .plan) (tuneAnswer by hz) hz) room tr) (called (both t d) room 0 (Refused number)) .answer) ≡ true
-        → lockTriesIn (cond b (tr .log) []) ≡ waitedFrom (drop (pathReplies (t .kind) (at .plan .path)) rs) 10 0
-    go true e = hop-by os rs hz (at .plan) t by e
-    go false e = absurd (false≢true e)
+unfolding hopResult leftBy hopLockTries
+board-told-when-done hz value table rs os room d t h = hop-by _ os rs room hz (planBy table hz .plan) t d (planFor t (planBy table hz .plan .hz)) (ap isDone h)
 
 -- ---- worked out, on a fresh R828D at 100,000,000 Hz: entries 21 and 22 are the first try, 25 and 26 the second, 28 and 29 the third
 

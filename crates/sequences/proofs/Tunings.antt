@@ -1,6 +1,6 @@
 -- A tuning that is answered done, by itself or on a board, over any sequence of calls: on every chip the PLL's registers say its plan, with the divider one
 -- off where it was repaired. Assumes nothing.
-use Prim.Native.Nat.{ℕ, _+_, _*_, _/_, _%_, _≤_, _<_}
+use Prim.Native.Nat.{ℕ, _+_, _/_, _%_, _≤_, _<_}
 use mathlib.Core.Path.{_≡_, refl, sym, ap, subst, _∙_}
 use mathlib.Core.Bool.{Bool, true, false, cond, _&&_, false≢true}
 use mathlib.Core.List.{List, [], _++_}
@@ -12,13 +12,11 @@ use Rattle.transcript.specs.declared.Entry.{Entry}
 use Rattle.attempts.specs.Attempts.{Played, Regs}
 use Rattle.bands.specs.declared.Planned.{Planned}
 use Rattle.bands.specs.Tables.{planBy}
-use Rattle.board.specs.declared.Path.{Path}
 use Rattle.board.specs.declared.Path.the-variants.{Hf, Vhf, Uhf}
 use Rattle.board.specs.declared.Route.{Route}
 use Rattle.board.specs.declared.Route.the-variants.{By, Direct}
-use Rattle.boards.specs.Hops.{ddcPart, hopKept, hopRefusal, hopResult, hopSteps, pathPart, pathReplies}
-use Rattle.chip.specs.declared.Answer.{Answer}
-use Rattle.chip.specs.declared.Answer.the-variants.{Done, Refused, Stopped}
+use Rattle.boards.specs.Hops.{hopKept, hopRefusal, hopResult, hopSteps, pathPart, pathReplies}
+use Rattle.chip.specs.declared.Answer.the-variants.{Done, Refused}
 use Rattle.chip.specs.declared.Chip.{Chip}
 use Rattle.chip.specs.declared.Progress.{Progress}
 use Rattle.chip.specs.declared.Progress.the-variants.{Going, Refused11}
@@ -34,8 +32,10 @@ use Rattle.driver.specs.declared.Driver.{Driver}
 use Rattle.driver.specs.Calls.{Both, both}
 use Rattle.driver.specs.Record.{soundDriver}
 use Rattle.history.specs.Histories.{Tracks}
+pub use Rattle.history.specs.Histories.{isDone}
+pub use Rattle.history.proofs.Calls.{Went, went}
 use Rattle.history.proofs.Demand.{follows}
-use Rattle.history.proofs.Runs.{run-keeps}
+use Rattle.history.proofs.Runs.{going-before, run-keeps}
 use Rattle.oscillator.specs.Registers.{off}
 use Rattle.oscillator.proofs.Oscillator.{Says}
 use Rattle.pll.specs.declared.Kind.{Kind}
@@ -52,45 +52,15 @@ use Rattle.r82xx.specs.Record.{sound, soundBy}
 use Rattle.station.specs.Station.{unsure}
 use Rattle.tuning.specs.Program.{tuneAnswer, tuneSteps}
 use Rattle.writes.specs.Lists.{initArray}
-use Rattle.sequences.specs.Calls.{Call, tunerAfter, call, entries, given, result, tunerOf}
+use Rattle.sequences.specs.Calls.{Call, tunerAfter, call, entries, given, result}
 use Rattle.sequences.specs.Calls.Order.{BoardTune, Tuned}
 use Rattle.sequences.specs.Sequences.{Sequence}
 use Rattle.sequences.specs.Sequences.Sequence.{next}
 use Rattle.sequences.proofs.Demand.{sequence-history, sure-holds}
 use Rattle.sequences.proofs.Most.{byPlan, tune-by-plan}
-use Rattle.sequences.proofs.Stands.{Controlled, Holds, Long, control-there, divider-there, going-before, high-there, long-run, low-there, plainly, repaired, whole-there}
+use Rattle.sequences.proofs.Stands.{Long, control-there, divider-there, high-there, long-run, low-there, plainly, repaired, whole-there}
 
 -- ---- a call that is answered done
-
-abbrev pub isDone : Answer → Bool
-isDone (Done value) = true
-isDone (Refused number) = false
-isDone (Stopped index) = false
-
--- what is known of one
-pub record Went {R : Type 0} (number : ℕ) (os : List ℕ) (ss : List Step) (c : Chip) (keep : Trace → R) (x : Called R) : Type 0 where
-  pub taken-up : eqb number 0 ≡ true
-  pub going : trace os ss c .progress ≡ Going
-  pub left : x .next ≡ keep (trace os ss c)
-
-pub went : {R : Type 0} (number : ℕ) (whole : Answer) (os : List ℕ) (ss : List Step) (c : Chip) (keep : Trace → R) (old : R) (room : List ℕ)
-    → isDone (callOf number whole os ss c keep old room .answer) ≡ true
-    → (isDone whole ≡ true) × Went number os ss c keep (callOf number whole os ss c keep old room)
-unfolding callOf
-went {R} number whole os ss c keep old room h = go (eqb number 0) refl
-  where
-    by : (w : Progress) → trace os ss c .progress ≡ w → isDone (answerOf whole w) ≡ true → (isDone whole ≡ true) × (trace os ss c .progress ≡ Going)
-    by Going e q = (q, e)
-    by (Refused11 k) e q = absurd (false≢true q)
-
-    go : (b : Bool) → eqb number 0 ≡ b → (isDone whole ≡ true) × Went number os ss c keep (callOf number whole os ss c keep old room)
-    go true e =
-        let same : callOf number whole os ss c keep old room ≡ performed whole keep room (trace os ss c) = rw e in
-        let p = by (trace os ss c .progress) refl (ap (λ (d : Called R). isDone (d .answer)) (sym same) ∙ h) in
-        (p .0, record { taken-up = e; going = p .1; left = ap (λ (d : Called R). d .next) same })
-    go false e =
-        let same : callOf number whole os ss c keep old room ≡ called old room 0 (Refused number) = rw e in
-        absurd (false≢true (ap (λ (d : Called R). isDone (d .answer)) (sym same) ∙ h))
 
 -- one that is not refused was given records in their ranges
 pub accepted : (b : Bool) (argument n m room os rs : ℕ) → eqb (refusalWith b argument n m room os rs) 0 ≡ true → b ≡ true
@@ -268,6 +238,17 @@ ddc-quiet : (inverted : Bool) → every quiet (ddcSteps inverted) ≡ true
 unfolding every ddcSteps
 ddc-quiet inverted = refl
 
+-- a board-level tune by its plan
+module _ (t : Tuner) (hz : ℕ) (table rs : List ℕ) (d : Driver) (os room : List ℕ) where
+  abbrev pub byHop : Pll → Called Both
+  byHop plan =
+      callOf (refusalWith (sound t && soundDriver d) (hopRefusal (planBy table hz) (t .ifreq)) 64 38 (length room) (length os) (length rs)) (tuneAnswer plan hz) os
+      (hopSteps (t .kind) (t .chip .address) (planBy table hz .plan) plan rs) (t .chip) (hopKept t d (planBy table hz .plan) (tuneAnswer plan hz) hz) (both t d) room
+
+  pub hop-by-plan : hopResult (planBy table hz) hz rs os t d room ≡ byHop (planFor t (planBy table hz .plan .hz))
+  unfolding hopResult leftBy
+  hop-by-plan = refl
+
 module _ (t : Tuner) (es : List Entry) (s : Sequence t es) (hz : ℕ) (table rs : List ℕ) (d : Driver) (os room : List ℕ) (g : given (BoardTune hz table rs d) t ≡ true) where
   abbrev hop : Call
   hop = call (BoardTune hz table rs d) os room
@@ -278,15 +259,6 @@ module _ (t : Tuner) (es : List Entry) (s : Sequence t es) (hz : ℕ) (table rs 
 
   abbrev left : List ℕ
   left = drop (pathReplies (t .kind) (at .plan .path)) rs
-
-  abbrev byHop : Pll → Called Both
-  byHop plan =
-      callOf (refusalWith (sound t && soundDriver d) (hopRefusal at (t .ifreq)) 64 38 (length room) (length os) (length rs)) (tuneAnswer plan hz) os
-      (hopSteps (t .kind) (t .chip .address) (at .plan) plan rs) (t .chip) (hopKept t d (at .plan) (tuneAnswer plan hz) hz) (both t d) room
-
-  hop-by-plan : hopResult at hz rs os t d room ≡ byHop (planFor t (at .plan .hz))
-  unfolding hopResult leftBy
-  hop-by-plan = refl
 
   -- answered done, a board-level tune has a plan of the frequency that the table planned, and on every chip the registers say it
   pub hopped-stands : isDone (result hop t .answer) ≡ true → (before now : Regs) → Played (t .chip .address) (es ++ entries hop t) before now
@@ -305,13 +277,13 @@ module _ (t : Tuner) (es : List Entry) (s : Sequence t es) (hz : ℕ) (table rs 
           → (p : Plan) × (planFor t (at .plan .hz) ≡ pll-variants.Planned p)
           × Says p (repaired (t .chip .address) (t .kind) (at .plan .notch) p (at .plan .hz) left) now × Kept t (tunerAfter hop t)
       by pll-variants.Refused e =
-          let is : hopResult at hz rs os t d room ≡ byHop pll-variants.Refused = hop-by-plan ∙ ap byHop e in
+          let is : hopResult at hz rs os t d room ≡ byHop t hz table rs d os room pll-variants.Refused = hop-by-plan t hz table rs d os room ∙ ap (byHop t hz table rs d os room) e in
           let w =
           went number (Refused 2) os (hopSteps (t .kind) (t .chip .address) (at .plan) pll-variants.Refused rs) (t .chip) (hopKept t d (at .plan) (Refused 2) hz) (both t d) room
           (ap (λ (x : Called Both). isDone (x .answer)) (sym is) ∙ h) in
           absurd (false≢true (w .0))
       by (pll-variants.Planned p) e =
-          let is : hopResult at hz rs os t d room ≡ byHop (pll-variants.Planned p) = hop-by-plan ∙ ap byHop e in
+          let is : hopResult at hz rs os t d room ≡ byHop t hz table rs d os room (pll-variants.Planned p) = hop-by-plan t hz table rs d os room ∙ ap (byHop t hz table rs d os room) e in
           let pre : List Step = pathPart (t .kind) (at .plan .path) rs in
           let ss : List Step = tuneSteps (t .chip .address) (t .kind) (at .plan .notch) (pll-variants.Planned p) (at .plan .hz) left in
           let post : List Step = ddcSteps (at .plan .inverted) in

@@ -3,7 +3,7 @@
 -- played on. Assumes nothing.
 use Prim.Native.Nat.{ℕ, _+_, _/_, _%_, _^_, _<_}
 use mathlib.Core.Path.{_≡_, refl, sym, ap, subst, _∙_}
-use mathlib.Core.Bool.{Bool, true, false, _||_, false≢true}
+use mathlib.Core.Bool.{Bool, true, false, false≢true}
 use mathlib.Core.List.{List, _++_, append-assoc, append-nil}
 use native.Mathlib.Omega.{arith}
 use lib.Dec.{eqb}
@@ -82,10 +82,10 @@ module _ (t : Tuner) (rate : ℕ) (table : List ℕ) (d : Driver) (os room : Lis
   abbrev offset : ℕ
   offset = ifFor (t .ifreq) rate
 
-  abbrev steps : List Step
+  abbrev pub steps : List Step
   steps = sampleRateSteps offset rate (xtalOf d) (planBy table (d .frequency) .plan .inverted)
 
-  rate-went : isDone (result rated t .answer) ≡ true → (eqb (asked rated t .number) 0 ≡ true) × (trace os steps (t .chip) .progress ≡ Going)
+  pub rate-went : isDone (result rated t .answer) ≡ true → (eqb (asked rated t .number) 0 ≡ true) × (trace os steps (t .chip) .progress ≡ Going)
   unfolding rateResult leftBy
   rate-went h =
       let w = went (asked rated t .number) (Done 0) os steps (t .chip) _ _ room h .1 in
@@ -144,23 +144,34 @@ module _ (t : Tuner) (rate : ℕ) (table : List ℕ) (d : Driver) (os room : Lis
   module _ (es : List Entry) (s : Sequence t es) (h : isDone (result rated t .answer) ≡ true) (small : offset < xtalOf d) (u : Tuner) (gs : List Entry)
       (between : Between (tunerAfter rated t) u gs) where
     -- all entries before the tune, and the record that it is given
-    abbrev so-far : List Entry
+    abbrev pub so-far : List Entry
     so-far = (es ++ entries rated t) ++ gs
 
     pub whole : Sequence u so-far
     unfolding every
     whole = between-sequence (tunerAfter rated t) u gs between (es ++ entries rated t) (next t es s rated refl)
 
+    -- what came since the rate, with one call more that moves no IF, says nothing of it
+    abbrev since : Call → List Entry
+    since k = gs ++ entries k u
+
+    since-silent : (k : Call) → movesIf (k .order) ≡ false → Silent (since k)
+    since-silent k still = silent-append gs (entries k u) (between-silent (tunerAfter rated t) u gs between) (silent-call k u still)
+
+    join : (k : Call) → so-far ++ entries k u ≡ (es ++ entries rated t) ++ since k
+    join k = append-assoc (es ++ entries rated t) gs (entries k u)
+
+    -- so the IF's mark is sure at its end
+    pub if-sure-by : (k : Call) → movesIf (k .order) ≡ false → ifMark (so-far ++ entries k u) ≡ 2
+    if-sure-by k still = ap ifMark (join k) ∙ if-sure h es (since k) (since-silent k still)
+
     -- a call that moves no IF and leaves the oscillator at f + IF
     pub centre-by : (k : Call) → movesIf (k .order) ≡ false → (f : ℕ) (reg : Bytes) → Within (f + u .ifreq) (u .corrected) reg
         → (was is : Place → ℕ) → Played demodulator (so-far ++ entries k u) was is
         → Centred f (u .corrected) (xtalOf d) (negatedOf (ifWord (λ r. is (place 1 r)))) reg
     centre-by k still f reg near was is demod =
-        let since : List Entry = gs ++ entries k u in
-        let quiet : Silent since = silent-append gs (entries k u) (between-silent (tunerAfter rated t) u gs between) (silent-call k u still) in
-        let join : so-far ++ entries k u ≡ (es ++ entries rated t) ++ since = append-assoc (es ++ entries rated t) gs (entries k u) in
         let v : negatedOf (ifWord (λ r. is (place 1 r))) ≡ ifRatioOf offset (xtalOf d) =
-        if-stands h es since quiet small was is (subst (λ (l : List Entry). Played demodulator l was is) join demod) in
+        if-stands h es (since k) (since-silent k still) small was is (subst (λ (l : List Entry). Played demodulator l was is) (join k) demod) in
         let same : u .ifreq ≡ offset = between-if (tunerAfter rated t) u gs between ∙ rate-if h in
         subst (λ (x : ℕ). Centred f (u .corrected) (xtalOf d) x reg) (sym v)
         (centred f offset (u .corrected) (xtalOf d) (ifRatioOf offset (xtalOf d)) reg (subst (λ (i : ℕ). Within (f + i) (u .corrected) reg) same near)

@@ -7,3 +7,8 @@ pub mod Reloads
 pub mod Sharp
 pub mod Again
 pub mod Centre
+pub mod Waits
+pub mod Locks
+pub mod Rated
+pub mod CutShort
+pub mod Filed

@@ -4,15 +4,7 @@ use mathlib.Core.Path.{_≡_, refl, ap, _∙_}
 use native.Mathlib.Omega.{arith}
 use native.Mathlib.Nat.{mod-eq-of-lt}
 use Rattle.registers.specs.Rates.{ifRatioOf, ifValueOf, negatedOf}
-
-word : (w : ℕ) → w < 4_194_304 → 65_536 * (w / 65_536 % 256 % 64) + (256 * (w / 256 % 256 % 256) + w % 256 % 256) ≡ w
-word w h =
-    let top : w / 65_536 < 64 = omega arith in
-    let first : w / 65_536 % 256 % 64 ≡ w / 65_536 = omega (arith, top) in
-    let second : w / 256 % 256 % 256 ≡ w / 256 % 256 = omega arith in
-    let third : w % 256 % 256 ≡ w % 256 = omega arith in
-    let middle : w / 256 / 256 ≡ w / 65_536 = omega arith in
-    rw (first, second, third) (omega (arith, middle))
+use Rattle.evidence.proofs.Units.{word}
 
 twice : (x : ℕ) → x < 4_194_304 → negatedOf (negatedOf x) ≡ x
 twice zero h = refl

@@ -1,2 +1,4 @@
 pub mod Centre
 pub mod Between
+pub mod Locks
+pub mod Rated
