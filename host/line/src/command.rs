@@ -491,6 +491,9 @@ impl Kept {
         }
         if let (Some(night), Some(log), false) = (&self.append, &mut self.log, sections.is_empty()) {
             log.placed(night.placed());
+            if log.is_full() {
+                log.write(night);
+            }
         }
     }
 

@@ -4,15 +4,18 @@
 //! - A tuning of a line (`feed`), or one without a line in the log, begins a hop. All sections up to the next one belong to it: what moves its recording is its own.
 //! - The same frequency again within two minutes, where the hop has not come out right, is another attempt at it. The last attempt counts, and how many there were is told.
 //! - What stands before the first hop belongs to it.
+//! - A stop of the stream ends the recording: where nothing but that follows, the hop is judged before it, since it switches the demodulator off.
 //! - Behind a tuning without a line nobody can tell whether a rate was for it or for the next one: what it has moved is not known then.
 use crate::logged::Line;
 use crate::places::{self, Places};
 use crate::verdict::{Case, Verdict};
 use pasetone::evidence::Lock;
-use pasetone::{EntryKind, Evidence, Table, Transcript, evidence};
+use pasetone::{Entry, EntryKind, Evidence, Table, Transcript, evidence};
 
 /// So many seconds behind an attempt the same frequency is asked for again.
 const AGAIN: u64 = 120;
+
+const STOP: &str = "stop_streaming";
 
 /// A window that is longer has only those sections more that touch the oscillator or its lock: what others send to the demodulator is summed up.
 const LONG: usize = 1 << 20;
@@ -54,6 +57,8 @@ struct Open {
     unlogged: usize,
     /// Rate and centre at the end of a tuning without a line.
     tuned: Option<(Option<u64>, Option<u64>)>,
+    /// As it was before the stream was stopped.
+    stopped: Option<Box<Hop>>,
     /// Whether a step of a section without a line failed: then its call was not done.
     has_failed: bool,
 }
@@ -112,8 +117,12 @@ impl<'a> Hops<'a> {
         if let Some(target) = self.begins(&transcript, line) {
             self.begin(target, at, line.map(|line| line.time));
         }
+        let stopped = if line.is_some_and(|line| line.call == STOP) { self.open.as_ref().map(|open| self.close(open)) } else { None };
         self.take(&transcript);
-        let has_failed = line.is_none() && transcript.iter().any(|entry| entry.failed);
+        if let Some(open) = &mut self.open {
+            open.stopped = stopped.map(Box::new);
+        }
+        let has_failed = line.is_none() && transcript.iter().any(|entry| entry.failed && !closes(&entry));
         let tunes = line.is_none() && transcript.iter().any(|entry| places::tunes(&entry, self.address.unwrap_or(0)));
         let told = if tunes { self.told() } else { None };
         match (&mut self.open, line) {
@@ -202,7 +211,7 @@ impl<'a> Hops<'a> {
             // It sets IF and bandwidth too.
             "set_sample_rate" => ("set_sample_rate", &["set_sample_rate", "set_if_freq", "set_if_freq_xtal", "set_bandwidth"]),
             // Every register of the chip is sent again; what the call before was to send is not.
-            "reload" => return,
+            "reload" | STOP => return,
             call => (call, &[]),
         };
         self.owed.retain(|owed| *owed != slot && (line.refusal > 0 || !cleared.contains(owed)));
@@ -226,6 +235,9 @@ impl<'a> Hops<'a> {
 
     /// A hop as the sections up to here leave it.
     fn close(&self, open: &Open) -> Hop {
+        if let Some(stopped) = &open.stopped {
+            return Hop { end: open.end, ..Hop::clone(stopped) };
+        }
         let is_named = !self.unlogged.asked.is_empty();
         let shift = if is_named { open.asked.and_then(|hz| self.shift(hz)) } else { open.shift };
         let owed: &[&str] = if is_named && open.has_failed { &["a call, by its steps"] } else { &self.owed };
@@ -273,8 +285,168 @@ impl<'a> Hops<'a> {
     }
 }
 
+/// The repeater's closing: a call is done whatever becomes of it.
+fn closes(entry: &Entry) -> bool {
+    entry.kind == EntryKind::Repeater && entry.bytes == [0]
+}
+
 /// Whether what begins is another attempt at a hop.
 fn is_again(hop: &Hop, asked: Option<u64>, time: Option<u64>) -> bool {
     let is_soon = hop.time.zip(time).is_some_and(|(before, now)| (before..=before + AGAIN).contains(&now));
     asked.is_some() && hop.asked == asked && hop.verdict != Verdict::Right && is_soon
+}
+
+#[cfg(test)]
+mod tests {
+    use super::*;
+    use crate::log::CALLS;
+    use pasetone::{Board, Call, Receiver, Script, TunerKind};
+
+    /// What a receiver was sent, section by section, with the lines of a log.
+    struct Sent {
+        receiver: Receiver,
+        sections: Vec<(Vec<u8>, Option<Line>)>,
+    }
+
+    impl Sent {
+        /// Set up and tuned to 102.3 MHz at the time 0.
+        fn new() -> Sent {
+            let receiver = Receiver::new(TunerKind::R828d, 0x74, Board::Generic, 28_800_000).unwrap();
+            let mut sent = Sent { receiver, sections: Vec::new() };
+            for call in [Call::Initialize, Call::SetSampleRate(2_048_000), Call::SetGain(29.7), Call::TuneBoard(102_300_000)] {
+                sent.call(call, 0, Some(102_300_000), None);
+            }
+            sent
+        }
+
+        fn call(&mut self, call: Call, time: u64, to: Option<u64>, fail: Option<usize>) {
+            let outcomes: Vec<u8> = (0..Script::OUTCOMES).map(|step| u8::from(Some(step) == fail)).collect();
+            let made = call.make(&mut self.receiver, &Script::new(outcomes, vec![0x0a; Script::REPLIES]));
+            let asked = match call {
+                Call::TuneBoard(hz) | Call::SetFrequency(hz) => Some(hz),
+                _ => None,
+            };
+            let line = Line {
+                time,
+                call: CALLS[usize::from(call.bytes()[0]) - 1],
+                asked,
+                refusal: made.result.err().map_or(0, |error| error.number()),
+                at: 0,
+                length: made.transcript.bytes().len() as u64,
+                address: 0x74,
+                tuner_xtal: 28_800_000,
+                driver_xtal: 28_800_000,
+                shift: asked.map(|_| 0),
+                to,
+            };
+            self.sections.push((made.transcript.bytes().to_vec(), Some(line)));
+        }
+
+        /// What was asked, how often, and what it came to.
+        fn hops(&self) -> Vec<(Option<u64>, u32, Verdict)> {
+            let unlogged = Unlogged { address: None, reference: 28_800_000, table: Board::Generic.table(), asked: Vec::new() };
+            let (mut told, mut at) = (Vec::new(), 0);
+            let mut hops = Hops::new(None, &unlogged, |hop| told.push((hop.asked, hop.attempts, hop.verdict)));
+            for (section, line) in &self.sections {
+                hops.see(at, section, line.as_ref());
+                at += section.len() as u64;
+            }
+            hops.end();
+            drop(hops);
+            told
+        }
+    }
+
+    const FIRST: (Option<u64>, u32, Verdict) = (Some(102_300_000), 1, Verdict::Right);
+
+    /// A rate over the line moves the recording that it comes behind; one that a hop begins with does not.
+    #[test]
+    fn a_rate_belongs_to_the_hop_that_it_moves() {
+        let mut sent = Sent::new();
+        sent.call(Call::SetSampleRate(3_200_000), 3_600, Some(99_000_000), None);
+        sent.call(Call::TuneBoard(99_000_000), 3_600, Some(99_000_000), None);
+        assert_eq!(sent.hops(), [FIRST, (Some(99_000_000), 1, Verdict::Right)]);
+        let mut sent = Sent::new();
+        sent.call(Call::SetSampleRate(3_200_000), 3_600, None, None);
+        sent.call(Call::SetFrequency(99_000_000), 3_600, None, None);
+        assert_eq!(sent.hops(), [(Some(102_300_000), 1, Verdict::Beside(-1_269_988)), (Some(99_000_000), 1, Verdict::Right)]);
+    }
+
+    /// A cut hop made again within two minutes is one, decided by its last attempt; later, or on another frequency, it stands as it was.
+    #[test]
+    fn attempts() {
+        let again = |seconds: u64, hz: u64| {
+            let mut sent = Sent::new();
+            sent.call(Call::TuneBoard(99_000_000), 3_600, Some(99_000_000), Some(30));
+            sent.call(Call::Reload, 3_601, None, None);
+            sent.call(Call::TuneBoard(hz), 3_600 + seconds, Some(hz), None);
+            sent.hops()[1..].to_vec()
+        };
+        assert_eq!(again(120, 99_000_000), [(Some(99_000_000), 2, Verdict::Right)]);
+        let cut = again(121, 99_000_000);
+        assert_eq!((cut.len(), cut[0].1, cut[1]), (2, 1, (Some(99_000_000), 1, Verdict::Right)));
+        assert!(cut[0].2 != Verdict::Right);
+        assert_eq!(again(1, 98_000_000)[0], cut[0]);
+        // A right one on the same frequency again is another.
+        let mut sent = Sent::new();
+        sent.call(Call::TuneBoard(102_300_000), 1, Some(102_300_000), None);
+        assert_eq!(sent.hops(), [FIRST, FIRST]);
+    }
+
+    /// A call that was cut is owed in every hop behind it until it is done, whatever else is.
+    #[test]
+    fn what_is_owed_stays_owed() {
+        let mut sent = Sent::new();
+        // The reload leaves no register doubtful.
+        sent.call(Call::SetGain(10.0), 1, None, Some(5));
+        sent.call(Call::Reload, 2, None, None);
+        sent.call(Call::TuneBoard(99_000_000), 3_600, Some(99_000_000), None);
+        let doubtful = (Some(99_000_000), 1, Verdict::Doubtful);
+        assert_eq!(sent.hops()[1], doubtful);
+        sent.call(Call::SetGain(10.0), 7_200, Some(98_000_000), None);
+        sent.call(Call::TuneBoard(98_000_000), 7_200, Some(98_000_000), None);
+        assert_eq!(sent.hops()[1..], [doubtful, (Some(98_000_000), 1, Verdict::Right)]);
+    }
+
+    /// A stop ends the recording, and is no fault of it; what is started again behind it is.
+    #[test]
+    fn a_stop_ends_the_recording() {
+        let mut sent = Sent::new();
+        sent.call(Call::StopStreaming, 3_000, None, None);
+        assert_eq!(sent.hops(), [FIRST]);
+        let mut again = Sent::new();
+        again.call(Call::StopStreaming, 3_000, None, None);
+        again.call(Call::StartStreaming, 3_001, None, None);
+        assert_eq!(again.hops(), [(Some(102_300_000), 1, Verdict::Doubtful)]);
+        sent.call(Call::TuneBoard(99_000_000), 3_600, Some(99_000_000), None);
+        assert_eq!(sent.hops(), [FIRST, (Some(99_000_000), 1, Verdict::Doubtful)]);
+        sent.call(Call::SetSampleRate(2_048_000), 7_200, Some(98_000_000), None);
+        sent.call(Call::TuneBoard(98_000_000), 7_200, Some(98_000_000), None);
+        assert_eq!(sent.hops()[2], (Some(98_000_000), 1, Verdict::Right));
+    }
+
+    /// Whichever line is missing, the hop that its section is in is not right.
+    #[test]
+    fn every_section_needs_its_line() {
+        for missing in 0..4 {
+            let mut sent = Sent::new();
+            sent.sections[missing].1 = None;
+            assert_eq!(sent.hops().iter().filter(|hop| hop.2 == Verdict::Right).count(), 0, "{missing}");
+        }
+    }
+
+    /// Behind more than a window's length of other calls the hop says the same.
+    #[test]
+    fn a_long_hop() {
+        let mut sent = Sent::new();
+        sent.call(Call::SetGain(10.0), 1, None, None);
+        sent.call(Call::SetSampleRate(2_048_000), 1, None, None);
+        let (gain, rate) = (sent.sections[4].clone(), sent.sections[5].clone());
+        for _ in 0..LONG / 200 {
+            sent.sections.extend([gain.clone(), rate.clone()]);
+        }
+        assert_eq!(sent.hops(), [FIRST]);
+        sent.call(Call::SetSampleRate(3_200_000), 1, None, None);
+        assert_eq!(sent.hops(), [(Some(102_300_000), 1, Verdict::Beside(-1_269_988))]);
+    }
 }

@@ -2,6 +2,7 @@
 //!
 //! The order is: the section, its disk, the line, its disk. So whenever a run dies, whether it or the whole machine, no line tells of a section that is not in the
 //! file. A section without its line may be left: it was sent, and what it was asked and answered nobody knows, so that `night` calls no hop with such a section right.
+//! `feed` does so for each piece that its line brings, and for 64 commands at most.
 //! A line that is torn at the log's end is ended where the next run begins its own; `night` tells it, and its section has none.
 use crate::clock;
 use crate::command::{Given, Key};
@@ -18,6 +19,9 @@ use std::os::unix::fs::FileExt;
 
 /// What every line begins with.
 pub const HEAD: &str = "{\"time\":";
+
+/// So many lines are written at once at most: a run that makes many calls and dies has lost no more of them.
+const MANY: usize = 64;
 
 /// A call that put a section into the night's file.
 pub struct Line {
@@ -224,6 +228,11 @@ impl Log {
             line.at = Some(from);
             from += line.length as u64;
         }
+    }
+
+    /// Whether it is time to write what was noted.
+    pub fn is_full(&self) -> bool {
+        self.lines.len() >= MANY
     }
 
     /// Hands the night's file to the disk, and then the lines of its sections to theirs. What cannot be written is told by [`Log::end`], and nothing is behind it.

@@ -25,7 +25,7 @@ pub const MORE: &[&str] = &[
     "it and all that was sent up to the next one. Its line has what was asked, the recording's centre",
     "and rate by the bytes sent, the lock and its tries, the count of doubtful registers, and a verdict:",
     "  right       asked; all sure; every call done; locked; the centre where a tuning leaves it",
-    "  beside ..   oscillator and IF are sure, and the centre is off by more than 25 kHz / m (FM: 782 Hz)",
+    "  beside ..   oscillator and IF are sure, and the centre is elsewhere (FM: -781 to +569 Hz is right)",
     "  not locked  all but the lock: its last status is without the bit, or was not read since",
     "  doubtful    a call was not done, or a byte was sent in vain, and not again since",
     "  unknown     no log tells what was asked or answered, or something was never sent in this file",

@@ -275,7 +275,7 @@ impl Keeper {
         let (Some(night), Some(log), true) = (&self.night, &mut self.log, line.is_some()) else { return };
         log.note(line);
         log.placed(night.placed());
-        if self.synced {
+        if self.synced || log.is_full() {
             log.write(night);
         }
     }

@@ -90,7 +90,7 @@ impl Case<'_> {
             return (Verdict::Beside(centre - i128::from(asked)), why);
         }
         let never = self.doubts(&mut why);
-        if near.is_none() && why.is_empty() {
+        if near.is_none() && why.is_empty() && self.unlogged == 0 {
             why.push(String::from("its tuning was not come to"));
         }
         let verdict = match self.told.lock {
