@@ -105,6 +105,11 @@ pub fn over(record: &OsStr, hz: &str, records: &Records, given: &Given, was_cut:
     if reloads { format!("{}; {hop}", reload(record, given)) } else { hop }
 }
 
+/// The way back of a receiver on the bus, where nobody has said which it is.
+pub fn on_the_bus(state: &OsStr, hz: &str) -> String {
+    format!("{} hop {hz} --device N --state {}", program(), file(state))
+}
+
 /// A command made again with all of its words.
 pub fn same(command: &str, given: &Given) -> String {
     let mut words = vec![program(), String::from(command)];

@@ -120,6 +120,7 @@ pub fn run(given: &Given, out: &mut Out) {
         count: Count::default(),
         unfed: 0,
     };
+    line.begin(out);
     line.head(&head, out);
     while !block.is_empty() && !out.is_closed() {
         block.chunks(cut).for_each(|chunk| line.chunk(chunk, out));
@@ -211,7 +212,6 @@ fn ready<'a>(start: Start, given: &Given, table: &'a Table, keeper: Keeper, link
     let mut live =
         Live::new(start, &wanted, table, keeper, link).map_err(|error| answer::refused(given, error, &error.to_string(), out)).ok()?;
     if live.hop(&wanted, out) && live.tune_again(out).is_some() {
-        live.run.made.clear();
         return Some(live);
     }
     let to_do = advice::same("feed", given);
@@ -303,6 +303,14 @@ impl Line<'_> {
         }
     }
 
+    /// What made the receiver ready stands before the first command's section.
+    fn begin(&mut self, out: &mut Out) {
+        let made = self.live.as_mut().map(|live| std::mem::take(&mut live.run.made));
+        for made in made.iter().flatten() {
+            self.files.add(made.transcript.bytes(), Some(&self.records), out);
+        }
+    }
+
     /// A command to the receiver on the bus. Its tries stand one behind the other; the last one's answer is the command's.
     fn sent(&mut self, bytes: &[u8; Command::SIZE], out: &mut Out) {
         let Some(live) = &mut self.live else { return };
@@ -328,6 +336,7 @@ impl Line<'_> {
         if !self.given.has(Key::Json) && !self.given.has(Key::Quiet) {
             tries.iter().for_each(|made| report::made_rows(made, out));
         }
+        tries.iter().for_each(|made| self.files.add(made.transcript.bytes(), Some(&self.records), out));
         self.told(bytes, &made, value, out);
     }
 

@@ -205,6 +205,11 @@ impl<'a> Live<'a> {
             last.lock = Some(driven.answer.lock);
         }
         match result {
+            // A repeater that is not closed stops no call, and neither does a receiver that goes there.
+            Ok(()) if is_gone => {
+                out.tell(End::Stopped, &format!("{}: behind its last write the receiver is gone (unplugged)", name.name()));
+                Ended::Over
+            }
             Ok(()) => Ended::Done,
             Err(Error::Step { index }) => {
                 let (step, why) = (first + index, fault.unwrap_or_default());

@@ -429,6 +429,11 @@ impl Keeper {
         }
     }
 
+    /// Whether it is of a receiver on the bus.
+    pub fn is_live(&self) -> bool {
+        self.is_live
+    }
+
     pub fn is_recovered(&self) -> bool {
         self.is_recovered
     }

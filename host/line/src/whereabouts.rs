@@ -50,6 +50,9 @@ pub fn run(given: &Given, out: &mut Out) {
     } else if !given.has(Key::Quiet) {
         lines(&records, table, out);
     }
+    if keeper.as_ref().is_some_and(Keeper::is_live) {
+        return Standing::of(&records, table).tell(&advice::on_the_bus(name, &advice::hertz(&records.owed)), out);
+    }
     tell(name, given, &records, table, out);
 }
 

@@ -256,3 +256,26 @@ fn a_state_is_locked() {
         assert_eq!(second.join().unwrap(), (true, Found::Kept, b"by the first".to_vec()));
     });
 }
+
+/// The key of a file is told without its lock, while a call is under way too; what is no state is told as that.
+#[test]
+fn the_key_of_a_file() {
+    let path = std::env::temp_dir().join(format!("pasetone-key-{}", std::process::id()));
+    let _ = std::fs::remove_file(&path);
+    assert!(matches!(State::key(&path), Err(StateError::Io(_))));
+    let fresh = Receiver::new(TunerKind::R828d, 0x74, Board::V4, 28_800_000).unwrap();
+    let (mut state, _) = State::open(&path, b"a connection", fresh.clone()).unwrap();
+    assert_eq!(State::key(&path).unwrap(), None);
+    state.keep().unwrap();
+    assert_eq!(State::key(&path).unwrap().as_deref(), Some(&b"a connection"[..]));
+    let mut told = None;
+    let _ = state.drive(Call::Reload, |_| {
+        told = State::key(&path).unwrap();
+        Outcome::Done
+    });
+    assert_eq!(told.as_deref(), Some(&b"a connection"[..]));
+    drop(state);
+    std::fs::write(&path, b"no state").unwrap();
+    assert!(matches!(State::key(&path), Err(StateError::Form)));
+    std::fs::remove_file(&path).unwrap();
+}
