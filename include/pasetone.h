@@ -65,7 +65,7 @@
  * The version of this header, as `pasetone_version` answers that of the archive: major * 65536 + minor * 256 + patch. CHANGELOG.md says what a host
  * has to change from one to the next. Every other place of the tree that names the version is held to this line by docs/check-version.
  */
-#define PASETONE_VERSION 0x070000 /* 7.0.0 */
+#define PASETONE_VERSION 0x070100 /* 7.1.0 */
 
 /*
  * Stands at each slice that a call writes: none of its bytes may be another slice's of the same call. No call can look for itself, but compilers warn of some

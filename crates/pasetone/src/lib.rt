@@ -40,12 +40,12 @@ use settings::Reply2;
 use settings::Settings;
 use settings::Settings2;
 
-// 7.0.0: the major number times 65,536, the minor times 256, the patch.
+// 7.1.0: the major number times 65,536, the minor times 256, the patch.
 #[no_mangle]
 pub extern "C" fn pasetone_version() -> u32
-    ensures { λ r. ⌜ r ≡ 458752 ⌝ }
+    ensures { λ r. ⌜ r ≡ 459008 ⌝ }
 {
-    0x0007_0000
+    0x0007_0100
 }
 
 // The tuner: src/tuners/r82xx.rs.
