@@ -1,7 +1,7 @@
 -- A sample rate that was cut: if the demodulator was written at all, the DDC byte is doubtful, since the reset comes first and its write last; and the IF is
 -- doubtful, or the new one whole. Whatever was before. Assumes nothing.
 use Prim.Native.Nat.{ℕ, _/_, _%_, _^_}
-use mathlib.Core.Path.{_≡_, refl, sym, ap, subst, _∙_}
+use mathlib.Core.Path.{_≡_, refl, sym, ap, _∙_}
 use mathlib.Core.Bool.{Bool, true, false, cond, true≢false}
 use mathlib.Core.List.{List, [], _∷_, _++_, map, append-assoc, append-nil}
 use mathlib.Core.Logic.{_⊎_, inl, inr}
@@ -26,7 +26,7 @@ use Rattle.registers.specs.Rates.{ifValueOf}
 use Rattle.writes.specs.Lists.{bandwidthUpdates, ifUpdates}
 use Rattle.evidence.specs.Cuts.{CutRate, tuners}
 use Rattle.evidence.specs.Demodulator.{covers, demodNames, demodSettles, demodulator, lastAt, place, shakes}
-use Rattle.evidence.specs.Evidence.{ddcMark, demodByte, ifMark, ifPlaces, ifWord, lasts, markOf}
+use Rattle.evidence.specs.Evidence.{demodByte, ifMark, ifPlaces, ifWord, lasts, markOf}
 use Rattle.evidence.proofs.Cuts.{vain-mark}
 use Rattle.evidence.proofs.Marks.{sure-exactly}
 use Rattle.evidence.proofs.Units.{word}

@@ -102,7 +102,7 @@ ddc-spared : Every Spared (0x15 ∷ [])
 unfolding demodNames covers shakes
 ddc-spared = ((λ ok. refl), tt)
 
-touches-among : (address r : ℕ) (e : Entry) → names address e r ≡ true → (qs : List ℕ) → among r qs ≡ true → touches address qs e ≡ true
+pub touches-among : (address r : ℕ) (e : Entry) → names address e r ≡ true → (qs : List ℕ) → among r qs ≡ true → touches address qs e ≡ true
 touches-among address r e named [] h = absurd (false≢true h)
 touches-among address r e named (q ∷ qs) h = go (eqb q r) refl (λ k. touches-among address r e named qs k)
   where

@@ -55,7 +55,7 @@ module _ (address : ℕ) where
   -- ---- a register that a plan sets
 
   -- one of them is one of the oscillator's
-  planned-too : (e : Entry) → touches address planned e ≡ true → touches address oscillator e ≡ true
+  pub planned-too : (e : Entry) → touches address planned e ≡ true → touches address oscillator e ≡ true
   planned-too e h = go (names address e 0x10) refl (names address e 0x12) refl (touches address (0x14 ∷ 0x15 ∷ 0x16 ∷ []) e) refl
     where
       go : (a : Bool) → names address e 0x10 ≡ a → (b : Bool) → names address e 0x12 ≡ b → (c : Bool) → touches address (0x14 ∷ 0x15 ∷ 0x16 ∷ []) e ≡ c

@@ -5,6 +5,7 @@ pub mod Heard
 pub mod Summed
 pub mod Cuts
 pub mod CutRates
+pub mod Summary
 pub mod Rates
 pub mod Quiet
 pub mod Worked

@@ -2,3 +2,4 @@ pub mod Demodulator
 pub mod Evidence
 pub mod Alike
 pub mod Cuts
+pub mod Summary
