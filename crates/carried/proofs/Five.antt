@@ -5,10 +5,11 @@ use mathlib.Core.Bool.{Bool, true, false, cond}
 use mathlib.Core.List.{List}
 use lib.Dec.{eqb, ltb}
 use lib.ListN.{length}
-use Rattle.chip.specs.declared.Answer.the-variants.{Done, Refused}
+use Rattle.refusals.specs.declared.Answer.the-variants.{Done, Refused}
 use Rattle.chip.specs.declared.Progress.{Progress}
 use Rattle.chip.specs.declared.Progress.the-variants.{Going, Refused11}
-use Rattle.chip.specs.Calls.{Called, answerOf, callOf, called, numberOf, performed, refusalWith, tooShort}
+use Rattle.refusals.specs.Answers.{numberOf}
+use Rattle.chip.specs.Calls.{Called, answerOf, callOf, called, performed, refusalWith, tooShort}
 use Rattle.chip.specs.Courses.{leftBy}
 use Rattle.chip.specs.Steps.{Step, trace}
 use Rattle.device.specs.Calls.{free, freeResult, noChip}

@@ -14,17 +14,19 @@ use Rattle.answers.specs.Lent.{tableInto, wordBytes}
 use Rattle.bands.specs.Tables.{planBy}
 use Rattle.board.specs.Numbers.{pathOf}
 use Rattle.boards.specs.Hops.{hopResult}
-use Rattle.chip.specs.declared.Answer.{Answer}
-use Rattle.chip.specs.declared.Answer.the-variants.{Done, Refused, Stopped}
-use Rattle.chip.specs.Calls.{Called, called, numberOf}
+use Rattle.refusals.specs.declared.Answer.{Answer}
+use Rattle.refusals.specs.declared.Answer.the-variants.{Done, Refused, Stopped}
+use Rattle.refusals.specs.Answers.{numberOf}
+use Rattle.chip.specs.Calls.{Called, called}
 use Rattle.chip.specs.Courses.{Course, argumentOf, leftBy}
 use Rattle.chip.specs.Courses.Course.{Still}
 use Rattle.driver.specs.declared.Driver.{Driver}
 use Rattle.driver.specs.Record.{soundDriver, xtalBy}
 use Rattle.driver.specs.Calls.{Both, boardRow, correctionCall, rateResult}
 use Rattle.gain.specs.Steps.{steps}
-use Rattle.lending.specs.Lent.{given, lentTo}
-use Rattle.lending.proofs.Giving.{covered, laid}
+use Rattle.refusals.specs.Lent.{given, lentTo}
+use Rattle.refusals.proofs.Giving.{covered, laid}
+use Rattle.refusals.specs.Table.{SETUP, CORRECTION, ROOM}
 use Rattle.r82xx.specs.declared.Tuner.{Tuner}
 use Rattle.r82xx.specs.Record.{sound, withNotch}
 use Rattle.r82xx.specs.Orders as tuner
@@ -312,7 +314,7 @@ module _ (t : Tuner) (r : Ranged t) where
     where
       go : (b : Bool)
           → Passed t (call (Tuned TableTold) os room) (cond b 8 0) false
-          (left (replyOf (cond b (given (Refused 8) out) (given (Done 0) (sets out 0 (wordBytes (map pos steps)))) .answer) 0) room (tunerBytes t))
+          (left (replyOf (cond b (given (Refused ROOM) out) (given (Done 0) (sets out 0 (wordBytes (map pos steps)))) .answer) 0) room (tunerBytes t))
       go true = away refl (record { setup = refl; step = refl; never = refl }) refl refl
       go false = rest-row TableTold os room t 0 refl
 
@@ -337,8 +339,8 @@ module _ (t : Tuner) (r : Ranged t) where
   corrected-any false false u v x y os room = refl
 
   still-says : (b : Bool) (u v : Both) (os room : List ℕ)
-      → Told (numberOf (leftBy true (tunerPart (cond b (Still u (Done 0)) (Still v (Refused 4)))) os (t .chip) t room .answer)) false
-      (stops (leftBy true (tunerPart (cond b (Still u (Done 0)) (Still v (Refused 4)))) os (t .chip) t room .answer))
+      → Told (numberOf (leftBy true (tunerPart (cond b (Still u (Done 0)) (Still v (Refused CORRECTION)))) os (t .chip) t room .answer)) false
+      (stops (leftBy true (tunerPart (cond b (Still u (Done 0)) (Still v (Refused CORRECTION)))) os (t .chip) t room .answer))
   unfolding leftBy
   still-says true u v os room = record { setup = refl; step = refl; never = refl }
   still-says false u v os room = record { setup = refl; step = refl; never = refl }
@@ -371,7 +373,7 @@ module _ (t : Tuner) (r : Ranged t) where
 
       go : (b : Bool) → driverOf driver .ok ≡ b
           → Passed t k (cond b 0 1) (not b || false)
-          (byCorrects (cond b (correctsMade (correctionCall ppm t d) (tunerBytes t) driver) (corrects (replyOf (Refused 1) 0) (tunerBytes t) driver)) room)
+          (byCorrects (cond b (correctsMade (correctionCall ppm t d) (tunerBytes t) driver) (corrects (replyOf (Refused SETUP) 0) (tunerBytes t) driver)) room)
       go false e = away refl (record { setup = refl; step = refl; never = refl }) refl refl
       go true e =
           let good : (sound t && soundDriver d) ≡ true = rw (given-sound, driver-sound driver e) in

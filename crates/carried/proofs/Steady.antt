@@ -21,13 +21,15 @@ use Rattle.board.specs.Numbers.{pathOf}
 use Rattle.bands.specs.declared.Band.{Band}
 use Rattle.bands.specs.Tables.{bandsOf, holds as within, landed, planAt, planBy, planIn, refused, tableOk, tuned}
 use Rattle.boards.specs.Hops.{pathPart}
-use Rattle.chip.specs.declared.Answer.{Answer}
-use Rattle.chip.specs.declared.Answer.the-variants.{Done, Refused, Stopped}
+use Rattle.refusals.specs.declared.Answer.{Answer}
+use Rattle.refusals.specs.declared.Answer.the-variants.{Done, Refused, Stopped}
 use Rattle.chip.specs.declared.Chip.{Chip}
 use Rattle.chip.specs.declared.Update.{Update}
 use Rattle.chip.specs.declared.Progress.{Progress}
 use Rattle.chip.specs.declared.Progress.the-variants.{Going, Refused11}
-use Rattle.chip.specs.Calls.{Called, answerOf, callOf, called, tooShort, numberOf, performed, refusalWith}
+use Rattle.refusals.specs.Answers.{numberOf}
+use Rattle.refusals.specs.Table.{SETUP, FREQUENCY, CORRECTION, TABLE}
+use Rattle.chip.specs.Calls.{Called, answerOf, callOf, called, tooShort, performed, refusalWith}
 use Rattle.chip.specs.Courses.{Course, argumentOf, leftBy, repliesOf}
 use Rattle.chip.specs.Courses.Course.{Still, Taken}
 use Rattle.chip.specs.Steps.{Step, Trace, acts, whileOpen, every, inList, inner, line, okFor, run, step, taken, trace, updates}
@@ -162,7 +164,7 @@ late-plain whole (Refused11 k) h = refl
 
 module _ {R : Type 0} (P : R → Type 0) (old : R) (f : P old) (c : Chip) (s : Bool) (os room : List ℕ) where
   at-rest : (next : R) (answer : Answer) → plain answer ≡ true → (isWritten answer 0 ≡ false → next ≡ old) → P next → (b : Bool)
-      → Settled P old (cond b (called next room 0 answer) (called old room 0 (Refused 1)))
+      → Settled P old (cond b (called next room 0 answer) (called old room 0 (Refused SETUP)))
   at-rest next answer p k g true = record { named = p; same = k; ranges = g }
   at-rest next answer p k g false = record { named = refl; same = λ e. refl; ranges = f }
 
@@ -269,13 +271,13 @@ module _ (t : Tuner) (f : Fielded t) where
   gain-steady k = bracket-steady 5 (gainUpdates k) _ t (withGain t (gainOf (stepAt k))) refl f (gained (stepAt k))
 
   path-steady : (p : PathRead) (kind : Kind) → Steady Fielded t (pathRow p kind t)
-  path-steady path-read.Refused kind = resting t (Refused 1) refl (λ e. refl) f
+  path-steady path-read.Refused kind = resting t (Refused SETUP) refl (λ e. refl) f
   path-steady (path-read.Is path) R820T = resting t (Done 0) refl (λ e. refl) f
   path-steady (path-read.Is path) R828D = bracket-steady 2 (pathUpdates path) (Done 0) t t refl f f
 
   board-steady : (p : PathRead) (rs : List ℕ) → Steady Fielded t (boardRow p rs t)
   unfolding outputSteps accessStep
-  board-steady path-read.Refused rs = resting t (Refused 1) refl (λ e. refl) f
+  board-steady path-read.Refused rs = resting t (Refused SETUP) refl (λ e. refl) f
   board-steady (path-read.Is path) rs = stepping 0 10 3 rs (Done 0) (boardPathSteps (t .kind) path rs) _ refl refl (λ tr. moved (tr .chip))
 
   pub whole-late : (plan : Pll) (hz : ℕ) → late (tuneAnswer plan hz) ≡ true
@@ -283,11 +285,11 @@ module _ (t : Tuner) (f : Fielded t) where
   whole-late (pll.Planned p) hz = refl
 
   correction-steady : (b : Bool) (v : ℕ) (ppm : ℤ) (d : Driver) → v < 4_294_967_296 → (b ≡ true → 1 ≤ v)
-      → Steady Fielded t (tunerPart (cond b (Still (both (withCorrected t v) (withPpm d ppm)) (Done 0)) (Still (both t d) (Refused 4))))
+      → Steady Fielded t (tunerPart (cond b (Still (both (withCorrected t v) (withPpm d ppm)) (Done 0)) (Still (both t d) (Refused CORRECTION))))
   correction-steady true v ppm d l r =
       resting (withCorrected t v) (Done 0) refl (λ e. absurd (true≢false e))
       (record { nominal = f .nominal; known = f .known; corrected = l; right = r refl; gain = f .gain; ifreq = f .ifreq })
-  correction-steady false v ppm d l r = resting t (Refused 4) refl (λ e. refl) f
+  correction-steady false v ppm d l r = resting t (Refused CORRECTION) refl (λ e. refl) f
 
   if-small : (rate : ℕ) → ifFor (t .ifreq) rate < 18_446_744_073_709_551_616
   if-small rate = go (eqb (t .ifreq) 0) (leb 2_500_000 rate) (leb 1_000_000 rate)
@@ -410,14 +412,14 @@ module _ (test : ℕ → Bool) (bare : Bare test) where
   argument-test true n h = bare .table
   argument-test false n h = h
 
-  pub still-test : (b : Bool) (u v : Both) → test (argumentOf (tunerPart (cond b (Still u (Done 0)) (Still v (Refused 4))))) ≡ false
+  pub still-test : (b : Bool) (u v : Both) → test (argumentOf (tunerPart (cond b (Still u (Done 0)) (Still v (Refused CORRECTION))))) ≡ false
   still-test true u v = bare .none
   still-test false u v = bare .correction
 
   landed-test : (b : Band) (z : ℤ) → test (landed b z .refusal) ≡ false
   landed-test b (pos hz) = go (ltb hz 18_446_744_073_709_551_616)
     where
-      go : (c : Bool) → test (cond c (tuned b hz) (refused 2) .refusal) ≡ false
+      go : (c : Bool) → test (cond c (tuned b hz) (refused FREQUENCY) .refusal) ≡ false
       go true = bare .none
       go false = bare .frequency
   landed-test b (negsuc n) = bare .frequency
@@ -435,7 +437,7 @@ module _ (test : ℕ → Bool) (bare : Bare test) where
   unfolding planBy
   table-test table hz = go (tableOk table) (plan-test (bandsOf table) hz)
     where
-      go : (c : Bool) → test (planIn (bandsOf table) hz .refusal) ≡ false → test (cond c (planIn (bandsOf table) hz) (refused 19) .refusal) ≡ false
+      go : (c : Bool) → test (planIn (bandsOf table) hz .refusal) ≡ false → test (cond c (planIn (bandsOf table) hz) (refused TABLE) .refusal) ≡ false
       go true p = p
       go false p = bare .table
 

@@ -13,9 +13,10 @@ use Rattle.transcript.specs.Entries.{bare}
 use Rattle.transcript.specs.Sections.{allFit, countOf, entriesIn, entriesOf, isSection, sectionBytes, sectionEntries, sectionOf, startOf}
 use Rattle.transcript.proofs.Exact.{entriesIn-take}
 use Rattle.transcript.proofs.Reading.{found, lies, sound}
-use Rattle.chip.specs.declared.Answer.the-variants as answer
-use Rattle.lending.specs.Lent.{given}
-use Rattle.lending.proofs.Giving as giving
+use Rattle.refusals.specs.declared.Answer.the-variants as answer
+use Rattle.refusals.specs.Lent.{given}
+use Rattle.refusals.proofs.Giving as giving
+use Rattle.refusals.specs.Table.{ROOM, SECTION, EXPANSION}
 use Rattle.expansion.specs.declared.Found.the-variants as number
 use Rattle.expansion.specs.Expansion as spec
 use Rattle.expansion.specs.Expansion.{allExpand, allHeard, expandInto, expanded, heardEntries, readInto, sizeOf}
@@ -43,7 +44,7 @@ is-not true n h =
 is-not false n h = refl
 
 module _ (s out : List ℕ) where
-  pub no-section : section.Refused ≡ sectionOf s → given (answer.Refused 12) out ≡ expandInto s out
+  pub no-section : section.Refused ≡ sectionOf s → given (answer.Refused SECTION) out ≡ expandInto s out
   unfolding expandInto sectionOf
   no-section h =
       let never : isSection s ≡ false = none (isSection s) (startOf s) (countOf s) h in
@@ -64,7 +65,7 @@ module _ (s out : List ℕ) where
         let l = lies s start count h in
         (l .0, l .1, ap₂ (λ (k i : ℕ). allFit k (drop i s)) (f .1 .1) (f .1 .0) ∙ sound s (f .0) .fit)
 
-    pub cannot : number.Refused ≡ sizeOf (entriesIn count (drop start s)) → given (answer.Refused 15) out ≡ expandInto s out
+    pub cannot : number.Refused ≡ sizeOf (entriesIn count (drop start s)) → given (answer.Refused EXPANSION) out ≡ expandInto s out
     unfolding expandInto sizeOf
     cannot q =
         let p : allExpand (sectionEntries s) ≡ false = ap allExpand (sym entries) ∙ is-not (allExpand (entriesIn count (drop start s))) (length (expanded (entriesIn count (drop start s)))) q in
@@ -81,7 +82,7 @@ module _ (s out : List ℕ) where
       long : k ≡ length (expanded (sectionEntries s))
       long = sized .1 ∙ ap (λ (es : List Entry). length (expanded es)) entries
 
-      pub too-short : length out < k → given (answer.Refused 8) out ≡ expandInto s out
+      pub too-short : length out < k → given (answer.Refused ROOM) out ≡ expandInto s out
       unfolding expandInto
       too-short r =
           rw (found s start count h .0, all) (giving.too-short 0 (length (expanded (sectionEntries s))) (expanded (sectionEntries s)) out refl (omega (arith, long)))
@@ -98,7 +99,7 @@ module _ (b out : List ℕ) where
   abbrev bytes : List ℕ
   bytes = sectionBytes (map bare (heardEntries 4096 b))
 
-  pub no-packets : number.Refused ≡ spec.countOf b → given (answer.Refused 15) out ≡ readInto b out
+  pub no-packets : number.Refused ≡ spec.countOf b → given (answer.Refused EXPANSION) out ≡ readInto b out
   unfolding readInto spec.countOf
   no-packets q =
       rw (is-not (allHeard 4096 b) (length (heardEntries 4096 b)) q) (giving.refused 15 (length bytes) bytes out (omega arith))
@@ -111,7 +112,7 @@ module _ (b out : List ℕ) where
     whole : 16 * k + 8 ≡ length bytes
     whole = omega (arith, counts .1, section-long b)
 
-    pub no-room : length out < 16 * k + 8 → given (answer.Refused 8) out ≡ readInto b out
+    pub no-room : length out < 16 * k + 8 → given (answer.Refused ROOM) out ≡ readInto b out
     unfolding readInto
     no-room r = rw (counts .0) (giving.too-short 0 (length bytes) bytes out refl (omega (arith, whole)))
 

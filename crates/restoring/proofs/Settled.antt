@@ -12,9 +12,9 @@ use lib.Seq.{sets, sets-eq, take-at}
 use Rattle.transcript.specs.declared.Entry.{Entry}
 use Rattle.transcript.specs.Sections.{sectionBytes}
 use Rattle.transcript.proofs.Laid.{length-sectionBytes}
-use Rattle.chip.specs.declared.Answer.the-variants.{Refused}
-use Rattle.lending.specs.Lent.{given, lentTo}
-use Rattle.lending.proofs.Giving as giving
+use Rattle.refusals.specs.declared.Answer.the-variants.{Refused}
+use Rattle.refusals.specs.Lent.{given, lentTo}
+use Rattle.refusals.proofs.Giving as giving
 use Rattle.attempts.specs.Attempts.{Last, byteIn, doubtIn, lastIn}
 use Rattle.attempts.specs.Namings.Last.{Never, Tried}
 use Rattle.sections.specs.Chain.{chain, chainEntries}

@@ -19,8 +19,8 @@ use Rattle.transcript.specs.Sections.{AllFit, Parted}
 use Rattle.attempts.specs.Attempts.{Played, Regs, byteIn, doubtIn, lastIn}
 use Rattle.attempts.specs.Namings.Last.{Never, Tried}
 use Rattle.attempts.proofs.Doubt.{InVain}
-use Rattle.chip.specs.declared.Answer.{Answer}
-use Rattle.chip.specs.declared.Answer.the-variants.{Done, Refused, Stopped}
+use Rattle.refusals.specs.declared.Answer.{Answer}
+use Rattle.refusals.specs.declared.Answer.the-variants.{Done, Refused, Stopped}
 use Rattle.chip.specs.declared.Chip.{Chip}
 use Rattle.chip.specs.declared.Progress.{Progress}
 use Rattle.chip.specs.declared.Progress.the-variants.{Going, Refused11}

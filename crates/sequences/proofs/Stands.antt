@@ -12,8 +12,8 @@ use lib.Dec.{eqb, leb, ltb}
 use lib.ListN.{getD, length, length-set, set}
 use lib.Seq.{getD-set-other, getD-set-same}
 use Rattle.transcript.specs.declared.Entry.{Entry}
-use Rattle.chip.specs.declared.Answer.{Answer}
-use Rattle.chip.specs.declared.Answer.the-variants.{Done, Refused, Stopped}
+use Rattle.refusals.specs.declared.Answer.{Answer}
+use Rattle.refusals.specs.declared.Answer.the-variants.{Done, Refused, Stopped}
 use Rattle.chip.specs.declared.Chip.{Chip}
 use Rattle.chip.specs.declared.Progress.{Progress}
 use Rattle.chip.specs.declared.Progress.the-variants.{Going, Refused11}

@@ -11,8 +11,9 @@ use lib.ListN.{drop, getD, length, replicate, take}
 use lib.Seq.{getD-drop, sets}
 use Rattle.transcript.specs.declared.Entry.{Entry}
 use Rattle.transcript.specs.Entries.{zeros8}
-use Rattle.chip.specs.declared.Answer.{Answer}
-use Rattle.chip.specs.declared.Answer.the-variants.{Done, Refused, Stopped}
+use Rattle.refusals.specs.declared.Answer.{Answer}
+use Rattle.refusals.specs.declared.Answer.the-variants.{Done, Refused, Stopped}
+use Rattle.refusals.specs.Table.{FREQUENCY}
 use Rattle.chip.specs.declared.Chip.{Chip}
 use Rattle.chip.specs.declared.LockTries.{LockTries}
 use Rattle.chip.specs.declared.Update.{Update}
@@ -326,7 +327,7 @@ progress-on whole (Refused11 k) h = absurd (false≢true h)
 
 by-plan : (os rs : List ℕ) (hz : ℕ) (t : Tuner) (plan : Pll) → isDone (answerOf (tuneAnswer plan hz) (trace os (tuneOf t plan hz rs) (t .chip) .progress)) ≡ true
     → lockTriesIn (trace os (tuneOf t plan hz rs) (t .chip) .log) ≡ waitedFrom rs 10 0
-by-plan os rs hz t pll-variants.Refused h = absurd (false≢true (progress-on (Refused 2) (trace os (tuneOf t pll-variants.Refused hz rs) (t .chip) .progress) h .1))
+by-plan os rs hz t pll-variants.Refused h = absurd (false≢true (progress-on (Refused FREQUENCY) (trace os (tuneOf t pll-variants.Refused hz rs) (t .chip) .progress) h .1))
 by-plan os rs hz t (pll-variants.Planned p) h = planned-said os rs hz t p (progress-on (Done hz) (trace os (tuneOf t (pll-variants.Planned p) hz rs) (t .chip) .progress) h .0)
 
 -- a tuning that is done tells the try whose reply has the lock bit, or all ten
@@ -368,7 +369,7 @@ hop-by : (os rs : List ℕ) (hz : ℕ) (at : board.Plan) (t : Tuner) (plan : Pll
     → isDone (answerOf (tuneAnswer plan hz) (trace os (hopSteps (t .kind) (t .chip .address) at plan rs) (t .chip) .progress)) ≡ true
     → lockTriesIn (trace os (hopSteps (t .kind) (t .chip .address) at plan rs) (t .chip) .log) ≡ waitedFrom (drop (pathReplies (t .kind) (at .path)) rs) 10 0
 hop-by os rs hz at t pll-variants.Refused h =
-    absurd (false≢true (progress-on (Refused 2) (trace os (hopSteps (t .kind) (t .chip .address) at pll-variants.Refused rs) (t .chip) .progress) h .1))
+    absurd (false≢true (progress-on (Refused FREQUENCY) (trace os (hopSteps (t .kind) (t .chip .address) at pll-variants.Refused rs) (t .chip) .progress) h .1))
 hop-by os rs hz at t (pll-variants.Planned p) h =
     hop-said os rs at t p (progress-on (Done hz) (trace os (hopSteps (t .kind) (t .chip .address) at (pll-variants.Planned p) rs) (t .chip) .progress) h .0)
 

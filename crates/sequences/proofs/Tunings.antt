@@ -17,12 +17,14 @@ use Rattle.board.specs.declared.Path.the-variants.{Hf, Vhf, Uhf}
 use Rattle.board.specs.declared.Route.{Route}
 use Rattle.board.specs.declared.Route.the-variants.{By, Direct}
 use Rattle.boards.specs.Hops.{ddcPart, hopKept, hopRefusal, hopResult, hopSteps, pathPart, pathReplies}
-use Rattle.chip.specs.declared.Answer.{Answer}
-use Rattle.chip.specs.declared.Answer.the-variants.{Done, Refused, Stopped}
+use Rattle.refusals.specs.declared.Answer.{Answer}
+use Rattle.refusals.specs.declared.Answer.the-variants.{Done, Refused, Stopped}
 use Rattle.chip.specs.declared.Chip.{Chip}
 use Rattle.chip.specs.declared.Progress.{Progress}
 use Rattle.chip.specs.declared.Progress.the-variants.{Going, Refused11}
-use Rattle.chip.specs.Calls.{Called, answerOf, callOf, called, numberOf, performed, refusalWith}
+use Rattle.refusals.specs.Answers.{numberOf}
+use Rattle.refusals.specs.Table.{FREQUENCY}
+use Rattle.chip.specs.Calls.{Called, answerOf, callOf, called, performed, refusalWith}
 use Rattle.chip.specs.Courses.{leftBy}
 use Rattle.chip.specs.Steps.{Step, Trace, acts, every, inList, line, okFor, run, taken, trace}
 use Rattle.chip.specs.Steps.Step.{Open, Close, Send, Mask, Plain}
@@ -208,7 +210,7 @@ module _ (t : Tuner) (es : List Entry) (s : Sequence t es) (hz : ℕ) (rs os roo
       by pll-variants.Refused e =
           let is : result tune t ≡ byPlan t hz os rs room pll-variants.Refused = tune-by-plan t hz os rs room ∙ ap (byPlan t hz os rs room) e in
           let w =
-          went number (Refused 2) os (tuneOf t pll-variants.Refused hz rs) (t .chip) (lockKept t) t room (ap (λ (d : Called Tuner). isDone (d .answer)) (sym is) ∙ h) in
+          went number (Refused FREQUENCY) os (tuneOf t pll-variants.Refused hz rs) (t .chip) (lockKept t) t room (ap (λ (d : Called Tuner). isDone (d .answer)) (sym is) ∙ h) in
           absurd (false≢true (w .0))
       by (pll-variants.Planned p) e =
           let is : result tune t ≡ byPlan t hz os rs room (pll-variants.Planned p) = tune-by-plan t hz os rs room ∙ ap (byPlan t hz os rs room) e in
@@ -307,7 +309,7 @@ module _ (t : Tuner) (es : List Entry) (s : Sequence t es) (hz : ℕ) (table rs 
       by pll-variants.Refused e =
           let is : hopResult at hz rs os t d room ≡ byHop pll-variants.Refused = hop-by-plan ∙ ap byHop e in
           let w =
-          went number (Refused 2) os (hopSteps (t .kind) (t .chip .address) (at .plan) pll-variants.Refused rs) (t .chip) (hopKept t d (at .plan) (Refused 2) hz) (both t d) room
+          went number (Refused FREQUENCY) os (hopSteps (t .kind) (t .chip .address) (at .plan) pll-variants.Refused rs) (t .chip) (hopKept t d (at .plan) (Refused FREQUENCY) hz) (both t d) room
           (ap (λ (x : Called Both). isDone (x .answer)) (sym is) ∙ h) in
           absurd (false≢true (w .0))
       by (pll-variants.Planned p) e =

@@ -2,8 +2,8 @@
 use Prim.Native.Nat.{ℕ, _%_}
 use mathlib.Core.Path.{_≡_, sym, ap, _∙_}
 use borrow.Author.Needs.{needs}
-use Rattle.chip.specs.declared.Answer.{Answer}
-use Rattle.chip.specs.Calls.{indexOf, numberOf, valueOf}
+use Rattle.refusals.specs.declared.Answer.{Answer}
+use Rattle.refusals.specs.Answers.{indexOf, numberOf, valueOf}
 use Rattle.reply.specs.declared.Reply.{Reply}
 use Rattle.reply.specs.Replies.{replyOf}
 use Rattle.reply.proofs.numbers.Statement.{statement}
