@@ -54,7 +54,7 @@ table-cases : (b : Bool) (t : Tuner) (zeros : List ℤ) (out : List ℕ)
     → lentTable (record { answer = cond b (called t [] 0 (Done 0)) (called t [] 0 (Refused SETUP)) .answer; steps = cond b (map pos steps) zeros }) out
     ≡ cond b (lentTo 0 0 (wordBytes (map pos steps)) out) (given (Refused SETUP) out)
 table-cases true t zeros out = refl
-table-cases false t zeros out = sym (refused 1 0 (wordBytes zeros) out (omega arith))
+table-cases false t zeros out = sym (refused SETUP 0 (wordBytes zeros) out (omega arith))
 
 pub table-given : (t : Tuner) (out : List ℕ) → lentTable (tableOf t) out ≡ tableInto t out
 unfolding tableOf resultOf leftBy tableInto

@@ -437,9 +437,9 @@ module _ (b : List ℕ) (es : List Entry) (c : Carried b es) where
         go : Passed t inner number (amiss (k .exported)) (leaves k b)
             → (eqb number 0 ≡ true) × (result inner t .answer ≡ Stopped (reply .index)) × (entriesOf k b ≡ entries inner t)
         go (away z told same bytes) =
-            absurd (true≢false (sym (eq-eqb number 11 (sym (ap (λ (a : Reply). a .refusal) same) ∙ e)) ∙ told .step))
+            absurd (true≢false (sym (eq-eqb number STEP (sym (ap (λ (a : Reply). a .refusal) same) ∙ e)) ∙ told .step))
         go (made z told same room bytes) =
-            let stop : stops (result inner t .answer) ≡ true = sym (told .step) ∙ eq-eqb (numberOf (result inner t .answer)) 11 (sym (ap (λ (a : Reply). a .refusal) same) ∙ e) in (
+            let stop : stops (result inner t .answer) ≡ true = sym (told .step) ∙ eq-eqb (numberOf (result inner t .answer)) STEP (sym (ap (λ (a : Reply). a .refusal) same) ∙ e) in (
               z,
               by-answer (result inner t .answer) stop ∙ ap Stopped (sym (ap (λ (a : Reply). a .index) same)),
               made-entries t es calls ranges inner h (leaves k b) same room,

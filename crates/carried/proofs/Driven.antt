@@ -33,7 +33,7 @@ use Rattle.driver.specs.Record.{driver, driverOf as madeDriver, made, madeOn, n
 use Rattle.driver.specs.Calls.{Both, both, correctionCall, correctionResult, correctionRow, ratedBy, rateResult, rateRow, retuned}
 use Rattle.driver.specs.Programs.{ifFor}
 use Rattle.refusals.specs.Lent.{lentTo}
-use Rattle.refusals.specs.Table.{SETUP, CORRECTION}
+use Rattle.refusals.specs.Table.{SETUP, CORRECTION, ROOM}
 use Rattle.pll.specs.declared.Pll.{Pll}
 use Rattle.pll.specs.declared.Pll.the-variants as pll
 use Rattle.registers.specs.Rates.{ratioOf, sentOf, trueOf}
@@ -160,7 +160,7 @@ pub slot-long : (ok : Bool) (number slot next : ℕ) → eqb (bothReady ok numbe
 unfolding bothReady
 slot-long ok number slot next z = go ok (eqb number 0) refl (ltb slot 29) refl (ltb next 78) z
   where
-    go : (k a : Bool) → eqb number 0 ≡ a → (y : Bool) → ltb slot 29 ≡ y → (w : Bool) → eqb (cond k (cond a (cond (y || w) 8 0) number) 1) 0 ≡ true → 29 ≤ slot
+    go : (k a : Bool) → eqb number 0 ≡ a → (y : Bool) → ltb slot 29 ≡ y → (w : Bool) → eqb (cond k (cond a (cond (y || w) ROOM 0) number) SETUP) 0 ≡ true → 29 ≤ slot
     go true true e false q w h = ltb-false slot 29 q
     go true true e true q w h = absurd (false≢true h)
     go true false e y q w h = absurd (true≢false (sym h ∙ e))
@@ -280,13 +280,13 @@ module _ (b : List ℕ) (es : List Entry) (c : Carried b es) (d : List ℕ) (v :
   found-there : (not (driverOf d .ok) || false) ≡ false
   found-there = rw (driver-readable d v)
 
-  pub rate-taken : (rate : ℕ) (table slot : List ℕ) → eqb (leaves (lent (Rate rate table d slot) os room out) b .reply .refusal) 1 ≡ false
+  pub rate-taken : (rate : ℕ) (table slot : List ℕ) → eqb (leaves (lent (Rate rate table d slot) os room out) b .reply .refusal) SETUP ≡ false
   rate-taken rate table slot = refused-one b es c (lent (Rate rate table d slot) os room out) refl ∙ found-there
 
-  pub correction-taken : (ppm : ℤ) → eqb (leaves (lent (Correct ppm d) os room out) b .reply .refusal) 1 ≡ false
+  pub correction-taken : (ppm : ℤ) → eqb (leaves (lent (Correct ppm d) os room out) b .reply .refusal) SETUP ≡ false
   correction-taken ppm = refused-one b es c (lent (Correct ppm d) os room out) refl ∙ found-there
 
-  pub hop-taken : (hz : ℕ) (table rs slot : List ℕ) → every isByte rs ≡ true → eqb (leaves (lent (Hop hz table rs d slot) os room out) b .reply .refusal) 1 ≡ false
+  pub hop-taken : (hz : ℕ) (table rs slot : List ℕ) → every isByte rs ≡ true → eqb (leaves (lent (Hop hz table rs d slot) os room out) b .reply .refusal) SETUP ≡ false
   hop-taken hz table rs slot h = refused-one b es c (lent (Hop hz table rs d slot) os room out) h ∙ found-there
 
 -- there is such a driver: a generic board's, made, and then corrected beside a tuner's bytes that are none

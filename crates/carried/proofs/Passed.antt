@@ -26,7 +26,7 @@ use Rattle.driver.specs.Calls.{Both, boardRow, correctionCall, rateResult}
 use Rattle.gain.specs.Steps.{steps}
 use Rattle.refusals.specs.Lent.{given, lentTo}
 use Rattle.refusals.proofs.Giving.{covered, laid}
-use Rattle.refusals.specs.Table.{SETUP, CORRECTION, ROOM}
+use Rattle.refusals.specs.Table.{SETUP, CORRECTION, ROOM, STEP}
 use Rattle.r82xx.specs.declared.Tuner.{Tuner}
 use Rattle.r82xx.specs.Record.{sound, withNotch}
 use Rattle.r82xx.specs.Orders as tuner
@@ -133,8 +133,8 @@ driver-sound b h =
 
 -- what a refusal number tells: 1 where something is amiss, 11 where a step failed, and never 5, which went with the mask leaf (#106)
 pub record Told (number : ℕ) (one eleven : Bool) : Type 0 where
-  pub setup : eqb number 1 ≡ one
-  pub step : eqb number 11 ≡ eleven
+  pub setup : eqb number SETUP ≡ one
+  pub step : eqb number STEP ≡ eleven
   pub never : eqb number 5 ≡ false
 
 -- how a call k on a record's bytes ended: turned away by a number before any step, or made where the number is 0. `one` is whether it is refused 1
@@ -214,19 +214,19 @@ module _ (t : Tuner) (r : Ranged t) where
 
     -- by an argument's number, by 8, and by what the call itself answers
     argument-says : Told argument (pathless o) false
-    argument-says = record { setup = argument-told (λ n. eqb n 1) ones o t ∙ and-true (pathless o); step = argument-told (λ n. eqb n 11) elevens o t ∙ and-false (pathless o); never = argument-told (λ n. eqb n 5) fives o t ∙ and-false (pathless o) }
+    argument-says = record { setup = argument-told (λ n. eqb n SETUP) ones o t ∙ and-true (pathless o); step = argument-told (λ n. eqb n STEP) elevens o t ∙ and-false (pathless o); never = argument-told (λ n. eqb n 5) fives o t ∙ and-false (pathless o) }
 
     unrefused : eqb argument 0 ≡ true → pathless o ≡ false
     unrefused e = sym (argument-says .setup) ∙ ap (λ (n : ℕ). eqb n 1) (eqb-true argument 0 e)
 
-    short-says : eqb argument 0 ≡ true → Told 8 (pathless o) false
+    short-says : eqb argument 0 ≡ true → Told ROOM (pathless o) false
     short-says e = record { setup = sym (unrefused e); step = refl; never = refl }
 
     call-says : soundFor o t ≡ true → eqb argument 0 ≡ true → Told (numberOf (resultOf o os room t .answer)) (pathless o) (stops (resultOf o os room t .answer))
     call-says good e =
         record {
-          setup = number-told (λ n. eqb n 1) ones o os room t fields h good e ∙ and-false (stops (resultOf o os room t .answer)) ∙ sym (unrefused e);
-          step = number-told (λ n. eqb n 11) elevens o os room t fields h good e ∙ and-true (stops (resultOf o os room t .answer));
+          setup = number-told (λ n. eqb n SETUP) ones o os room t fields h good e ∙ and-false (stops (resultOf o os room t .answer)) ∙ sym (unrefused e);
+          step = number-told (λ n. eqb n STEP) elevens o os room t fields h good e ∙ and-true (stops (resultOf o os room t .answer));
           never = number-told (λ n. eqb n 5) fives o os room t fields h good e ∙ and-false (stops (resultOf o os room t .answer));
         }
 

@@ -28,7 +28,7 @@ use Rattle.chip.specs.declared.Update.{Update}
 use Rattle.chip.specs.declared.Progress.{Progress}
 use Rattle.chip.specs.declared.Progress.the-variants.{Going, Refused11}
 use Rattle.refusals.specs.Answers.{numberOf}
-use Rattle.refusals.specs.Table.{SETUP, FREQUENCY, CORRECTION, TABLE}
+use Rattle.refusals.specs.Table.{SETUP, FREQUENCY, RATE, CORRECTION, ROOM, OUTCOMES, REPLIES, STEP, RATIO, TABLE}
 use Rattle.chip.specs.Calls.{Called, answerOf, callOf, called, tooShort, performed, refusalWith}
 use Rattle.chip.specs.Courses.{Course, argumentOf, leftBy, repliesOf}
 use Rattle.chip.specs.Courses.Course.{Still, Taken}
@@ -89,25 +89,25 @@ plain (Stopped index) = true
 -- and one behind steps that are all done: a value, or the PLL's refusal
 abbrev pub late : Answer → Bool
 late (Done value) = true
-late (Refused number) = eqb number 2
+late (Refused number) = eqb number FREQUENCY
 late (Stopped index) = false
 
 -- a test of refusal numbers that none passes but 1 and 11: which of them is left is told by one law for both
 pub record Bare (test : ℕ → Bool) : Type 0 where
   pub none : test 0 ≡ false
-  pub frequency : test 2 ≡ false
-  pub rate : test 3 ≡ false
-  pub correction : test 4 ≡ false
-  pub room : test 8 ≡ false
-  pub outcomes : test 9 ≡ false
-  pub replies : test 10 ≡ false
-  pub ratio : test 13 ≡ false
-  pub table : test 19 ≡ false
+  pub frequency : test FREQUENCY ≡ false
+  pub rate : test RATE ≡ false
+  pub correction : test CORRECTION ≡ false
+  pub room : test ROOM ≡ false
+  pub outcomes : test OUTCOMES ≡ false
+  pub replies : test REPLIES ≡ false
+  pub ratio : test RATIO ≡ false
+  pub table : test TABLE ≡ false
 
-pub ones : Bare (λ n. eqb n 1)
+pub ones : Bare (λ n. eqb n SETUP)
 ones = record { none = refl; frequency = refl; rate = refl; correction = refl; room = refl; outcomes = refl; replies = refl; ratio = refl; table = refl }
 
-pub elevens : Bare (λ n. eqb n 11)
+pub elevens : Bare (λ n. eqb n STEP)
 elevens = record { none = refl; frequency = refl; rate = refl; correction = refl; room = refl; outcomes = refl; replies = refl; ratio = refl; table = refl }
 
 pub fives : Bare (λ n. eqb n 5)
@@ -158,7 +158,7 @@ kept-some (Stopped index) n h = ap not (ne-eqb n 0 (λ e. omega arith))
 
 late-plain : (whole : Answer) (w : Progress) → late whole ≡ true → plain (answerOf whole w) ≡ true
 late-plain (Done value) Going h = refl
-late-plain (Refused number) Going h = ap (λ (n : ℕ). not (eqb n 0)) (eqb-true number 2 h)
+late-plain (Refused number) Going h = ap (λ (n : ℕ). not (eqb n 0)) (eqb-true number FREQUENCY h)
 late-plain (Stopped index) Going h = refl
 late-plain whole (Refused11 k) h = refl
 
@@ -192,19 +192,19 @@ module _ (test : ℕ → Bool) (bare : Bare test) where
   unfolding tooShort
   lent-number n m room os rs = go (ltb room (16 * n + 8)) (ltb os n) (ltb rs m)
     where
-      go : (a b c : Bool) → test (cond a 8 (cond b 9 (cond c 10 0))) ≡ false
+      go : (a b c : Bool) → test (cond a ROOM (cond b OUTCOMES (cond c REPLIES 0))) ≡ false
       go true b c = bare .room
       go false true c = bare .outcomes
       go false false true = bare .replies
       go false false false = bare .none
 
-  late-number : (whole : Answer) (w : Progress) → late whole ≡ true → test (numberOf (answerOf whole w)) ≡ (stops (answerOf whole w) && test 11)
+  late-number : (whole : Answer) (w : Progress) → late whole ≡ true → test (numberOf (answerOf whole w)) ≡ (stops (answerOf whole w) && test STEP)
   late-number (Done value) Going h = bare .none
-  late-number (Refused number) Going h = ap test (eqb-true number 2 h) ∙ bare .frequency
+  late-number (Refused number) Going h = ap test (eqb-true number FREQUENCY h) ∙ bare .frequency
   late-number (Stopped index) Going h = refl
   late-number whole (Refused11 k) h = refl
 
-  rest-number : (answer : Answer) → eqb (numberOf answer) 0 ≡ true → test (numberOf answer) ≡ (stops answer && test 11)
+  rest-number : (answer : Answer) → eqb (numberOf answer) 0 ≡ true → test (numberOf answer) ≡ (stops answer && test STEP)
   rest-number (Done value) h = bare .none
   rest-number (Refused number) h = ap test (eqb-true number 0 h) ∙ bare .none
   rest-number (Stopped index) h = refl
@@ -212,12 +212,12 @@ module _ (test : ℕ → Bool) (bare : Bare test) where
   module _ (t : Tuner) (os room : List ℕ) where
     steps-number : (number : ℕ) (whole : Answer) (ss : List Step) (keep : Trace → Tuner) → late whole ≡ true → test number ≡ false → (b : Bool)
         → test (numberOf (cond b (performed whole keep room (trace os ss (t .chip))) (called t room 0 (Refused number)) .answer))
-        ≡ (stops (cond b (performed whole keep room (trace os ss (t .chip))) (called t room 0 (Refused number)) .answer) && test 11)
+        ≡ (stops (cond b (performed whole keep room (trace os ss (t .chip))) (called t room 0 (Refused number)) .answer) && test STEP)
     steps-number number whole ss keep p n true = late-number whole (trace os ss (t .chip) .progress) p
     steps-number number whole ss keep p n false = n
 
     pub row-number : (row : Course Tuner) → Steady Fielded t row → eqb (argumentOf row) 0 ≡ true
-        → test (numberOf (leftBy true row os (t .chip) t room .answer)) ≡ (stops (leftBy true row os (t .chip) t room .answer) && test 11)
+        → test (numberOf (leftBy true row os (t .chip) t room .answer)) ≡ (stops (leftBy true row os (t .chip) t room .answer) && test STEP)
     unfolding leftBy callOf
     row-number row (resting next answer p k g) h = rest-number answer h
     row-number row (stepping argument n m rs whole ss keep p b g) h =
@@ -370,15 +370,15 @@ settled o os room t f h = subst (Settled Fielded t) (sym (result-row t os room o
 
 module _ (test : ℕ → Bool) (bare : Bare test) where
   pub number-told : (o : Order) (os room : List ℕ) (t : Tuner) → Fielded t → typedOrder o ≡ true → soundFor o t ≡ true → eqb (argumentOf (rowOf o t)) 0 ≡ true
-      → test (numberOf (resultOf o os room t .answer)) ≡ (stops (resultOf o os room t .answer) && test 11)
+      → test (numberOf (resultOf o os room t .answer)) ≡ (stops (resultOf o os room t .answer) && test STEP)
   number-told o os room t f h s a =
       let same : leftBy true (rowOf o t) os (t .chip) t room ≡ resultOf o os room t =
       ap (λ (b : Bool). leftBy b (rowOf o t) os (t .chip) t room) (sym s) ∙ sym (result-row t os room o) in
-      subst (λ (x : Called Tuner). test (numberOf (x .answer)) ≡ (stops (x .answer) && test 11)) same (row-number test bare t os room (rowOf o t) (steady t f o h) a)
+      subst (λ (x : Called Tuner). test (numberOf (x .answer)) ≡ (stops (x .answer) && test STEP)) same (row-number test bare t os room (rowOf o t) (steady t f o h) a)
 
   -- ---- the number of an argument's refusal: 1 for a number that names no path, and for nothing else; never 11
 
-  path-test : (path : ℕ) (kind : Kind) (t : Tuner) → test (argumentOf (pathRow (pathOf path) kind t)) ≡ (ltb 2 path && test 1)
+  path-test : (path : ℕ) (kind : Kind) (t : Tuner) → test (argumentOf (pathRow (pathOf path) kind t)) ≡ (ltb 2 path && test SETUP)
   unfolding bracket
   path-test zero R820T t = bare .none
   path-test zero R828D t = bare .none
@@ -386,13 +386,13 @@ module _ (test : ℕ → Bool) (bare : Bare test) where
   path-test (suc zero) R828D t = bare .none
   path-test (suc (suc zero)) R820T t = bare .none
   path-test (suc (suc zero)) R828D t = bare .none
-  path-test (suc (suc (suc n))) kind t = ap (λ (b : Bool). b && test 1) (sym (lt-ltb 2 (suc (suc (suc n))) (omega arith)))
+  path-test (suc (suc (suc n))) kind t = ap (λ (b : Bool). b && test SETUP) (sym (lt-ltb 2 (suc (suc (suc n))) (omega arith)))
 
-  board-test : (path : ℕ) (rs : List ℕ) (t : Tuner) → test (argumentOf (boardRow (pathOf path) rs t)) ≡ (ltb 2 path && test 1)
+  board-test : (path : ℕ) (rs : List ℕ) (t : Tuner) → test (argumentOf (boardRow (pathOf path) rs t)) ≡ (ltb 2 path && test SETUP)
   board-test zero rs t = bare .none
   board-test (suc zero) rs t = bare .none
   board-test (suc (suc zero)) rs t = bare .none
-  board-test (suc (suc (suc n))) rs t = ap (λ (b : Bool). b && test 1) (sym (lt-ltb 2 (suc (suc (suc n))) (omega arith)))
+  board-test (suc (suc (suc n))) rs t = ap (λ (b : Bool). b && test SETUP) (sym (lt-ltb 2 (suc (suc (suc n))) (omega arith)))
 
   hz-test : (b : Bool) → test (cond b 2 0) ≡ false
   hz-test true = bare .frequency
@@ -402,13 +402,13 @@ module _ (test : ℕ → Bool) (bare : Bare test) where
   unfolding rateNumber
   rate-test rate xtal = go (eqb rate 0) (eqb xtal 0) (ratioHolds (ratioOf rate xtal))
     where
-      go : (a b c : Bool) → test (cond a 3 (cond b 4 (cond c 0 13))) ≡ false
+      go : (a b c : Bool) → test (cond a RATE (cond b CORRECTION (cond c 0 RATIO))) ≡ false
       go true b c = bare .rate
       go false true c = bare .correction
       go false false true = bare .none
       go false false false = bare .ratio
 
-  argument-test : (b : Bool) (n : ℕ) → test n ≡ false → test (cond b 19 n) ≡ false
+  argument-test : (b : Bool) (n : ℕ) → test n ≡ false → test (cond b TABLE n) ≡ false
   argument-test true n h = bare .table
   argument-test false n h = h
 
@@ -441,11 +441,11 @@ module _ (test : ℕ → Bool) (bare : Bare test) where
       go true p = p
       go false p = bare .table
 
-  hop-test : (refusal : ℕ) (b : Bool) → test refusal ≡ false → (c : Bool) → test (cond c (cond b 2 0) refusal) ≡ false
+  hop-test : (refusal : ℕ) (b : Bool) → test refusal ≡ false → (c : Bool) → test (cond c (cond b FREQUENCY 0) refusal) ≡ false
   hop-test refusal b h true = hz-test b
   hop-test refusal b h false = h
 
-  pub argument-told : (o : Order) (t : Tuner) → test (argumentOf (rowOf o t)) ≡ (pathless o && test 1)
+  pub argument-told : (o : Order) (t : Tuner) → test (argumentOf (rowOf o t)) ≡ (pathless o && test SETUP)
   unfolding bracket gainRow
   argument-told (Tuned Initialize) t = bare .none
   argument-told (Tuned Reload) t = bare .none
@@ -460,7 +460,7 @@ module _ (test : ℕ → Bool) (bare : Bare test) where
   argument-told (Tuned IfTold) t = bare .none
   argument-told (Tuned TableTold) t = bare .none
   argument-told (SampleRate rate table d) t =
-      argument-test (eqb (planBy table (d .frequency) .refusal) 19) (rateNumber rate (xtalOf d)) (rate-test rate (xtalOf d))
+      argument-test (eqb (planBy table (d .frequency) .refusal) TABLE) (rateNumber rate (xtalOf d)) (rate-test rate (xtalOf d))
   argument-told (Correction ppm d) t = still-test (leb 1 (xtalBy (t .nominal) ppm) && leb 1 (xtalBy (d .nominal) ppm)) _ _
   argument-told (BoardPath path rs) t = board-test path rs t
   argument-told (BoardTune hz table rs d) t =

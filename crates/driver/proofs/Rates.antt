@@ -124,7 +124,7 @@ module _ (os room : List ℕ) (rate : ℕ) (t : Tuner) (d : Driver) (p : Planned
       q a (λ i. both ((n ∙ ap (λ (x : ℕ). retuned t x (f .chip)) by-if) i) ((l ∙ ap (λ (x : ℕ). ratedBy d rate x (f .log .progress)) by-driver) i)) refl
 
 -- Document 02, #103: a rate that the resampler doesn't hold is refused 13 "with record and buffers unchanged", whatever is lent to it
-pub not-held : (rate : ℕ) (p : Planned) (os : List ℕ) (t : Tuner) (d : Driver) (room : List ℕ) → (sound t && soundDriver d) ≡ true → rateArgument rate p d ≡ 13
+pub not-held : (rate : ℕ) (p : Planned) (os : List ℕ) (t : Tuner) (d : Driver) (room : List ℕ) → (sound t && soundDriver d) ≡ true → rateArgument rate p d ≡ RATIO
     → rateResult rate p os t d room ≡ called (both t d) room 0 (Refused RATIO)
 unfolding rateResult leftBy callOf
 not-held rate p os t d room s h = rw (s, h)

@@ -48,7 +48,7 @@ module _ (s out : List ℕ) where
   unfolding expandInto sectionOf
   no-section h =
       let never : isSection s ≡ false = none (isSection s) (startOf s) (countOf s) h in
-      rw never (giving.refused 12 (length (expanded (sectionEntries s))) (expanded (sectionEntries s)) out (omega arith))
+      rw never (giving.refused SECTION (length (expanded (sectionEntries s))) (expanded (sectionEntries s)) out (omega arith))
 
   module _ (start count : ℕ) (h : section.Read start count ≡ sectionOf s) where
     entries : entriesIn count (drop start s) ≡ sectionEntries s
@@ -69,7 +69,7 @@ module _ (s out : List ℕ) where
     unfolding expandInto sizeOf
     cannot q =
         let p : allExpand (sectionEntries s) ≡ false = ap allExpand (sym entries) ∙ is-not (allExpand (entriesIn count (drop start s))) (length (expanded (entriesIn count (drop start s)))) q in
-        rw (found s start count h .0, p) (giving.refused 15 (length (expanded (sectionEntries s))) (expanded (sectionEntries s)) out (omega arith))
+        rw (found s start count h .0, p) (giving.refused EXPANSION (length (expanded (sectionEntries s))) (expanded (sectionEntries s)) out (omega arith))
 
     module _ (k : ℕ) (q : number.Is k ≡ sizeOf (entriesIn count (drop start s))) where
       pub sized : (allExpand (entriesIn count (drop start s)) ≡ true) × (k ≡ length (expanded (entriesIn count (drop start s))))
@@ -102,7 +102,7 @@ module _ (b out : List ℕ) where
   pub no-packets : number.Refused ≡ spec.countOf b → given (answer.Refused EXPANSION) out ≡ readInto b out
   unfolding readInto spec.countOf
   no-packets q =
-      rw (is-not (allHeard 4096 b) (length (heardEntries 4096 b)) q) (giving.refused 15 (length bytes) bytes out (omega arith))
+      rw (is-not (allHeard 4096 b) (length (heardEntries 4096 b)) q) (giving.refused EXPANSION (length bytes) bytes out (omega arith))
 
   module _ (k : ℕ) (q : number.Is k ≡ spec.countOf b) where
     pub counts : (allHeard 4096 b ≡ true) × (k ≡ length (heardEntries 4096 b))

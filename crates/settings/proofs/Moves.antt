@@ -31,7 +31,7 @@ fields2-within w h =
 -- ---- written, then read
 
 -- edition 1's reader answers 16 to every image of edition 2, whatever its fields are
-pub later-is-16 : (p ns : List ℕ) → Within widths2 ns → readOf1 (p ++ imageOf 2 widths2 ns) ≡ reading.refused 16
+pub later-is-16 : (p ns : List ℕ) → Within widths2 ns → readOf1 (p ++ imageOf 2 widths2 ns) ≡ reading.refused EDITION
 unfolding readOf1 judged
 later-is-16 p ns within = rw (other p 2 widths2 ns within 1 19 (λ e. omega (arith, e)))
 
@@ -160,7 +160,7 @@ module _ (s : Settings) (h : Proper s) where
 pub already-2 : (p out ns : List ℕ) → Within widths2 ns → movedTo2 (p ++ imageOf 2 widths2 ns) out ≡ given (Refused EDITION) out
 already-2 p out ns within =
     ap (λ (r : Read). lentTo (r .refusal) 27 (image2 (wider (r .settings) usualIf)) out) (later-is-16 p ns within)
-    ∙ sym (refused EDITION 27 (image2 (wider (reading.refused 16 .settings) usualIf)) out (omega arith))
+    ∙ sym (refused EDITION 27 (image2 (wider (reading.refused EDITION .settings) usualIf)) out (omega arith))
 
 -- "Move 2 back to 1 only if IF is 2,300,000": another IF is 18, and the output stays
 pub not-expressible : (p out : List ℕ) (w : Settings2) → Proper2 w → (w .ifreq ≡ usualIf → ⊥) → movedTo1 (p ++ image2 w) out ≡ given (Refused NOT_EXPRESSIBLE) out

@@ -6,7 +6,7 @@ use Prim.Native.Nat.{ℕ}
 use lib.IntN.{negsuc}
 use Rattle.wire.specs.Bytes.{leBytes, leValue}
 use Rattle.wire.specs.Parts.{joined}
-use Rattle.refusals.specs.Table.{EDITION, SETTINGS}
+use Rattle.refusals.specs.Table.{EDITION, SETTINGS, NOT_EXPRESSIBLE}
 use Rattle.settings.specs.declared.Settings.{Settings}
 use Rattle.settings.specs.Image.{fitsOf, image1, image2, imageOf, partsOf, trailer, wider}
 use Rattle.settings.specs.Reading.{judged, narrowRefusal, onlyOf2, read, read2, readOf1, readOf2, refused, refused2, settings, trailerRefusal, widened}
@@ -85,7 +85,7 @@ unfolding readOf1 judged trailerRefusal fitsOf imageOf partsOf trailer joined le
 gain-of-29 = refl
 
 -- "Move 2 back to 1 only if IF is 2,300,000": else "18 not expressible"
-pub not-expressible : narrowRefusal (onlyOf2 (fields ++ (other ++ end2))) ≡ 18
+pub not-expressible : narrowRefusal (onlyOf2 (fields ++ (other ++ end2))) ≡ NOT_EXPRESSIBLE
 unfolding narrowRefusal onlyOf2 judged trailerRefusal fitsOf leValue
 not-expressible = refl
 
