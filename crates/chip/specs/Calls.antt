@@ -10,7 +10,7 @@ use lib.Seq.{sets}
 use Rattle.transcript.specs.declared.Entry.{Entry}
 use Rattle.transcript.specs.Sections.{sectionBytes}
 use Rattle.refusals.specs.declared.Answer.{Answer}
-use Rattle.refusals.specs.declared.Answer.the-variants.{Done, Refused, Stopped}
+use Rattle.refusals.specs.declared.Answer.the-variants.{Refused, Stopped}
 use Rattle.refusals.specs.Table.{SETUP, ROOM, OUTCOMES, REPLIES}
 use Rattle.chip.specs.declared.Chip.{Chip}
 use Rattle.chip.specs.declared.LockTries.{LockTries}
