@@ -31,6 +31,9 @@ cast-t8 c = search needs
 enum-known-answer-3 : tie.Need-enum-known-answer-3
 enum-known-answer-3 c = search needs
 
+cast-t10 : tie.Need-cast-t10
+cast-t10 c = search needs
+
 returns : tie.Need-returns
 returns c =
     let at-answer = c .before in
@@ -61,6 +64,7 @@ numbers-spec =
     enum-known-answer-2
     cast-t8
     enum-known-answer-3
+    cast-t10
     returns
     returns-2
     returns-3)
