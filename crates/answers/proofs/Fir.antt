@@ -15,7 +15,7 @@ use mir.Val.{ofZ, toZ}
 use mir.ValLaws.{ofZ-fits}
 use Rattle.wire.specs.Bytes.{leBytes, leValue}
 use Rattle.wire.proofs.Widths.{length-leBytes, value-bytes}
-use Rattle.chip.specs.declared.Answer.the-variants.{Done}
+use Rattle.refusals.specs.declared.Answer.the-variants.{Done}
 use Rattle.chip.proofs.Laws.{and-left, and-right}
 use Rattle.fir.specs.declared.Packed.{Packed}
 use Rattle.fir.specs.Packing.{every, packed, signedOf, twos, unpackOf, within}
@@ -23,9 +23,9 @@ use Rattle.fir.proofs.Inverse.{unpack-pack}
 use Rattle.fir.proofs.Lists.{cons}
 use Rattle.fir.proofs.Widths.{kept, signed-within}
 use Rattle.answers.specs.Lent.{packInto, wordBytes, wordsIn}
-use Rattle.lending.specs.Lent.{given, lentTo}
+use Rattle.refusals.specs.Lent.{given, lentTo}
 use Rattle.answers.proofs.Giving.{packing}
-use Rattle.lending.proofs.Giving.{laid}
+use Rattle.refusals.proofs.Giving.{laid}
 use Rattle.answers.proofs.Words.{length-words}
 
 -- numbers that an i32 holds come back out of their bytes

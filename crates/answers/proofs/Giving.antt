@@ -10,12 +10,14 @@ use lib.Dec.{eqb}
 use lib.IntN.{ℤ, pos}
 use lib.ListN.{length, replicate, drop-of-length-le}
 use lib.Seq.{sets, sets-eq}
-use Rattle.lending.specs.Lent.{Given, given, lentTo}
-use Rattle.lending.proofs.Giving.{refused}
+use Rattle.refusals.specs.Lent.{Given, given, lentTo}
+use Rattle.refusals.proofs.Giving.{refused}
 use Rattle.answers.specs.Lent.{packInto, tableInto, unpackInto, wordBytes, wordsIn}
-use Rattle.chip.specs.Calls.{called, numberOf}
+use Rattle.refusals.specs.Answers.{numberOf}
+use Rattle.chip.specs.Calls.{called}
 use Rattle.chip.specs.Courses.{leftBy}
-use Rattle.chip.specs.declared.Answer.the-variants.{Done, Refused}
+use Rattle.refusals.specs.declared.Answer.the-variants.{Done, Refused}
+use Rattle.refusals.specs.Table.{SETUP, COEFFICIENT}
 use Rattle.fir.specs.Packing.{packed, unpackOf}
 use Rattle.gain.specs.Steps.{steps}
 use Rattle.r82xx.specs.Orders.{resultOf, tableOf}
@@ -28,7 +30,7 @@ use Rattle.registers.specs.Rates.{ifRegsOf, resampleRegsOf, zeroNumber}
 
 -- bytes for the FIR calls, of the right length or not
 module _ (s out : List ℕ) where
-  pub no-packing : (length s ≡ 64 → ⊥) → given (Refused 7) out ≡ packInto s out
+  pub no-packing : (length s ≡ 64 → ⊥) → given (Refused COEFFICIENT) out ≡ packInto s out
   unfolding packInto
   no-packing h = rw (ne-eqb (length s) 64 h)
 
@@ -36,7 +38,7 @@ module _ (s out : List ℕ) where
   unfolding packInto
   packing h = rw (eq-eqb (length s) 64 h)
 
-  pub no-unpacking : (length s ≡ 20 → ⊥) → given (Refused 7) out ≡ unpackInto s out
+  pub no-unpacking : (length s ≡ 20 → ⊥) → given (Refused COEFFICIENT) out ≡ unpackInto s out
   unfolding unpackInto
   no-unpacking h = rw (ne-eqb (length s) 20 h)
 
@@ -49,10 +51,10 @@ abbrev lentTable : Table → List ℕ → Given
 lentTable r out = lentTo (numberOf (r .answer)) 0 (wordBytes (r .steps)) out
 
 table-cases : (b : Bool) (t : Tuner) (zeros : List ℤ) (out : List ℕ)
-    → lentTable (record { answer = cond b (called t [] 0 (Done 0)) (called t [] 0 (Refused 1)) .answer; steps = cond b (map pos steps) zeros }) out
-    ≡ cond b (lentTo 0 0 (wordBytes (map pos steps)) out) (given (Refused 1) out)
+    → lentTable (record { answer = cond b (called t [] 0 (Done 0)) (called t [] 0 (Refused SETUP)) .answer; steps = cond b (map pos steps) zeros }) out
+    ≡ cond b (lentTo 0 0 (wordBytes (map pos steps)) out) (given (Refused SETUP) out)
 table-cases true t zeros out = refl
-table-cases false t zeros out = sym (refused 1 0 (wordBytes zeros) out (omega arith))
+table-cases false t zeros out = sym (refused SETUP 0 (wordBytes zeros) out (omega arith))
 
 pub table-given : (t : Tuner) (out : List ℕ) → lentTable (tableOf t) out ≡ tableInto t out
 unfolding tableOf resultOf leftBy tableInto

@@ -1,4 +1,4 @@
--- Answers of fixed size that a host takes as bytes in a slice that it lends, laid there as crate lending does.
+-- Answers of fixed size that a host takes as bytes in a slice that it lends, laid there as crate refusals does.
 -- Assumes nothing.
 use Prim.Native.Nat.{ℕ, zero, suc}
 use mathlib.Core.Bool.{Bool, true, false, cond}
@@ -14,10 +14,11 @@ use Rattle.board.specs.declared.BoardRead.the-variants as board-read
 use Rattle.board.specs.declared.Plan.{Plan}
 use Rattle.board.specs.Numbers.{boardOf, routeNumber}
 use Rattle.board.specs.Plans.{boardPlan}
-use Rattle.chip.specs.declared.Answer.the-variants.{Refused}
+use Rattle.refusals.specs.declared.Answer.the-variants.{Refused}
 use Rattle.fir.specs.Packing.{packed, unpackOf}
 use Rattle.gain.specs.Steps.{steps}
-use Rattle.lending.specs.Lent.{Given, given, lentTo}
+use Rattle.refusals.specs.Lent.{Given, given, lentTo}
+use Rattle.refusals.specs.Table.{SETUP, COEFFICIENT}
 use Rattle.r82xx.specs.declared.Tuner.{Tuner}
 use Rattle.r82xx.specs.Record.{sound}
 use Rattle.registers.specs.Rates.{ifRegsOf, resampleRegsOf}
@@ -39,7 +40,7 @@ abbrev pub planBytes : Plan → List ℕ
 planBytes p = bitOf (p .inverted) ∷ routeNumber (p .path) ∷ bitOf (p .notch) ∷ []
 
 unfoldable pub planInto : BoardRead → ℕ → List ℕ → Given
-planInto board-read.Refused hz out = given (Refused 1) out
+planInto board-read.Refused hz out = given (Refused SETUP) out
 planInto (board-read.Is b) hz out = lentTo 0 (boardPlan b hz .hz) (planBytes (boardPlan b hz)) out
 
 -- the same by a table. Document 02, #113: "new 19 table, for a malformed table; then 2 for a frequency in no band or shifted below 0 or past u64"; then 8
@@ -58,11 +59,11 @@ wordsIn (suc n) s = toZ w32 (leValue (take 4 s)) ∷ wordsIn n (drop 4 s)
 -- the FIR packer and unpacker over lent bytes. Bytes that are not sixteen numbers, or not the twenty of a packing, are refused 7
 unfoldable pub packInto : List ℕ → List ℕ → Given
 packInto s out =
-    cond (eqb (length s) 64) (lentTo (packed (wordsIn 16 s) .refusal) 0 (packed (wordsIn 16 s) .bytes) out) (given (Refused 7) out)
+    cond (eqb (length s) 64) (lentTo (packed (wordsIn 16 s) .refusal) 0 (packed (wordsIn 16 s) .bytes) out) (given (Refused COEFFICIENT) out)
 
 unfoldable pub unpackInto : List ℕ → List ℕ → Given
-unpackInto s out = cond (eqb (length s) 20) (lentTo 0 0 (wordBytes (unpackOf s)) out) (given (Refused 7) out)
+unpackInto s out = cond (eqb (length s) 20) (lentTo 0 0 (wordBytes (unpackOf s)) out) (given (Refused COEFFICIENT) out)
 
 -- the gain table. "A given record out of its ranges .. is refused 1 first"
 unfoldable pub tableInto : Tuner → List ℕ → Given
-tableInto t out = cond (sound t) (lentTo 0 0 (wordBytes (map pos steps)) out) (given (Refused 1) out)
+tableInto t out = cond (sound t) (lentTo 0 0 (wordBytes (map pos steps)) out) (given (Refused SETUP) out)

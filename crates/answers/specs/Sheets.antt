@@ -4,7 +4,8 @@ use Prim.Native.Nat.{ℕ, _/_, _%_}
 use mathlib.Core.Bool.{cond}
 use mathlib.Core.List.{List, [], _∷_}
 use lib.Dec.{eqb, ltb}
-use Rattle.lending.specs.Lent.{Given, lentTo}
+use Rattle.refusals.specs.Lent.{Given, lentTo}
+use Rattle.refusals.specs.Table.{SETUP, FREQUENCY, CORRECTION}
 use Rattle.pll.specs.declared.Kind.{Kind}
 use Rattle.pll.specs.declared.Kind.the-variants.{R820T, R828D}
 use Rattle.pll.specs.Plan.{planOf}
@@ -27,11 +28,11 @@ nothing refusal = record { refusal = refusal; value = 0; bytes = 0 ∷ 0 ∷ 0 �
 
 abbrev pub filledIn : Filled → Laid
 filledIn (In s) = record { refusal = 0; value = s .rest; bytes = sheetBytes s }
-filledIn Refused = nothing 2
+filledIn Refused = nothing FREQUENCY
 
 -- a kind that is not valid is 1, a reference of 0 is 4, then 2
 unfoldable pub laidOf : ℕ → ℕ → Filled → Laid
-laidOf kind r f = cond (ltb 1 kind) (nothing 1) (cond (eqb r 0) (nothing 4) (filledIn f))
+laidOf kind r f = cond (ltb 1 kind) (nothing SETUP) (cond (eqb r 0) (nothing CORRECTION) (filledIn f))
 
 abbrev pub laidTo : Laid → List ℕ → Given
 laidTo l out = lentTo (l .refusal) (l .value) (l .bytes) out

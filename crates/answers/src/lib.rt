@@ -7,14 +7,14 @@ ghost use lib.ListN.{length, take, drop};
 ghost use lib.Seq.{sets};
 ghost use Rattle.answers.specs.Lent.{bitOf, ifInto, packInto, planBytes, planByInto, planInto, resampleInto, tableInto, unpackInto, wordBytes, wordsIn};
 ghost use Rattle.answers.specs.Sheets.{kindNamed, laidOf, pllInto, worksheetInto};
-ghost use Rattle.lending.specs.Lent.{given, lentTo};
+ghost use Rattle.refusals.specs.Lent.{given, lentTo};
 ghost use Rattle.board.specs.Numbers.{boardOf};
 ghost use Rattle.wire.specs.Bytes.{leValue};
 use board::BoardRead;
 use board::Plan;
-use chip::Answer;
 use pll::Kind;
 use r82xx::Tuner;
+use refusals::Answer;
 use worksheet::Filled;
 
 // All of v, four bytes each, from the start of the slice.
@@ -29,7 +29,7 @@ fn put_words(v: &[i32], out: &mut [u8])
     }
 }
 
-// `lending::lend` for signed numbers, whose value is 0.
+// `refusals::lend` for signed numbers, whose value is 0.
 fn lend_words(refusal: u8, v: &[i32], out: &mut [u8]) -> Answer
     ensures { λ r. ⌜ given r (now (out .exit)) ≡ lentTo refusal 0 (wordBytes (now (v .entry))) (now (out .entry)) ⌝ }
 {
@@ -37,7 +37,7 @@ fn lend_words(refusal: u8, v: &[i32], out: &mut [u8]) -> Answer
         return Answer::Refused(refusal);
     }
     if out.len() / 4 < v.len() {
-        return Answer::Refused(chip::ROOM);
+        return Answer::Refused(refusals::ROOM);
     }
     put_words(v, out);
     Answer::Done(0)
@@ -48,7 +48,7 @@ pub fn if_freq_regs(hz: u32, xtal: u32, out: &mut [u8]) -> Answer
 {
     let regs = registers::if_freq_regs(hz, xtal);
     let bytes = regs.bytes;
-    lending::lend(regs.refusal as u8, 0, &bytes, out)
+    refusals::lend(regs.refusal as u8, 0, &bytes, out)
 }
 
 pub fn resample_regs(rate: u32, xtal: u32, out: &mut [u8]) -> Answer
@@ -56,7 +56,7 @@ pub fn resample_regs(rate: u32, xtal: u32, out: &mut [u8]) -> Answer
 {
     let regs = registers::resample_regs(rate, xtal);
     let bytes = regs.bytes;
-    lending::lend(regs.refusal as u8, 0, &bytes, out)
+    refusals::lend(regs.refusal as u8, 0, &bytes, out)
 }
 
 fn bit(b: bool) -> u8
@@ -75,7 +75,7 @@ fn lend_plan(refusal: u8, plan: Plan, out: &mut [u8]) -> Answer
         board::route_number(path),
         bit(plan.notch),
     ];
-    lending::lend(refusal, plan.hz, &bytes, out)
+    refusals::lend(refusal, plan.hz, &bytes, out)
 }
 
 // A number that names no board is refused 1, one past a byte too.
@@ -83,10 +83,10 @@ pub fn plan_tuning(board: u64, hz: u64, out: &mut [u8]) -> Answer
     ensures { λ r. ⌜ given r (now (out .exit)) ≡ planInto (boardOf board) hz (now (out .entry)) ⌝ }
 {
     if 255 < board {
-        return Answer::Refused(chip::SETUP);
+        return Answer::Refused(refusals::SETUP);
     }
     let BoardRead::Is(b) = board::board_of(board as u8) else {
-        return Answer::Refused(chip::SETUP);
+        return Answer::Refused(refusals::SETUP);
     };
     lend_plan(0, board::plan_tuning(b, hz), out)
 }
@@ -125,18 +125,18 @@ pub fn pack_fir(values: &[u8], out: &mut [u8]) -> Answer
     ensures { λ r. ⌜ given r (now (out .exit)) ≡ packInto (now (values .entry)) (now (out .entry)) ⌝ }
 {
     if values.len() != 64 {
-        return Answer::Refused(chip::COEFFICIENT);
+        return Answer::Refused(refusals::COEFFICIENT);
     }
     let answer = fir::pack_fir(coefficients(values));
     let bytes = answer.bytes;
-    lending::lend(answer.refusal, 0, &bytes, out)
+    refusals::lend(answer.refusal, 0, &bytes, out)
 }
 
 pub fn unpack_fir(bytes: &[u8], out: &mut [u8]) -> Answer
     ensures { λ r. ⌜ given r (now (out .exit)) ≡ unpackInto (now (bytes .entry)) (now (out .entry)) ⌝ }
 {
     if bytes.len() != 20 {
-        return Answer::Refused(chip::COEFFICIENT);
+        return Answer::Refused(refusals::COEFFICIENT);
     }
     let mut b = [0u8; 20];
     wire::copy(&mut b, 0, bytes);
@@ -151,7 +151,7 @@ pub fn gain_table(tuner: Tuner, out: &mut [u8]) -> Answer
     let table = tuner.get_gain_table();
     let answer = table.answer;
     let steps = table.steps;
-    lend_words(chip::number_of(answer), &steps, out)
+    lend_words(refusals::number_of(answer), &steps, out)
 }
 
 fn named(kind: u64) -> Kind
@@ -181,13 +181,13 @@ fn laid_out(kind: u64, reference: u32, sheet: Filled) -> Laid
     ensures { λ r. ⌜ r ≡ laidOf kind reference sheet ⌝ }
 {
     if 1 < kind {
-        return refused(chip::SETUP);
+        return refused(refusals::SETUP);
     }
     if reference == 0 {
-        return refused(chip::CORRECTION);
+        return refused(refusals::CORRECTION);
     }
     let Filled::In(s) = sheet else {
-        return refused(chip::FREQUENCY);
+        return refused(refusals::FREQUENCY);
     };
     let sum = s.sum;
     Laid {
@@ -210,7 +210,7 @@ pub fn plan_pll(kind: u64, lo: u64, reference: u32, out: &mut [u8]) -> Answer
     let plan = pll::plan_pll(named(kind), lo, reference);
     let laid = laid_out(kind, reference, worksheet::filled_by(plan));
     let bytes = laid.bytes;
-    lending::lend(laid.refusal, laid.value, &bytes, out)
+    refusals::lend(laid.refusal, laid.value, &bytes, out)
 }
 
 // The same by the technicians' worksheet.
@@ -220,5 +220,5 @@ pub fn plan_pll_by_worksheet(kind: u64, lo: u64, reference: u32, out: &mut [u8])
     let sheet = worksheet::fill(named(kind), lo, reference);
     let laid = laid_out(kind, reference, sheet);
     let bytes = laid.bytes;
-    lending::lend(laid.refusal, laid.value, &bytes, out)
+    refusals::lend(laid.refusal, laid.value, &bytes, out)
 }

@@ -13,6 +13,7 @@ use lib.Seq.{drop-drop, getD-drop}
 use mir.Syntax.{w64}
 use mir.Facts.{toZ-pos}
 use Rattle.wire.specs.Bytes.{leValue}
+use Rattle.refusals.specs.Table.{FREQUENCY, TABLE}
 use Rattle.bands.specs.declared.Band.{Band}
 use Rattle.bands.specs.declared.Planned.{Planned}
 use Rattle.bands.specs.Tables.{ascending, band, bandOf, bandsIn, bandsOf, fitsOf, holds, planAt, planBy, planIn, refused, tableOk, tuned}
@@ -30,7 +31,7 @@ module _ (b : Band) (hz : ℕ) where
   unfolding planAt
   shifted-up low h = rw (toZ-pos w64 low, lt-ltb (hz + b .shift) 18446744073709551616 h)
 
-  pub past-64 : b .shift < 9223372036854775808 → 18446744073709551616 ≤ hz + b .shift → refused 2 ≡ planAt b hz
+  pub past-64 : b .shift < 9223372036854775808 → 18446744073709551616 ≤ hz + b .shift → refused FREQUENCY ≡ planAt b hz
   unfolding planAt
   past-64 low h = rw (toZ-pos w64 low, le-ltb (hz + b .shift) 18446744073709551616 h)
 
@@ -42,7 +43,7 @@ module _ (b : Band) (hz : ℕ) where
       let less : hz - (18446744073709551615 - b .shift + 1) < 18446744073709551616 = omega arith in
       rw (le-ltb (b .shift) 9223372036854775808 high, down, le-ltb hz (18446744073709551615 - b .shift + 1) h, lt-ltb (hz - (18446744073709551615 - b .shift + 1)) 18446744073709551616 less)
 
-  pub below-0 : 9223372036854775808 ≤ b .shift → b .shift < 18446744073709551616 → hz < 18446744073709551615 - b .shift + 1 → refused 2 ≡ planAt b hz
+  pub below-0 : 9223372036854775808 ≤ b .shift → b .shift < 18446744073709551616 → hz < 18446744073709551615 - b .shift + 1 → refused FREQUENCY ≡ planAt b hz
   unfolding planAt
   below-0 high most h =
       let down : suc (18446744073709551616 - suc (b .shift)) ≡ 18446744073709551615 - b .shift + 1 = omega arith in
@@ -109,7 +110,7 @@ module _ (s : List ℕ) (k i hz : ℕ) (b : Band) (t : Bool) (h : i < k) (is : b
   pub plan-on : t ≡ false → planIn (left s k (i + 1)) hz ≡ planIn (left s k i) hz
   plan-on e = rw (plan-turn, e)
 
-pub plan-end : (s : List ℕ) (k i hz : ℕ) → k ≤ i → refused 2 ≡ planIn (left s k i) hz
+pub plan-end : (s : List ℕ) (k i hz : ℕ) → k ≤ i → refused FREQUENCY ≡ planIn (left s k i) hz
 unfolding planIn
 plan-end s k i hz h = rw (bands-end s k i h)
 
@@ -129,6 +130,6 @@ module _ (s : List ℕ) where
     unfolding planBy
     by-bands h made = rw (← e, h, made)
 
-    pub no-table : t ≡ false → p ≡ refused 19 → p ≡ planBy s hz
+    pub no-table : t ≡ false → p ≡ refused TABLE → p ≡ planBy s hz
     unfolding planBy
     no-table h made = rw (← e, h, made)

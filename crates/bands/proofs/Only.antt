@@ -7,6 +7,7 @@ use native.Mathlib.Omega.{arith}
 use borrow.Author.Tests.{leb-true, lt-leb}
 use lib.Dec.{eqb, leb}
 use lib.ListN.{length}
+use Rattle.refusals.specs.Table.{FREQUENCY}
 use Rattle.bands.specs.declared.Band.{Band}
 use Rattle.bands.specs.Formed.{nth}
 use Rattle.bands.specs.Tables.{ascending, bandsOf, fitsOf, holds, planAt, planBy, planIn, refused, tableOk}
@@ -87,7 +88,7 @@ module _ (hz : ℕ) where
       let next : suc (b .last) ≤ hz = above (suc (b .last)) bs (g .rest) i (omega (arith, l)) t in
       rw (lt-leb hz (b .last) next, and-false) (chosen (suc (b .last)) bs (g .rest) i (omega (arith, l)) t)
 
-  pub nowhere : (bs : List Band) → ((i : ℕ) → i < length bs → holds (nth bs i) hz ≡ false) → planIn bs hz ≡ refused 2
+  pub nowhere : (bs : List Band) → ((i : ℕ) → i < length bs → holds (nth bs i) hz ≡ false) → planIn bs hz ≡ refused FREQUENCY
   unfolding planIn
   nowhere [] h = refl
   nowhere (b ∷ bs) h = rw (h 0 (omega arith)) (nowhere bs (λ i l. h (suc i) (omega (arith, l))))
@@ -106,6 +107,6 @@ module _ (s : List ℕ) (ok : tableOk s ≡ true) (hz i : ℕ) (l : i < length (
   by-its-band = rw ok (chosen hz 0 (bandsOf s) (ascends s ok) i l t)
 
 pub by-no-band : (s : List ℕ) (hz : ℕ) → tableOk s ≡ true → ((i : ℕ) → i < length (bandsOf s) → holds (nth (bandsOf s) i) hz ≡ false)
-    → planBy s hz ≡ refused 2
+    → planBy s hz ≡ refused FREQUENCY
 unfolding planBy
 by-no-band s hz ok h = rw ok (nowhere hz (bandsOf s) h)

@@ -21,8 +21,9 @@ use Rattle.board.specs.declared.Plan.{Plan}
 use Rattle.board.specs.declared.Route.{Route}
 use Rattle.board.specs.declared.Route.the-variants.{By, Direct}
 use Rattle.board.specs.Numbers.{pathOf}
-use Rattle.chip.specs.declared.Answer.the-variants.{Refused}
-use Rattle.lending.specs.Lent.{Given, given, lentTo}
+use Rattle.refusals.specs.declared.Answer.the-variants.{Refused}
+use Rattle.refusals.specs.Lent.{Given, given, lentTo}
+use Rattle.refusals.specs.Table.{SETUP, FREQUENCY, TABLE}
 use Rattle.bands.specs.declared.Band.{Band}
 use Rattle.bands.specs.declared.Planned.{Planned}
 
@@ -93,20 +94,20 @@ tuned b hz = planned 0 (plan hz (eqb (b .inverted) 1) (routeOf (b .path)) (eqb (
 
 -- "2 for a frequency .. shifted below 0 or past u64"
 abbrev pub landed : Band → ℤ → Planned
-landed b (pos hz) = cond (ltb hz (2 ^ 64)) (tuned b hz) (refused 2)
-landed b (negsuc n) = refused 2
+landed b (pos hz) = cond (ltb hz (2 ^ 64)) (tuned b hz) (refused FREQUENCY)
+landed b (negsuc n) = refused FREQUENCY
 
 unfoldable pub planAt : Band → ℕ → Planned
 planAt b hz = landed b (pos hz +ℤ toZ w64 (b .shift))
 
 -- "2 for a frequency in no band"
 unfoldable pub planIn : List Band → ℕ → Planned
-planIn [] hz = refused 2
+planIn [] hz = refused FREQUENCY
 planIn (b ∷ bs) hz = cond (holds b hz) (planAt b hz) (planIn bs hz)
 
 -- "new 19 table, for a malformed table; then 2"
 unfoldable pub planBy : List ℕ → ℕ → Planned
-planBy s hz = cond (tableOk s) (planIn (bandsOf s) hz) (refused 19)
+planBy s hz = cond (tableOk s) (planIn (bandsOf s) hz) (refused TABLE)
 
 -- ---- the boards that are built in. "The V4 plan written as eight bands"
 
@@ -131,5 +132,5 @@ abbrev pub tableLent : Board → List ℕ → Given
 tableLent b out = lentTo 0 (length (boardTable b)) (boardTable b) out
 
 unfoldable pub tableInto : BoardRead → List ℕ → Given
-tableInto board-read.Refused out = given (Refused 1) out
+tableInto board-read.Refused out = given (Refused SETUP) out
 tableInto (board-read.Is b) out = tableLent b out

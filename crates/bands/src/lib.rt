@@ -5,17 +5,14 @@ ghost use Prim.Native.Nat.{_+_, _≤_};
 ghost use lib.ListN.{length, drop};
 ghost use Rattle.board.specs.Numbers.{boardOf};
 ghost use Rattle.board.specs.declared.Board.the-variants.{Generic, V4};
-ghost use Rattle.lending.specs.Lent.{given};
+ghost use Rattle.refusals.specs.Lent.{given};
 ghost use Rattle.bands.specs.Tables.{ascending, bandOf, bandsOf, fitsOf, holds, planAt, planBy, planIn, refused, routeOf, tableInto, tableLent, tableOk, tuned};
 use board::Board;
 use board::BoardRead;
 use board::PathRead;
 use board::Plan;
 use board::Route;
-use chip::Answer;
-
-// Refusal number of document 02.
-pub const TABLE: u8 = 19;
+use refusals::Answer;
 
 // The bytes of a band, and of the sixteen that a table has at most; where each number stands, the first first.
 const BAND: usize = 27;
@@ -122,13 +119,13 @@ impl Band {
     {
         if self.shift < SIGN {
             if 0xffff_ffff_ffff_ffff - self.shift < hz {
-                return refuse(chip::FREQUENCY);
+                return refuse(refusals::FREQUENCY);
             }
             return self.tuned_to(hz + self.shift);
         }
         let down = 0xffff_ffff_ffff_ffff - self.shift + 1;
         if hz < down {
-            return refuse(chip::FREQUENCY);
+            return refuse(refusals::FREQUENCY);
         }
         self.tuned_to(hz - down)
     }
@@ -176,7 +173,7 @@ fn plan_in(table: &[u8], hz: u64) -> Planned
         }
         i += 1;
     }
-    refuse(chip::FREQUENCY)
+    refuse(refusals::FREQUENCY)
 }
 
 // The plan for a frequency by a table, read where it lies: 19 for bytes that are no table, then 2 for a frequency that has no plan.
@@ -186,7 +183,7 @@ pub fn plan_by_table(table: &[u8], hz: u64) -> Planned
     if table_ok(table) {
         return plan_in(table, hz);
     }
-    refuse(TABLE)
+    refuse(refusals::TABLE)
 }
 
 fn generic_table(out: &mut [u8]) -> Answer
@@ -194,7 +191,7 @@ fn generic_table(out: &mut [u8]) -> Answer
 {
     let bytes =
         *b"\x00\x00\x00\x00\x00\x00\x00\x00\xff\xff\xff\xff\xff\xff\xff\xff\x00\x00\x00\x00\x00\x00\x00\x00\x00\x03\x00";
-    lending::lend(0, 27, &bytes, out)
+    refusals::lend(0, 27, &bytes, out)
 }
 
 fn v4_table(out: &mut [u8]) -> Answer
@@ -209,7 +206,7 @@ fn v4_table(out: &mut [u8]) -> Answer
         \x00\x83\x40\x0a\x00\x00\x00\x00\x80\xa0\x6c\x0e\x00\x00\x00\x00\x00\x00\x00\x00\x00\x00\x00\x00\x00\x01\x01\
         \x81\xa0\x6c\x0e\x00\x00\x00\x00\x7f\xb2\xe6\x0e\x00\x00\x00\x00\x00\x00\x00\x00\x00\x00\x00\x00\x00\x01\x00\
         \x80\xb2\xe6\x0e\x00\x00\x00\x00\xff\xff\xff\xff\xff\xff\xff\xff\x00\x00\x00\x00\x00\x00\x00\x00\x00\x02\x00";
-    lending::lend(0, 216, &bytes, out)
+    refusals::lend(0, 216, &bytes, out)
 }
 
 // The table of a board that is built in, at the start of a lent slice; the value is its length. A number that names no board is refused 1, one past a byte too.
@@ -217,10 +214,10 @@ pub fn board_table(board: u64, out: &mut [u8]) -> Answer
     ensures { λ r. ⌜ given r (now (out .exit)) ≡ tableInto (boardOf board) (now (out .entry)) ⌝ }
 {
     if 255 < board {
-        return Answer::Refused(chip::SETUP);
+        return Answer::Refused(refusals::SETUP);
     }
     let BoardRead::Is(b) = board::board_of(board as u8) else {
-        return Answer::Refused(chip::SETUP);
+        return Answer::Refused(refusals::SETUP);
     };
     match b {
         Board::Generic => generic_table(out),

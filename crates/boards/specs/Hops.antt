@@ -10,8 +10,8 @@ use Rattle.bands.specs.declared.Planned.{Planned}
 use Rattle.board.specs.declared.Plan.{Plan}
 use Rattle.board.specs.declared.Route.{Route}
 use Rattle.board.specs.declared.Route.the-variants.{By, Direct}
-use Rattle.chip.specs.declared.Answer.{Answer}
-use Rattle.chip.specs.declared.Answer.the-variants.{Done, Refused, Stopped}
+use Rattle.refusals.specs.declared.Answer.{Answer}
+use Rattle.refusals.specs.declared.Answer.the-variants.{Done, Refused, Stopped}
 use Rattle.chip.specs.declared.LockTries.{LockTries}
 use Rattle.chip.specs.Calls.{Called, answerOf, lockTriesIn}
 use Rattle.chip.specs.Courses.{Course, askedBy, entriesBy, leftBy}

@@ -15,12 +15,12 @@ ghost use Rattle.boards.specs.Hops.{ddcPart, heardBy, hopKept, hopRefusa
 use bands::Planned;
 use board::Plan;
 use board::Route;
-use chip::Answer;
 use chip::Flow;
 use driver::Driver;
 use pll::Kind;
 use pll::Pll;
 use r82xx::Tuner;
+use refusals::Answer;
 use tuning::Tuning;
 
 // What a hop hands back: both next records, its answer, how many entries it made, and of the lock what a tuning tells.

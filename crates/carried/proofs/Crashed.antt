@@ -10,7 +10,7 @@ use lib.ListN.{getD, length}
 use Rattle.transcript.specs.declared.Entry.{Entry}
 use Rattle.attempts.specs.Attempts.{Played, Regs, tunerAt}
 use Rattle.attempts.proofs.Played.{played-append}
-use Rattle.chip.specs.declared.Answer.the-variants.{Refused}
+use Rattle.refusals.specs.declared.Answer.the-variants.{Refused}
 use Rattle.chip.specs.declared.Chip.{Chip}
 use Rattle.chip.specs.Calls.{Called, callOf, called, performed, refusalWith}
 use Rattle.chip.specs.Courses.{Course, askedBy, leftBy}

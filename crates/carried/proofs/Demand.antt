@@ -23,14 +23,16 @@ use Rattle.attempts.proofs.Played.{last-done, last-never, some-played}
 use Rattle.wire.specs.Bytes.{leBytes}
 use Rattle.wire.specs.Parts.{part, partsFrom}
 use Rattle.wire.proofs.Joins.{parts-joined}
-use Rattle.chip.specs.declared.Answer.{Answer}
-use Rattle.chip.specs.declared.Answer.the-variants.{Done, Refused, Stopped}
+use Rattle.refusals.specs.declared.Answer.{Answer}
+use Rattle.refusals.specs.declared.Answer.the-variants.{Done, Refused, Stopped}
 use Rattle.chip.specs.declared.Progress.the-variants.{Going, Refused11}
 use Rattle.chip.specs.declared.LockTries.{LockTries}
 use Rattle.chip.specs.Entries.{noTries}
-use Rattle.chip.specs.Calls.{Called, answerOf, callOf, called, indexOf, lockTriesIn, lockedIn, numberOf, performed, triesIn}
+use Rattle.refusals.specs.Answers.{indexOf, numberOf}
+use Rattle.chip.specs.Calls.{Called, answerOf, callOf, called, lockTriesIn, lockedIn, performed, triesIn}
 use Rattle.device.specs.Calls.{noChip}
-use Rattle.lending.specs.Lent.{lentTo}
+use Rattle.refusals.specs.Lent.{lentTo}
+use Rattle.refusals.specs.Table.{SETUP, ROOM, STEP}
 use Rattle.pll.specs.declared.Kind.{Kind}
 use Rattle.pll.specs.declared.Kind.the-variants.{R820T, R828D}
 use Rattle.writes.specs.Lists.{initArray}
@@ -99,7 +101,7 @@ lent-done n value bytes out h = go (eqb n 0) refl (ltb (length out) (length byte
   where
     go : (a : Bool) → eqb n 0 ≡ a → (z : Bool) → ltb (length out) (length bytes) ≡ z → (n ≡ 0) × (length bytes ≤ length out) × (lentTo n value bytes out .out ≡ sets out 0 bytes)
     go true e true z =
-        let done : numberOf (Refused 8) ≡ numberOf (Done 0) = ap numberOf (rw (e, z) at h) in
+        let done : numberOf (Refused ROOM) ≡ numberOf (Done 0) = ap numberOf (rw (e, z) at h) in
         absurd (omega arith)
     go true e false z = (eqb-true n 0 e, ltb-false (length out) (length bytes) z, rw (e, z))
     go false e z w =
@@ -364,12 +366,12 @@ module _ (b : List ℕ) (es : List Entry) (c : Carried b es) where
     reply = leaves k b .reply
 
     -- it is refused 1 exactly for a path above 2, or for bytes that are no driver's record
-    pub refused-one : eqb (reply .refusal) 1 ≡ amiss (k .exported)
+    pub refused-one : eqb (reply .refusal) SETUP ≡ amiss (k .exported)
     refused-one = go pass
       where
-        go : Passed t inner number (amiss (k .exported)) (leaves k b) → eqb (reply .refusal) 1 ≡ amiss (k .exported)
-        go (away z told same bytes) = ap (λ (a : Reply). eqb (a .refusal) 1) same ∙ told .setup
-        go (made z told same room bytes) = ap (λ (a : Reply). eqb (a .refusal) 1) same ∙ told .setup
+        go : Passed t inner number (amiss (k .exported)) (leaves k b) → eqb (reply .refusal) SETUP ≡ amiss (k .exported)
+        go (away z told same bytes) = ap (λ (a : Reply). eqb (a .refusal) SETUP) same ∙ told .setup
+        go (made z told same room bytes) = ap (λ (a : Reply). eqb (a .refusal) SETUP) same ∙ told .setup
 
     -- #106, "refusal 5 goes with it": no call is refused 5
     pub never-five : eqb (reply .refusal) 5 ≡ false
@@ -408,22 +410,22 @@ module _ (b : List ℕ) (es : List Entry) (c : Carried b es) where
             (sequence.section-read t es calls inner (typed-given (inner .order) t h) more)
 
     -- "11 step | a step other than a closing failed": exactly then, read off those entries
-    pub eleven-exactly : eqb (reply .refusal) 11 ≡ not (every passable (entriesOf k b))
+    pub eleven-exactly : eqb (reply .refusal) STEP ≡ not (every passable (entriesOf k b))
     eleven-exactly = go pass
       where
-        go : Passed t inner number (amiss (k .exported)) (leaves k b) → eqb (reply .refusal) 11 ≡ not (every passable (entriesOf k b))
+        go : Passed t inner number (amiss (k .exported)) (leaves k b) → eqb (reply .refusal) STEP ≡ not (every passable (entriesOf k b))
         go (away z told same bytes) =
-            ap (λ (a : Reply). eqb (a .refusal) 11) same
+            ap (λ (a : Reply). eqb (a .refusal) STEP) same
             ∙ told .step
             ∙ sym (ap (λ (l : List Entry). not (every passable l)) (away-entries (leaves k b) number same) ∙ ap not nothing-failed)
         go (made z told same room bytes) =
-            ap (λ (a : Reply). eqb (a .refusal) 11) same
+            ap (λ (a : Reply). eqb (a .refusal) STEP) same
             ∙ told .step
             ∙ eleven.eleven-exactly t es calls inner (typed-given (inner .order) t h)
             ∙ sym (ap (λ (l : List Entry). not (every passable l)) (made-entries t es calls ranges inner h (leaves k b) same room))
 
     -- refused 11, it was made, and its answer names the entry of its index
-    pub stopped : reply .refusal ≡ 11
+    pub stopped : reply .refusal ≡ STEP
         → (eqb number 0 ≡ true) × (result inner t .answer ≡ Stopped (reply .index)) × (entriesOf k b ≡ entries inner t)
     stopped e = go pass
       where
@@ -435,16 +437,16 @@ module _ (b : List ℕ) (es : List Entry) (c : Carried b es) where
         go : Passed t inner number (amiss (k .exported)) (leaves k b)
             → (eqb number 0 ≡ true) × (result inner t .answer ≡ Stopped (reply .index)) × (entriesOf k b ≡ entries inner t)
         go (away z told same bytes) =
-            absurd (true≢false (sym (eq-eqb number 11 (sym (ap (λ (a : Reply). a .refusal) same) ∙ e)) ∙ told .step))
+            absurd (true≢false (sym (eq-eqb number STEP (sym (ap (λ (a : Reply). a .refusal) same) ∙ e)) ∙ told .step))
         go (made z told same room bytes) =
-            let stop : stops (result inner t .answer) ≡ true = sym (told .step) ∙ eq-eqb (numberOf (result inner t .answer)) 11 (sym (ap (λ (a : Reply). a .refusal) same) ∙ e) in (
+            let stop : stops (result inner t .answer) ≡ true = sym (told .step) ∙ eq-eqb (numberOf (result inner t .answer)) STEP (sym (ap (λ (a : Reply). a .refusal) same) ∙ e) in (
               z,
               by-answer (result inner t .answer) stop ∙ ap Stopped (sym (ap (λ (a : Reply). a .index) same)),
               made-entries t es calls ranges inner h (leaves k b) same room,
             )
 
     -- (e) "11 also gives the failing entry's index"
-    pub index-told : reply .refusal ≡ 11 → progressIn (entriesOf k b) ≡ Refused11 (reply .index)
+    pub index-told : reply .refusal ≡ STEP → progressIn (entriesOf k b) ≡ Refused11 (reply .index)
     index-told e =
         let p = stopped e in
         ap progressIn (p .2) ∙ sequence.index-told t es calls inner (typed-given (inner .order) t h) (reply .index) (p .1)
@@ -459,7 +461,7 @@ module _ (b : List ℕ) (es : List Entry) (c : Carried b es) where
       go (made y told same room bytes) = made-entries t es calls ranges (inner k h) h (leaves k b) same room
 
   -- (c) "A cut call made the steps of the uncut one up to the failing step, then at most the repeater's closing", each read from its own room
-  pub cut-uncut : (k : Lent) → typed (k .exported) ≡ true → leaves k b .reply .refusal ≡ 11
+  pub cut-uncut : (k : Lent) → typed (k .exported) ≡ true → leaves k b .reply .refusal ≡ STEP
       → Cut (leaves k b .reply .index) (entriesOf k b) (entriesOf (uncut (leaves k b .reply .index) k) b)
   cut-uncut k h e =
       let p = stopped k h e in

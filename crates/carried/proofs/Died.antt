@@ -15,7 +15,8 @@ use Rattle.chip.specs.Chips.{attemptedBy, maskOf}
 use Rattle.chip.specs.Courses.{leftBy}
 use Rattle.chip.specs.Entries.{repeater}
 use Rattle.chip.specs.Steps.{every, run, step, trace}
-use Rattle.lending.specs.Lent.{lentTo}
+use Rattle.refusals.specs.Lent.{lentTo}
+use Rattle.refusals.specs.Table.{STEP}
 use Rattle.r82xx.specs.declared.Tuner.{Tuner}
 use Rattle.r82xx.specs.Orders.{bracket}
 use Rattle.r82xx.specs.Orders.Order.{Bandwidth}
@@ -88,7 +89,7 @@ unfolding madeOf tooShort trace run step attemptedBy maskOf bracket
 told-three = ap length (met tuner in-ranges setting (memory (0 ∷ 1 ∷ 1 ∷ [])) (kept-so .known .numbers) (kept-so .known .taken) .entries)
 
 pub died-told : (length (heard setting new (memory (0 ∷ 1 ∷ 1 ∷ []))) ≡ 3)
-    × (leaves (calledWith setting (memory (0 ∷ 1 ∷ 1 ∷ []))) new .reply .refusal ≡ 11)
+    × (leaves (calledWith setting (memory (0 ∷ 1 ∷ 1 ∷ []))) new .reply .refusal ≡ STEP)
     × (leaves (calledWith setting (memory (0 ∷ 1 ∷ 1 ∷ []))) new .reply .index ≡ 1)
     × (getD (leaves (calledWith setting (memory (0 ∷ 1 ∷ 1 ∷ []))) new .bytes) (51 + 5) 1 ≡ 1)
 unfolding madeOf lentTo tunerBytes joined leBytes overTuner unlessRefused readyOf tunerOf isTuner tunerFits flagsOnly leValue

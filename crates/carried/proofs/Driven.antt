@@ -18,12 +18,13 @@ use Rattle.board.specs.declared.BoardRead.{BoardRead}
 use Rattle.board.specs.declared.BoardRead.the-variants as board-read
 use Rattle.board.specs.Numbers.{boardOf}
 use Rattle.boards.specs.Hops.{heardBy, hopKept, hopResult, hopRow}
-use Rattle.chip.specs.declared.Answer.{Answer}
-use Rattle.chip.specs.declared.Answer.the-variants.{Done, Refused, Stopped}
+use Rattle.refusals.specs.declared.Answer.{Answer}
+use Rattle.refusals.specs.declared.Answer.the-variants.{Done, Refused, Stopped}
 use Rattle.chip.specs.declared.Chip.{Chip}
 use Rattle.chip.specs.declared.Progress.{Progress}
 use Rattle.chip.specs.declared.Progress.the-variants.{Going, Refused11}
-use Rattle.chip.specs.Calls.{Called, answerOf, callOf, called, numberOf, performed, refusalWith}
+use Rattle.refusals.specs.Answers.{numberOf}
+use Rattle.chip.specs.Calls.{Called, answerOf, callOf, called, performed, refusalWith}
 use Rattle.chip.specs.Courses.{Course, leftBy, stepsOf}
 use Rattle.chip.specs.Courses.Course.{Still, Taken}
 use Rattle.chip.specs.Steps.{trace}
@@ -31,7 +32,8 @@ use Rattle.driver.specs.declared.Driver.{Driver}
 use Rattle.driver.specs.Record.{driver, driverOf as madeDriver, made, madeOn, nothingMade, soundDriver, withPpm, xtalBy, xtalOf}
 use Rattle.driver.specs.Calls.{Both, both, correctionCall, correctionResult, correctionRow, ratedBy, rateResult, rateRow, retuned}
 use Rattle.driver.specs.Programs.{ifFor}
-use Rattle.lending.specs.Lent.{lentTo}
+use Rattle.refusals.specs.Lent.{lentTo}
+use Rattle.refusals.specs.Table.{SETUP, CORRECTION, ROOM}
 use Rattle.pll.specs.declared.Pll.{Pll}
 use Rattle.pll.specs.declared.Pll.the-variants as pll
 use Rattle.registers.specs.Rates.{ratioOf, sentOf, trueOf}
@@ -118,12 +120,12 @@ module _ (t : Tuner) (d : Driver) (r : RangedDriver d) where
   correction-steady ppm f = go (leb 1 (xtalBy (t .nominal) ppm)) (leb 1 (xtalBy (d .nominal) ppm)) refl
     where
       go : (a b : Bool) → leb 1 (xtalBy (d .nominal) ppm) ≡ b
-          → Steady Heard (both t d) (cond (a && b) (Still (both (withCorrected t (xtalBy (t .nominal) ppm)) (withPpm d ppm)) (Done 0)) (Still (both t d) (Refused 4)))
+          → Steady Heard (both t d) (cond (a && b) (Still (both (withCorrected t (xtalBy (t .nominal) ppm)) (withPpm d ppm)) (Done 0)) (Still (both t d) (Refused CORRECTION)))
       go true true e =
           resting (both (withCorrected t (xtalBy (t .nominal) ppm)) (withPpm d ppm)) (Done 0) refl (λ q. absurd (true≢false q))
           (record { nominal = r .nominal; ppm = f; frequency = r .frequency; rate = r .rate; actual = r .actual; right = leb-true 1 (xtalBy (d .nominal) ppm) e })
-      go true false e = resting (both t d) (Refused 4) refl (λ q. refl) r
-      go false b e = resting (both t d) (Refused 4) refl (λ q. refl) r
+      go true false e = resting (both t d) (Refused CORRECTION) refl (λ q. refl) r
+      go false b e = resting (both t d) (Refused CORRECTION) refl (λ q. refl) r
 
   pub hop-steady : (hz : ℕ) (p : Planned) (rs : List ℕ) → hz < 18_446_744_073_709_551_616 → Steady Heard (both t d) (hopRow p hz rs t d)
   hop-steady hz p rs h =
@@ -138,7 +140,7 @@ pub left-count : {R : Type 0} (s : Bool) (row : Course R) (os : List ℕ) (c : C
 unfolding leftBy callOf
 left-count s (Still next answer) os c old room h = go s
   where
-    go : (b : Bool) → cond b (called next room 0 answer) (called old room 0 (Refused 1)) .count ≤ 64
+    go : (b : Bool) → cond b (called next room 0 answer) (called old room 0 (Refused SETUP)) .count ≤ 64
     go true = omega arith
     go false = omega arith
 left-count s (Taken argument n m rs whole ss keep) os c old room h = go (eqb (refusalWith s argument n m (length room) (length os) (length rs)) 0)
@@ -158,7 +160,7 @@ pub slot-long : (ok : Bool) (number slot next : ℕ) → eqb (bothReady ok numbe
 unfolding bothReady
 slot-long ok number slot next z = go ok (eqb number 0) refl (ltb slot 29) refl (ltb next 78) z
   where
-    go : (k a : Bool) → eqb number 0 ≡ a → (y : Bool) → ltb slot 29 ≡ y → (w : Bool) → eqb (cond k (cond a (cond (y || w) 8 0) number) 1) 0 ≡ true → 29 ≤ slot
+    go : (k a : Bool) → eqb number 0 ≡ a → (y : Bool) → ltb slot 29 ≡ y → (w : Bool) → eqb (cond k (cond a (cond (y || w) ROOM 0) number) SETUP) 0 ≡ true → 29 ≤ slot
     go true true e false q w h = ltb-false slot 29 q
     go true true e true q w h = absurd (false≢true h)
     go true false e y q w h = absurd (true≢false (sym h ∙ e))
@@ -191,8 +193,8 @@ made-driver board-read.Refused nominal ppm frequency rate p f r h = absurd (omeg
 made-driver (board-read.Is board) nominal ppm frequency rate p f r h = go (leb 1 nominal) (leb nominal 4_294_967_295) refl (leb 1 (xtalBy nominal ppm)) refl h
   where
     go : (a b : Bool) → leb nominal 4_294_967_295 ≡ b → (x : Bool) → leb 1 (xtalBy nominal ppm) ≡ x
-        → numberOf (cond (a && b) (cond x (made (Done 0) (driver board nominal ppm frequency rate 0)) (nothingMade 4)) (nothingMade 1) .answer) ≡ 0
-        → RangedDriver (cond (a && b) (cond x (made (Done 0) (driver board nominal ppm frequency rate 0)) (nothingMade 4)) (nothingMade 1) .driver)
+        → numberOf (cond (a && b) (cond x (made (Done 0) (driver board nominal ppm frequency rate 0)) (nothingMade CORRECTION)) (nothingMade SETUP) .answer) ≡ 0
+        → RangedDriver (cond (a && b) (cond x (made (Done 0) (driver board nominal ppm frequency rate 0)) (nothingMade CORRECTION)) (nothingMade SETUP) .driver)
     go true true e true q n =
         record { nominal = omega (arith, leb-true nominal 4_294_967_295 e); ppm = p; frequency = f; rate = r; actual = omega arith; right = leb-true 1 (xtalBy nominal ppm) q }
     go true true e false q n = absurd (omega arith)
@@ -238,7 +240,7 @@ module _ (d : Driver) (r : RangedDriver d) (tuner : List ℕ) where
       s : Settled Heard (both u d) (leftBy (sound u && soundDriver d) (correctionRow ppm u d) [] (u .chip) (both u d) [])
       s = row-settled Heard (both u d) r (u .chip) (sound u && soundDriver d) [] [] (correctionRow ppm u d) (correction-steady u d r ppm f)
 
-      go : (b : Bool) → Kept (cond (b && true) (correctsMade (correctionCall ppm u d) tuner (driverBytes d)) (corrects (replyOf (Refused 1) 0) tuner (driverBytes d)) .driver)
+      go : (b : Bool) → Kept (cond (b && true) (correctsMade (correctionCall ppm u d) tuner (driverBytes d)) (corrects (replyOf (Refused SETUP) 0) tuner (driverBytes d)) .driver)
       go false = record { record-of = d; bytes = refl; ranges = r }
       go true =
           record {
@@ -278,13 +280,13 @@ module _ (b : List ℕ) (es : List Entry) (c : Carried b es) (d : List ℕ) (v :
   found-there : (not (driverOf d .ok) || false) ≡ false
   found-there = rw (driver-readable d v)
 
-  pub rate-taken : (rate : ℕ) (table slot : List ℕ) → eqb (leaves (lent (Rate rate table d slot) os room out) b .reply .refusal) 1 ≡ false
+  pub rate-taken : (rate : ℕ) (table slot : List ℕ) → eqb (leaves (lent (Rate rate table d slot) os room out) b .reply .refusal) SETUP ≡ false
   rate-taken rate table slot = refused-one b es c (lent (Rate rate table d slot) os room out) refl ∙ found-there
 
-  pub correction-taken : (ppm : ℤ) → eqb (leaves (lent (Correct ppm d) os room out) b .reply .refusal) 1 ≡ false
+  pub correction-taken : (ppm : ℤ) → eqb (leaves (lent (Correct ppm d) os room out) b .reply .refusal) SETUP ≡ false
   correction-taken ppm = refused-one b es c (lent (Correct ppm d) os room out) refl ∙ found-there
 
-  pub hop-taken : (hz : ℕ) (table rs slot : List ℕ) → every isByte rs ≡ true → eqb (leaves (lent (Hop hz table rs d slot) os room out) b .reply .refusal) 1 ≡ false
+  pub hop-taken : (hz : ℕ) (table rs slot : List ℕ) → every isByte rs ≡ true → eqb (leaves (lent (Hop hz table rs d slot) os room out) b .reply .refusal) SETUP ≡ false
   hop-taken hz table rs slot h = refused-one b es c (lent (Hop hz table rs d slot) os room out) h ∙ found-there
 
 -- there is such a driver: a generic board's, made, and then corrected beside a tuner's bytes that are none

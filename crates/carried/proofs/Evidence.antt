@@ -12,7 +12,9 @@ use Rattle.transcript.specs.declared.Entry.{Entry}
 use Rattle.bands.specs.Tables.{planBy}
 use Rattle.boards.specs.Hops.{hopLockTries, pathReplies}
 use Rattle.chip.specs.declared.LockTries.{LockTries}
-use Rattle.chip.specs.Calls.{lockTriesIn, lockedIn, numberOf, triesIn}
+use Rattle.refusals.specs.Answers.{numberOf}
+use Rattle.refusals.specs.Table.{STEP}
+use Rattle.chip.specs.Calls.{lockTriesIn, lockedIn, triesIn}
 use Rattle.chip.specs.Courses.{leftBy}
 use Rattle.chip.specs.Steps.{every}
 use Rattle.driver.specs.declared.Driver.{Driver}
@@ -194,14 +196,14 @@ module _ (b : List ℕ) (es : List Entry) (c : Carried b es) where
       (board-tries-told b es c hz table rs driver slot os room out small)
 
   -- a call that is refused 11 says so: `last` is the failing entry, whose index the answer gives
-  pub cut-marked : (k : Lent) → typed (k .exported) ≡ true → leaves k b .reply .refusal ≡ 11
+  pub cut-marked : (k : Lent) → typed (k .exported) ≡ true → leaves k b .reply .refusal ≡ STEP
       → (x : Cut (leaves k b .reply .index) (entriesOf k b) (entriesOf (uncut (leaves k b .reply .index) k) b)) × Marked (getD b 1 0) (x .last) (es ++ entriesOf k b)
   cut-marked k h e =
       let x = cut-uncut b es c k h e in
       (x, marked (leaves k b .reply .index) (entriesOf k b) (entriesOf (uncut (leaves k b .reply .index) k) b) x (getD b 1 0) es)
 
   -- a rate that is refused 11 wrote no register of the demodulator, or it says so
-  pub cut-rate : (rate : ℕ) (table driver slot os room out : List ℕ) → leaves (lent (Rate rate table driver slot) os room out) b .reply .refusal ≡ 11
+  pub cut-rate : (rate : ℕ) (table driver slot os room out : List ℕ) → leaves (lent (Rate rate table driver slot) os room out) b .reply .refusal ≡ STEP
       → (every tuners (entriesOf (lent (Rate rate table driver slot) os room out) b) ≡ true)
       ⊎ CutRate (ifFor (tunerOf b .tuner .ifreq) rate) (xtalOf (driverOf driver .driver)) (es ++ entriesOf (lent (Rate rate table driver slot) os room out) b)
   cut-rate rate table driver slot os room out e =

@@ -15,8 +15,9 @@ use lib.Seq.{length-sets, sets, take-all}
 use Rattle.wire.specs.Bytes.{Bytes}
 use Rattle.transcript.specs.declared.Entry.{Entry}
 use Rattle.attempts.specs.Attempts.{Played, Regs, byteIn, lastIn}
-use Rattle.chip.specs.declared.Answer.{Answer}
-use Rattle.chip.specs.declared.Answer.the-variants.{Done, Refused, Stopped}
+use Rattle.refusals.specs.declared.Answer.{Answer}
+use Rattle.refusals.specs.declared.Answer.the-variants.{Done, Refused, Stopped}
+use Rattle.refusals.specs.Table.{SETUP, STEP, COMMAND}
 use Rattle.chip.specs.declared.Progress.the-variants.{Refused11}
 use Rattle.chip.specs.Calls.{Called, called}
 use Rattle.chip.specs.Courses.{leftBy}
@@ -56,11 +57,11 @@ use Rattle.carried.specs.Fed.Makes.{tunes, rates, gains, steps, narrows,
 use Rattle.carried.proofs.Demand.{behind, cut-uncut, index-told, long, never-five, readable, refused-one, reload-done}
 use Rattle.carried.proofs.Passed.{few}
 
-run-none : (x : Command) (table rs os d b room : List ℕ) → isUnknown x ≡ false → driverOf d .ok ≡ false → runOver x table rs os d b room ≡ notRun 1 d b room
+run-none : (x : Command) (table rs os d b room : List ℕ) → isUnknown x ≡ false → driverOf d .ok ≡ false → runOver x table rs os d b room ≡ notRun SETUP d b room
 unfolding runOver
 run-none x table rs os d b room known e = rw (known, e)
 
-run-unknown : (x : Command) (table rs os d b room : List ℕ) → isUnknown x ≡ true → runOver x table rs os d b room ≡ notRun 14 d b room
+run-unknown : (x : Command) (table rs os d b room : List ℕ) → isUnknown x ≡ true → runOver x table rs os d b room ≡ notRun COMMAND d b room
 unfolding runOver
 run-unknown x table rs os d b room unknown = rw unknown
 
@@ -231,20 +232,20 @@ module _ (b : List ℕ) (es : List Entry) (c : Carried b es) (table rs os d room
     made-goes x e m = subst (Goes es) (run-is-call x e m) (next b es c (lent e os room b) (made-typed x e m .0))
 
     -- 1 is told of nothing: the tuner's bytes are a record, and so are the driver's
-    made-one : (x : Command) (e : Exported) → Makes table rs d x e → eqb (runOver x table rs os d b room .answer .refusal) 1 ≡ false
+    made-one : (x : Command) (e : Exported) → Makes table rs d x e → eqb (runOver x table rs os d b room .answer .refusal) SETUP ≡ false
     made-one x e m =
-        subst (λ (z : Left). eqb (z .reply .refusal) 1 ≡ false) (run-is-call x e m)
+        subst (λ (z : Left). eqb (z .reply .refusal) SETUP ≡ false) (run-is-call x e m)
         (refused-one b es c (lent e os room b) (made-typed x e m .0) ∙ made-typed x e m .1)
 
-    run-one : (x : Command) → eqb (runOver x table rs os d b room .answer .refusal) 1 ≡ false
+    run-one : (x : Command) → eqb (runOver x table rs os d b room .answer .refusal) SETUP ≡ false
     run-one x = go (makes-or-none table rs d x)
       where
-        go : (isUnknown x ≡ true) ⊎ ((e : Exported) × Makes table rs d x e) → eqb (runOver x table rs os d b room .answer .refusal) 1 ≡ false
-        go (inl none) = ap (λ (h : Hops). eqb (h .answer .refusal) 1) (run-unknown x table rs os d b room none)
+        go : (isUnknown x ≡ true) ⊎ ((e : Exported) × Makes table rs d x e) → eqb (runOver x table rs os d b room .answer .refusal) SETUP ≡ false
+        go (inl none) = ap (λ (h : Hops). eqb (h .answer .refusal) SETUP) (run-unknown x table rs os d b room none)
         go (inr made) = made-one x (made .0) (made .1)
 
     -- a feeding is refused 1 for bytes that are no stream's or no driver's alone
-    pub fed-one : (chunk stream : List ℕ) → isStream stream ≡ true → eqb (feedOver table chunk rs os stream d b room .answer .refusal) 1 ≡ false
+    pub fed-one : (chunk stream : List ℕ) → isStream stream ≡ true → eqb (feedOver table chunk rs os stream d b room .answer .refusal) SETUP ≡ false
     unfolding feedOver
     fed-one chunk stream h = rw h (go (eqb (length (gathered (pendingOf stream) chunk)) 9))
       where
@@ -290,7 +291,7 @@ module _ (b : List ℕ) (es : List Entry) (c : Carried b es) (table rs os d room
 
       go : (z y : Bool)
           → eqb
-          (cond z (cond y (completedBy used (runOver (commandOf bytes) table rs os d b room)) (waitingBy used bytes d b room)) (feeds (fedOf (noCommand (Refused 1)) 0 0 0) stream d b room) .answer .refusal)
+          (cond z (cond y (completedBy used (runOver (commandOf bytes) table rs os d b room)) (waitingBy used bytes d b room)) (feeds (fedOf (noCommand (Refused SETUP)) 0 0 0) stream d b room) .answer .refusal)
           5
           ≡ false
       go true true = run-never-five (commandOf bytes)
@@ -309,7 +310,7 @@ module _ (b : List ℕ) (es : List Entry) (c : Carried b es) (table rs os d room
       used = usedBy (pendingOf stream) chunk
 
       refused : Feeds
-      refused = feeds (fedOf (noCommand (Refused 1)) 0 0 0) stream d b room
+      refused = feeds (fedOf (noCommand (Refused SETUP)) 0 0 0) stream d b room
 
       Left-so : Feeds → Type 0
       Left-so f = Carried (f .tuner) (es ++ fedEntries f)
@@ -344,11 +345,11 @@ module _ (b : List ℕ) (es : List Entry) (c : Carried b es) (table rs os d room
     pub exported : Exported
     pub makes : Makes table rs d (commandOf nine) exported
 
-  eleven-makes : feedOver table chunk rs os stream d b room .answer .refusal ≡ 11 → Cuts
+  eleven-makes : feedOver table chunk rs os stream d b room .answer .refusal ≡ STEP → Cuts
   unfolding feedOver
   eleven-makes = go (isStream stream) refl (eqb (length nine) 9) refl
     where
-      ran : (w : Completes stream chunk) → runOver (commandOf nine) table rs os d b room .answer .refusal ≡ 11 → Cuts
+      ran : (w : Completes stream chunk) → runOver (commandOf nine) table rs os d b room .answer .refusal ≡ STEP → Cuts
       ran w h = by (makes-or-none table rs d (commandOf nine)) (driverOf d .ok) refl
         where
           by : (isUnknown (commandOf nine) ≡ true) ⊎ ((e : Exported) × Makes table rs d (commandOf nine) e) → (z : Bool) → driverOf d .ok ≡ z → Cuts
@@ -364,14 +365,14 @@ module _ (b : List ℕ) (es : List Entry) (c : Carried b es) (table rs os d room
       go : (z : Bool) → isStream stream ≡ z → (y : Bool) → eqb (length nine) 9 ≡ y
           → cond z
           (cond y (completedBy (usedBy (pendingOf stream) chunk) (runOver (commandOf nine) table rs os d b room)) (waitingBy (usedBy (pendingOf stream) chunk) nine d b room))
-          (feeds (fedOf (noCommand (Refused 1)) 0 0 0) stream d b room) .answer .refusal
+          (feeds (fedOf (noCommand (Refused SETUP)) 0 0 0) stream d b room) .answer .refusal
           ≡ 11
           → Cuts
       go true s true n h = ran (record { valid = s; whole = n }) h
       go true s false n h = absurd (omega arith)
       go false s y n h = absurd (omega arith)
 
-  module _ (h : feedOver table chunk rs os stream d b room .answer .refusal ≡ 11) where
+  module _ (h : feedOver table chunk rs os stream d b room .answer .refusal ≡ STEP) where
     abbrev cuts : Cuts
     cuts = eleven-makes h
 
@@ -385,7 +386,7 @@ module _ (b : List ℕ) (es : List Entry) (c : Carried b es) (table rs os d room
         ≡ leaves (lent (cuts .exported) os room b) b
     own-left os = fed-call (cuts .completes) (cuts .driver) (cuts .exported) (cuts .makes) os
 
-    own-eleven : leaves own b .reply .refusal ≡ 11
+    own-eleven : leaves own b .reply .refusal ≡ STEP
     own-eleven = sym (ap (λ (l : Left). l .reply .refusal) (own-left os)) ∙ h
 
     own-index : leaves own b .reply .index ≡ feedOver table chunk rs os stream d b room .answer .index

@@ -5,10 +5,12 @@ use mathlib.Core.Bool.{Bool, true, false, cond}
 use mathlib.Core.List.{List}
 use lib.Dec.{eqb, ltb}
 use lib.ListN.{length}
-use Rattle.chip.specs.declared.Answer.the-variants.{Done, Refused}
+use Rattle.refusals.specs.declared.Answer.the-variants.{Done, Refused}
 use Rattle.chip.specs.declared.Progress.{Progress}
 use Rattle.chip.specs.declared.Progress.the-variants.{Going, Refused11}
-use Rattle.chip.specs.Calls.{Called, answerOf, callOf, called, numberOf, performed, refusalWith, tooShort}
+use Rattle.refusals.specs.Answers.{numberOf}
+use Rattle.refusals.specs.Table.{CORRECTION, PIN}
+use Rattle.chip.specs.Calls.{Called, answerOf, callOf, called, performed, refusalWith, tooShort}
 use Rattle.chip.specs.Courses.{leftBy}
 use Rattle.chip.specs.Steps.{Step, trace}
 use Rattle.device.specs.Calls.{free, freeResult, noChip}
@@ -49,14 +51,14 @@ module _ (argument n m : ℕ) (rs os room : List ℕ) (ss : List Step) (h : eqb 
 pin-told : (pin : ℕ) → eqb (pinRefusal pin) 5 ≡ false
 pin-told pin = go (ltb 7 pin)
   where
-    go : (b : Bool) → eqb (cond b 6 0) 5 ≡ false
+    go : (b : Bool) → eqb (cond b PIN 0) 5 ≡ false
     go true = refl
     go false = refl
 
 xtal-told : (xtal : ℕ) → eqb (xtalNumber xtal 0) 5 ≡ false
 xtal-told xtal = go (eqb xtal 0)
   where
-    go : (b : Bool) → eqb (cond b 4 0) 5 ≡ false
+    go : (b : Bool) → eqb (cond b CORRECTION 0) 5 ≡ false
     go true = refl
     go false = refl
 

@@ -14,17 +14,19 @@ use Rattle.answers.specs.Lent.{tableInto, wordBytes}
 use Rattle.bands.specs.Tables.{planBy}
 use Rattle.board.specs.Numbers.{pathOf}
 use Rattle.boards.specs.Hops.{hopResult}
-use Rattle.chip.specs.declared.Answer.{Answer}
-use Rattle.chip.specs.declared.Answer.the-variants.{Done, Refused, Stopped}
-use Rattle.chip.specs.Calls.{Called, called, numberOf}
+use Rattle.refusals.specs.declared.Answer.{Answer}
+use Rattle.refusals.specs.declared.Answer.the-variants.{Done, Refused, Stopped}
+use Rattle.refusals.specs.Answers.{numberOf}
+use Rattle.chip.specs.Calls.{Called, called}
 use Rattle.chip.specs.Courses.{Course, argumentOf, leftBy}
 use Rattle.chip.specs.Courses.Course.{Still}
 use Rattle.driver.specs.declared.Driver.{Driver}
 use Rattle.driver.specs.Record.{soundDriver, xtalBy}
 use Rattle.driver.specs.Calls.{Both, boardRow, correctionCall, rateResult}
 use Rattle.gain.specs.Steps.{steps}
-use Rattle.lending.specs.Lent.{given, lentTo}
-use Rattle.lending.proofs.Giving.{covered, laid}
+use Rattle.refusals.specs.Lent.{given, lentTo}
+use Rattle.refusals.proofs.Giving.{covered, laid}
+use Rattle.refusals.specs.Table.{SETUP, CORRECTION, ROOM, STEP}
 use Rattle.r82xx.specs.declared.Tuner.{Tuner}
 use Rattle.r82xx.specs.Record.{sound, withNotch}
 use Rattle.r82xx.specs.Orders as tuner
@@ -131,8 +133,8 @@ driver-sound b h =
 
 -- what a refusal number tells: 1 where something is amiss, 11 where a step failed, and never 5, which went with the mask leaf (#106)
 pub record Told (number : ℕ) (one eleven : Bool) : Type 0 where
-  pub setup : eqb number 1 ≡ one
-  pub step : eqb number 11 ≡ eleven
+  pub setup : eqb number SETUP ≡ one
+  pub step : eqb number STEP ≡ eleven
   pub never : eqb number 5 ≡ false
 
 -- how a call k on a record's bytes ended: turned away by a number before any step, or made where the number is 0. `one` is whether it is refused 1
@@ -212,19 +214,19 @@ module _ (t : Tuner) (r : Ranged t) where
 
     -- by an argument's number, by 8, and by what the call itself answers
     argument-says : Told argument (pathless o) false
-    argument-says = record { setup = argument-told (λ n. eqb n 1) ones o t ∙ and-true (pathless o); step = argument-told (λ n. eqb n 11) elevens o t ∙ and-false (pathless o); never = argument-told (λ n. eqb n 5) fives o t ∙ and-false (pathless o) }
+    argument-says = record { setup = argument-told (λ n. eqb n SETUP) ones o t ∙ and-true (pathless o); step = argument-told (λ n. eqb n STEP) elevens o t ∙ and-false (pathless o); never = argument-told (λ n. eqb n 5) fives o t ∙ and-false (pathless o) }
 
     unrefused : eqb argument 0 ≡ true → pathless o ≡ false
     unrefused e = sym (argument-says .setup) ∙ ap (λ (n : ℕ). eqb n 1) (eqb-true argument 0 e)
 
-    short-says : eqb argument 0 ≡ true → Told 8 (pathless o) false
+    short-says : eqb argument 0 ≡ true → Told ROOM (pathless o) false
     short-says e = record { setup = sym (unrefused e); step = refl; never = refl }
 
     call-says : soundFor o t ≡ true → eqb argument 0 ≡ true → Told (numberOf (resultOf o os room t .answer)) (pathless o) (stops (resultOf o os room t .answer))
     call-says good e =
         record {
-          setup = number-told (λ n. eqb n 1) ones o os room t fields h good e ∙ and-false (stops (resultOf o os room t .answer)) ∙ sym (unrefused e);
-          step = number-told (λ n. eqb n 11) elevens o os room t fields h good e ∙ and-true (stops (resultOf o os room t .answer));
+          setup = number-told (λ n. eqb n SETUP) ones o os room t fields h good e ∙ and-false (stops (resultOf o os room t .answer)) ∙ sym (unrefused e);
+          step = number-told (λ n. eqb n STEP) elevens o os room t fields h good e ∙ and-true (stops (resultOf o os room t .answer));
           never = number-told (λ n. eqb n 5) fives o os room t fields h good e ∙ and-false (stops (resultOf o os room t .answer));
         }
 
@@ -312,7 +314,7 @@ module _ (t : Tuner) (r : Ranged t) where
     where
       go : (b : Bool)
           → Passed t (call (Tuned TableTold) os room) (cond b 8 0) false
-          (left (replyOf (cond b (given (Refused 8) out) (given (Done 0) (sets out 0 (wordBytes (map pos steps)))) .answer) 0) room (tunerBytes t))
+          (left (replyOf (cond b (given (Refused ROOM) out) (given (Done 0) (sets out 0 (wordBytes (map pos steps)))) .answer) 0) room (tunerBytes t))
       go true = away refl (record { setup = refl; step = refl; never = refl }) refl refl
       go false = rest-row TableTold os room t 0 refl
 
@@ -337,8 +339,8 @@ module _ (t : Tuner) (r : Ranged t) where
   corrected-any false false u v x y os room = refl
 
   still-says : (b : Bool) (u v : Both) (os room : List ℕ)
-      → Told (numberOf (leftBy true (tunerPart (cond b (Still u (Done 0)) (Still v (Refused 4)))) os (t .chip) t room .answer)) false
-      (stops (leftBy true (tunerPart (cond b (Still u (Done 0)) (Still v (Refused 4)))) os (t .chip) t room .answer))
+      → Told (numberOf (leftBy true (tunerPart (cond b (Still u (Done 0)) (Still v (Refused CORRECTION)))) os (t .chip) t room .answer)) false
+      (stops (leftBy true (tunerPart (cond b (Still u (Done 0)) (Still v (Refused CORRECTION)))) os (t .chip) t room .answer))
   unfolding leftBy
   still-says true u v os room = record { setup = refl; step = refl; never = refl }
   still-says false u v os room = record { setup = refl; step = refl; never = refl }
@@ -371,7 +373,7 @@ module _ (t : Tuner) (r : Ranged t) where
 
       go : (b : Bool) → driverOf driver .ok ≡ b
           → Passed t k (cond b 0 1) (not b || false)
-          (byCorrects (cond b (correctsMade (correctionCall ppm t d) (tunerBytes t) driver) (corrects (replyOf (Refused 1) 0) (tunerBytes t) driver)) room)
+          (byCorrects (cond b (correctsMade (correctionCall ppm t d) (tunerBytes t) driver) (corrects (replyOf (Refused SETUP) 0) (tunerBytes t) driver)) room)
       go false e = away refl (record { setup = refl; step = refl; never = refl }) refl refl
       go true e =
           let good : (sound t && soundDriver d) ≡ true = rw (given-sound, driver-sound driver e) in

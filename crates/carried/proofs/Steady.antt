@@ -21,13 +21,15 @@ use Rattle.board.specs.Numbers.{pathOf}
 use Rattle.bands.specs.declared.Band.{Band}
 use Rattle.bands.specs.Tables.{bandsOf, holds as within, landed, planAt, planBy, planIn, refused, tableOk, tuned}
 use Rattle.boards.specs.Hops.{pathPart}
-use Rattle.chip.specs.declared.Answer.{Answer}
-use Rattle.chip.specs.declared.Answer.the-variants.{Done, Refused, Stopped}
+use Rattle.refusals.specs.declared.Answer.{Answer}
+use Rattle.refusals.specs.declared.Answer.the-variants.{Done, Refused, Stopped}
 use Rattle.chip.specs.declared.Chip.{Chip}
 use Rattle.chip.specs.declared.Update.{Update}
 use Rattle.chip.specs.declared.Progress.{Progress}
 use Rattle.chip.specs.declared.Progress.the-variants.{Going, Refused11}
-use Rattle.chip.specs.Calls.{Called, answerOf, callOf, called, tooShort, numberOf, performed, refusalWith}
+use Rattle.refusals.specs.Answers.{numberOf}
+use Rattle.refusals.specs.Table.{SETUP, FREQUENCY, RATE, CORRECTION, ROOM, OUTCOMES, REPLIES, STEP, RATIO, TABLE}
+use Rattle.chip.specs.Calls.{Called, answerOf, callOf, called, tooShort, performed, refusalWith}
 use Rattle.chip.specs.Courses.{Course, argumentOf, leftBy, repliesOf}
 use Rattle.chip.specs.Courses.Course.{Still, Taken}
 use Rattle.chip.specs.Steps.{Step, Trace, acts, whileOpen, every, inList, inner, line, okFor, run, step, taken, trace, updates}
@@ -87,25 +89,25 @@ plain (Stopped index) = true
 -- and one behind steps that are all done: a value, or the PLL's refusal
 abbrev pub late : Answer → Bool
 late (Done value) = true
-late (Refused number) = eqb number 2
+late (Refused number) = eqb number FREQUENCY
 late (Stopped index) = false
 
 -- a test of refusal numbers that none passes but 1 and 11: which of them is left is told by one law for both
 pub record Bare (test : ℕ → Bool) : Type 0 where
   pub none : test 0 ≡ false
-  pub frequency : test 2 ≡ false
-  pub rate : test 3 ≡ false
-  pub correction : test 4 ≡ false
-  pub room : test 8 ≡ false
-  pub outcomes : test 9 ≡ false
-  pub replies : test 10 ≡ false
-  pub ratio : test 13 ≡ false
-  pub table : test 19 ≡ false
+  pub frequency : test FREQUENCY ≡ false
+  pub rate : test RATE ≡ false
+  pub correction : test CORRECTION ≡ false
+  pub room : test ROOM ≡ false
+  pub outcomes : test OUTCOMES ≡ false
+  pub replies : test REPLIES ≡ false
+  pub ratio : test RATIO ≡ false
+  pub table : test TABLE ≡ false
 
-pub ones : Bare (λ n. eqb n 1)
+pub ones : Bare (λ n. eqb n SETUP)
 ones = record { none = refl; frequency = refl; rate = refl; correction = refl; room = refl; outcomes = refl; replies = refl; ratio = refl; table = refl }
 
-pub elevens : Bare (λ n. eqb n 11)
+pub elevens : Bare (λ n. eqb n STEP)
 elevens = record { none = refl; frequency = refl; rate = refl; correction = refl; room = refl; outcomes = refl; replies = refl; ratio = refl; table = refl }
 
 pub fives : Bare (λ n. eqb n 5)
@@ -156,13 +158,13 @@ kept-some (Stopped index) n h = ap not (ne-eqb n 0 (λ e. omega arith))
 
 late-plain : (whole : Answer) (w : Progress) → late whole ≡ true → plain (answerOf whole w) ≡ true
 late-plain (Done value) Going h = refl
-late-plain (Refused number) Going h = ap (λ (n : ℕ). not (eqb n 0)) (eqb-true number 2 h)
+late-plain (Refused number) Going h = ap (λ (n : ℕ). not (eqb n 0)) (eqb-true number FREQUENCY h)
 late-plain (Stopped index) Going h = refl
 late-plain whole (Refused11 k) h = refl
 
 module _ {R : Type 0} (P : R → Type 0) (old : R) (f : P old) (c : Chip) (s : Bool) (os room : List ℕ) where
   at-rest : (next : R) (answer : Answer) → plain answer ≡ true → (isWritten answer 0 ≡ false → next ≡ old) → P next → (b : Bool)
-      → Settled P old (cond b (called next room 0 answer) (called old room 0 (Refused 1)))
+      → Settled P old (cond b (called next room 0 answer) (called old room 0 (Refused SETUP)))
   at-rest next answer p k g true = record { named = p; same = k; ranges = g }
   at-rest next answer p k g false = record { named = refl; same = λ e. refl; ranges = f }
 
@@ -190,19 +192,19 @@ module _ (test : ℕ → Bool) (bare : Bare test) where
   unfolding tooShort
   lent-number n m room os rs = go (ltb room (16 * n + 8)) (ltb os n) (ltb rs m)
     where
-      go : (a b c : Bool) → test (cond a 8 (cond b 9 (cond c 10 0))) ≡ false
+      go : (a b c : Bool) → test (cond a ROOM (cond b OUTCOMES (cond c REPLIES 0))) ≡ false
       go true b c = bare .room
       go false true c = bare .outcomes
       go false false true = bare .replies
       go false false false = bare .none
 
-  late-number : (whole : Answer) (w : Progress) → late whole ≡ true → test (numberOf (answerOf whole w)) ≡ (stops (answerOf whole w) && test 11)
+  late-number : (whole : Answer) (w : Progress) → late whole ≡ true → test (numberOf (answerOf whole w)) ≡ (stops (answerOf whole w) && test STEP)
   late-number (Done value) Going h = bare .none
-  late-number (Refused number) Going h = ap test (eqb-true number 2 h) ∙ bare .frequency
+  late-number (Refused number) Going h = ap test (eqb-true number FREQUENCY h) ∙ bare .frequency
   late-number (Stopped index) Going h = refl
   late-number whole (Refused11 k) h = refl
 
-  rest-number : (answer : Answer) → eqb (numberOf answer) 0 ≡ true → test (numberOf answer) ≡ (stops answer && test 11)
+  rest-number : (answer : Answer) → eqb (numberOf answer) 0 ≡ true → test (numberOf answer) ≡ (stops answer && test STEP)
   rest-number (Done value) h = bare .none
   rest-number (Refused number) h = ap test (eqb-true number 0 h) ∙ bare .none
   rest-number (Stopped index) h = refl
@@ -210,12 +212,12 @@ module _ (test : ℕ → Bool) (bare : Bare test) where
   module _ (t : Tuner) (os room : List ℕ) where
     steps-number : (number : ℕ) (whole : Answer) (ss : List Step) (keep : Trace → Tuner) → late whole ≡ true → test number ≡ false → (b : Bool)
         → test (numberOf (cond b (performed whole keep room (trace os ss (t .chip))) (called t room 0 (Refused number)) .answer))
-        ≡ (stops (cond b (performed whole keep room (trace os ss (t .chip))) (called t room 0 (Refused number)) .answer) && test 11)
+        ≡ (stops (cond b (performed whole keep room (trace os ss (t .chip))) (called t room 0 (Refused number)) .answer) && test STEP)
     steps-number number whole ss keep p n true = late-number whole (trace os ss (t .chip) .progress) p
     steps-number number whole ss keep p n false = n
 
     pub row-number : (row : Course Tuner) → Steady Fielded t row → eqb (argumentOf row) 0 ≡ true
-        → test (numberOf (leftBy true row os (t .chip) t room .answer)) ≡ (stops (leftBy true row os (t .chip) t room .answer) && test 11)
+        → test (numberOf (leftBy true row os (t .chip) t room .answer)) ≡ (stops (leftBy true row os (t .chip) t room .answer) && test STEP)
     unfolding leftBy callOf
     row-number row (resting next answer p k g) h = rest-number answer h
     row-number row (stepping argument n m rs whole ss keep p b g) h =
@@ -269,13 +271,13 @@ module _ (t : Tuner) (f : Fielded t) where
   gain-steady k = bracket-steady 5 (gainUpdates k) _ t (withGain t (gainOf (stepAt k))) refl f (gained (stepAt k))
 
   path-steady : (p : PathRead) (kind : Kind) → Steady Fielded t (pathRow p kind t)
-  path-steady path-read.Refused kind = resting t (Refused 1) refl (λ e. refl) f
+  path-steady path-read.Refused kind = resting t (Refused SETUP) refl (λ e. refl) f
   path-steady (path-read.Is path) R820T = resting t (Done 0) refl (λ e. refl) f
   path-steady (path-read.Is path) R828D = bracket-steady 2 (pathUpdates path) (Done 0) t t refl f f
 
   board-steady : (p : PathRead) (rs : List ℕ) → Steady Fielded t (boardRow p rs t)
   unfolding outputSteps accessStep
-  board-steady path-read.Refused rs = resting t (Refused 1) refl (λ e. refl) f
+  board-steady path-read.Refused rs = resting t (Refused SETUP) refl (λ e. refl) f
   board-steady (path-read.Is path) rs = stepping 0 10 3 rs (Done 0) (boardPathSteps (t .kind) path rs) _ refl refl (λ tr. moved (tr .chip))
 
   pub whole-late : (plan : Pll) (hz : ℕ) → late (tuneAnswer plan hz) ≡ true
@@ -283,11 +285,11 @@ module _ (t : Tuner) (f : Fielded t) where
   whole-late (pll.Planned p) hz = refl
 
   correction-steady : (b : Bool) (v : ℕ) (ppm : ℤ) (d : Driver) → v < 4_294_967_296 → (b ≡ true → 1 ≤ v)
-      → Steady Fielded t (tunerPart (cond b (Still (both (withCorrected t v) (withPpm d ppm)) (Done 0)) (Still (both t d) (Refused 4))))
+      → Steady Fielded t (tunerPart (cond b (Still (both (withCorrected t v) (withPpm d ppm)) (Done 0)) (Still (both t d) (Refused CORRECTION))))
   correction-steady true v ppm d l r =
       resting (withCorrected t v) (Done 0) refl (λ e. absurd (true≢false e))
       (record { nominal = f .nominal; known = f .known; corrected = l; right = r refl; gain = f .gain; ifreq = f .ifreq })
-  correction-steady false v ppm d l r = resting t (Refused 4) refl (λ e. refl) f
+  correction-steady false v ppm d l r = resting t (Refused CORRECTION) refl (λ e. refl) f
 
   if-small : (rate : ℕ) → ifFor (t .ifreq) rate < 18_446_744_073_709_551_616
   if-small rate = go (eqb (t .ifreq) 0) (leb 2_500_000 rate) (leb 1_000_000 rate)
@@ -368,15 +370,15 @@ settled o os room t f h = subst (Settled Fielded t) (sym (result-row t os room o
 
 module _ (test : ℕ → Bool) (bare : Bare test) where
   pub number-told : (o : Order) (os room : List ℕ) (t : Tuner) → Fielded t → typedOrder o ≡ true → soundFor o t ≡ true → eqb (argumentOf (rowOf o t)) 0 ≡ true
-      → test (numberOf (resultOf o os room t .answer)) ≡ (stops (resultOf o os room t .answer) && test 11)
+      → test (numberOf (resultOf o os room t .answer)) ≡ (stops (resultOf o os room t .answer) && test STEP)
   number-told o os room t f h s a =
       let same : leftBy true (rowOf o t) os (t .chip) t room ≡ resultOf o os room t =
       ap (λ (b : Bool). leftBy b (rowOf o t) os (t .chip) t room) (sym s) ∙ sym (result-row t os room o) in
-      subst (λ (x : Called Tuner). test (numberOf (x .answer)) ≡ (stops (x .answer) && test 11)) same (row-number test bare t os room (rowOf o t) (steady t f o h) a)
+      subst (λ (x : Called Tuner). test (numberOf (x .answer)) ≡ (stops (x .answer) && test STEP)) same (row-number test bare t os room (rowOf o t) (steady t f o h) a)
 
   -- ---- the number of an argument's refusal: 1 for a number that names no path, and for nothing else; never 11
 
-  path-test : (path : ℕ) (kind : Kind) (t : Tuner) → test (argumentOf (pathRow (pathOf path) kind t)) ≡ (ltb 2 path && test 1)
+  path-test : (path : ℕ) (kind : Kind) (t : Tuner) → test (argumentOf (pathRow (pathOf path) kind t)) ≡ (ltb 2 path && test SETUP)
   unfolding bracket
   path-test zero R820T t = bare .none
   path-test zero R828D t = bare .none
@@ -384,13 +386,13 @@ module _ (test : ℕ → Bool) (bare : Bare test) where
   path-test (suc zero) R828D t = bare .none
   path-test (suc (suc zero)) R820T t = bare .none
   path-test (suc (suc zero)) R828D t = bare .none
-  path-test (suc (suc (suc n))) kind t = ap (λ (b : Bool). b && test 1) (sym (lt-ltb 2 (suc (suc (suc n))) (omega arith)))
+  path-test (suc (suc (suc n))) kind t = ap (λ (b : Bool). b && test SETUP) (sym (lt-ltb 2 (suc (suc (suc n))) (omega arith)))
 
-  board-test : (path : ℕ) (rs : List ℕ) (t : Tuner) → test (argumentOf (boardRow (pathOf path) rs t)) ≡ (ltb 2 path && test 1)
+  board-test : (path : ℕ) (rs : List ℕ) (t : Tuner) → test (argumentOf (boardRow (pathOf path) rs t)) ≡ (ltb 2 path && test SETUP)
   board-test zero rs t = bare .none
   board-test (suc zero) rs t = bare .none
   board-test (suc (suc zero)) rs t = bare .none
-  board-test (suc (suc (suc n))) rs t = ap (λ (b : Bool). b && test 1) (sym (lt-ltb 2 (suc (suc (suc n))) (omega arith)))
+  board-test (suc (suc (suc n))) rs t = ap (λ (b : Bool). b && test SETUP) (sym (lt-ltb 2 (suc (suc (suc n))) (omega arith)))
 
   hz-test : (b : Bool) → test (cond b 2 0) ≡ false
   hz-test true = bare .frequency
@@ -400,24 +402,24 @@ module _ (test : ℕ → Bool) (bare : Bare test) where
   unfolding rateNumber
   rate-test rate xtal = go (eqb rate 0) (eqb xtal 0) (ratioHolds (ratioOf rate xtal))
     where
-      go : (a b c : Bool) → test (cond a 3 (cond b 4 (cond c 0 13))) ≡ false
+      go : (a b c : Bool) → test (cond a RATE (cond b CORRECTION (cond c 0 RATIO))) ≡ false
       go true b c = bare .rate
       go false true c = bare .correction
       go false false true = bare .none
       go false false false = bare .ratio
 
-  argument-test : (b : Bool) (n : ℕ) → test n ≡ false → test (cond b 19 n) ≡ false
+  argument-test : (b : Bool) (n : ℕ) → test n ≡ false → test (cond b TABLE n) ≡ false
   argument-test true n h = bare .table
   argument-test false n h = h
 
-  pub still-test : (b : Bool) (u v : Both) → test (argumentOf (tunerPart (cond b (Still u (Done 0)) (Still v (Refused 4))))) ≡ false
+  pub still-test : (b : Bool) (u v : Both) → test (argumentOf (tunerPart (cond b (Still u (Done 0)) (Still v (Refused CORRECTION))))) ≡ false
   still-test true u v = bare .none
   still-test false u v = bare .correction
 
   landed-test : (b : Band) (z : ℤ) → test (landed b z .refusal) ≡ false
   landed-test b (pos hz) = go (ltb hz 18_446_744_073_709_551_616)
     where
-      go : (c : Bool) → test (cond c (tuned b hz) (refused 2) .refusal) ≡ false
+      go : (c : Bool) → test (cond c (tuned b hz) (refused FREQUENCY) .refusal) ≡ false
       go true = bare .none
       go false = bare .frequency
   landed-test b (negsuc n) = bare .frequency
@@ -435,15 +437,15 @@ module _ (test : ℕ → Bool) (bare : Bare test) where
   unfolding planBy
   table-test table hz = go (tableOk table) (plan-test (bandsOf table) hz)
     where
-      go : (c : Bool) → test (planIn (bandsOf table) hz .refusal) ≡ false → test (cond c (planIn (bandsOf table) hz) (refused 19) .refusal) ≡ false
+      go : (c : Bool) → test (planIn (bandsOf table) hz .refusal) ≡ false → test (cond c (planIn (bandsOf table) hz) (refused TABLE) .refusal) ≡ false
       go true p = p
       go false p = bare .table
 
-  hop-test : (refusal : ℕ) (b : Bool) → test refusal ≡ false → (c : Bool) → test (cond c (cond b 2 0) refusal) ≡ false
+  hop-test : (refusal : ℕ) (b : Bool) → test refusal ≡ false → (c : Bool) → test (cond c (cond b FREQUENCY 0) refusal) ≡ false
   hop-test refusal b h true = hz-test b
   hop-test refusal b h false = h
 
-  pub argument-told : (o : Order) (t : Tuner) → test (argumentOf (rowOf o t)) ≡ (pathless o && test 1)
+  pub argument-told : (o : Order) (t : Tuner) → test (argumentOf (rowOf o t)) ≡ (pathless o && test SETUP)
   unfolding bracket gainRow
   argument-told (Tuned Initialize) t = bare .none
   argument-told (Tuned Reload) t = bare .none
@@ -458,7 +460,7 @@ module _ (test : ℕ → Bool) (bare : Bare test) where
   argument-told (Tuned IfTold) t = bare .none
   argument-told (Tuned TableTold) t = bare .none
   argument-told (SampleRate rate table d) t =
-      argument-test (eqb (planBy table (d .frequency) .refusal) 19) (rateNumber rate (xtalOf d)) (rate-test rate (xtalOf d))
+      argument-test (eqb (planBy table (d .frequency) .refusal) TABLE) (rateNumber rate (xtalOf d)) (rate-test rate (xtalOf d))
   argument-told (Correction ppm d) t = still-test (leb 1 (xtalBy (t .nominal) ppm) && leb 1 (xtalBy (d .nominal) ppm)) _ _
   argument-told (BoardPath path rs) t = board-test path rs t
   argument-told (BoardTune hz table rs d) t =

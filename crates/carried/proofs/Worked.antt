@@ -18,7 +18,8 @@ use Rattle.device.specs.Gpio.Order.{Bit}
 use Rattle.driver.specs.Record.{xtalBy}
 use Rattle.driver.specs.Calls.{rateResult}
 use Rattle.boards.specs.Hops.{hopResult}
-use Rattle.lending.specs.Lent.{lentTo}
+use Rattle.refusals.specs.Lent.{lentTo}
+use Rattle.refusals.specs.Table.{STEP}
 use Rattle.pll.specs.Divide.{firstMixer, inVco}
 use Rattle.pll.specs.Fraction.{turnOf, turnsOf}
 use Rattle.pll.specs.Plan.{planOf, planWith}
@@ -102,7 +103,7 @@ unfolding madeOf lentTo tunerBytes joined leBytes overTuning overTuner unlessRef
 rated = refl
 
 -- entry 11 failed, which is no closing, and of the mux's registers 0x17 alone is in doubt
-pub hopped : (leaves hopping second .reply .refusal ≡ 11) × (leaves hopping second .reply .index ≡ 11)
+pub hopped : (leaves hopping second .reply .refusal ≡ STEP) × (leaves hopping second .reply .index ≡ 11)
 unfolding madeOf lentTo tunerBytes joined leBytes overTuning overTuner unlessRefused readyOf tunerOf isTuner tunerFits
     flagsOnly leValue leftBy callOf tooShort trace run step inVco firstMixer settingOf turnOf turnsOf planWith planOf
     innerSteps repairUpdates triesFrom replyBytes rangeOf lastAt reversed attemptedBy maskOf resultOf nextOf

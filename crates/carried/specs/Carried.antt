@@ -7,7 +7,7 @@ use mathlib.Core.Bool.{true}
 use mathlib.Core.List.{List, [], _++_}
 use lib.ListN.{take}
 use Rattle.transcript.specs.declared.Entry.{Entry}
-use Rattle.chip.specs.declared.Answer.the-variants.{Done}
+use Rattle.refusals.specs.declared.Answer.the-variants.{Done}
 use Rattle.tuners.specs.Still.{freshInto}
 use Rattle.sequences.specs.Asides.{Aside, asideGiven}
 use Rattle.carried.specs.Exported.{Lent, asideEntriesOf, entriesOf, leaves, typed}

@@ -9,7 +9,7 @@ use lib.IntN.{ℤ}
 use lib.ListN.{take}
 use mir.Syntax.{w32}
 use mir.Val.{SFits}
-use Rattle.chip.specs.declared.Answer.the-variants.{Done}
+use Rattle.refusals.specs.declared.Answer.the-variants.{Done}
 use Rattle.reply.specs.declared.Reply.{Reply}
 use Rattle.drivers.specs.Drivers.{correctOver, freshInto, hopOver, rateOver}
 use Rattle.carried.specs.Exported.{plainly, stands}

@@ -13,7 +13,7 @@ use Rattle.transcript.specs.declared.Entry.{Entry}
 use Rattle.transcript.specs.Sections.{sectionEntries}
 use Rattle.board.specs.Numbers.{pathOf}
 use Rattle.chip.specs.Steps.{every}
-use Rattle.lending.specs.Lent.{Given}
+use Rattle.refusals.specs.Lent.{Given}
 use Rattle.r82xx.specs.Orders as tuner
 use Rattle.r82xx.specs.Orders.Order.{Initialize, Reload, Bandwidth, IfFreq, Gain, GainIndex, InputPath, Tune, Notch, GainTold, IfTold, TableTold}
 use Rattle.driver.specs.Calls.{boardRow}

@@ -8,7 +8,7 @@ use mathlib.Core.List.{List, [], _++_}
 use lib.Dec.{eqb}
 use lib.ListN.{take}
 use Rattle.transcript.specs.declared.Entry.{Entry}
-use Rattle.chip.specs.declared.Answer.the-variants.{Done}
+use Rattle.refusals.specs.declared.Answer.the-variants.{Done}
 use Rattle.reply.specs.declared.Reply.{Reply}
 use Rattle.reply.specs.Replies.{callReply}
 use Rattle.tuners.specs.Still.{freshInto}

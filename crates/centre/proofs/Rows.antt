@@ -6,8 +6,9 @@ use native.Mathlib.Omega.{arith}
 use lib.Dec.{eqb, leb, ltb}
 use borrow.Author.Tests.{eq-eqb, ne-eqb, le-leb, le-ltb, leb-false, leb-true, lt-leb, lt-ltb}
 use Rattle.bands.specs.declared.Planned.{Planned}
-use Rattle.chip.specs.declared.Answer.{Answer}
-use Rattle.chip.specs.declared.Answer.the-variants.{Done, Refused}
+use Rattle.refusals.specs.declared.Answer.{Answer}
+use Rattle.refusals.specs.declared.Answer.the-variants.{Done, Refused}
+use Rattle.refusals.specs.Table.{FREQUENCY, TABLE}
 use Rattle.centre.specs.Centre.{centreAt, centreBy, less, onDone}
 
 pub left : (n have off : ℕ) → n + off ≡ have → n < 18446744073709551616 → Done n ≡ less have off
@@ -17,11 +18,11 @@ left n have off e h =
     let fits : have - off < 18446744073709551616 = omega arith in
     rw (le-leb off have (omega arith), lt-ltb (have - off) 18446744073709551616 fits, is)
 
-pub below-0 : (have off : ℕ) → have < off → Refused 2 ≡ less have off
+pub below-0 : (have off : ℕ) → have < off → Refused FREQUENCY ≡ less have off
 unfolding less
 below-0 have off h = rw (lt-leb off have h)
 
-pub past-64 : (have off : ℕ) → off + 18446744073709551616 ≤ have → Refused 2 ≡ less have off
+pub past-64 : (have off : ℕ) → off + 18446744073709551616 ≤ have → Refused FREQUENCY ≡ less have off
 unfolding less
 past-64 have off h =
     let over : 18446744073709551616 ≤ have - off = omega arith in
@@ -50,10 +51,10 @@ module _ (p : Planned) (ifreq hz : ℕ) where
   unfolding centreAt
   planned lo a h e = e ∙ rw (eq-eqb (p .refusal) 0 h)
 
-  pub no-table : (told : Answer) → p .refusal ≡ 19 → Refused 19 ≡ centreBy told p ifreq hz
+  pub no-table : (told : Answer) → p .refusal ≡ TABLE → Refused TABLE ≡ centreBy told p ifreq hz
   unfolding centreBy
-  no-table told h = rw (eq-eqb (p .refusal) 19 h)
+  no-table told h = rw (eq-eqb (p .refusal) TABLE h)
 
-  pub by-told : (told a : Answer) → (p .refusal ≡ 19 → ⊥) → a ≡ onDone told (λ lo. centreAt lo p ifreq hz) → a ≡ centreBy told p ifreq hz
+  pub by-told : (told a : Answer) → (p .refusal ≡ TABLE → ⊥) → a ≡ onDone told (λ lo. centreAt lo p ifreq hz) → a ≡ centreBy told p ifreq hz
   unfolding centreBy
-  by-told told a h e = e ∙ rw (ne-eqb (p .refusal) 19 h)
+  by-told told a h e = e ∙ rw (ne-eqb (p .refusal) TABLE h)

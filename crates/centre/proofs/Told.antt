@@ -6,15 +6,16 @@ use native.Mathlib.Omega.{arith}
 use borrow.Author.Tests.{eqb-false, leb-true}
 use lib.Dec.{eqb, leb, ltb}
 use Rattle.bands.specs.declared.Planned.{Planned}
-use Rattle.chip.specs.declared.Answer.the-variants.{Done, Refused}
-use Rattle.chip.specs.Calls.{numberOf, valueOf}
+use Rattle.refusals.specs.declared.Answer.the-variants.{Done, Refused}
+use Rattle.refusals.specs.Answers.{numberOf, valueOf}
+use Rattle.refusals.specs.Table.{FREQUENCY}
 use Rattle.centre.specs.Centre.{centreAt, less}
 
 less-back : (have off c : ℕ) → less have off ≡ Done c → c + off ≡ have
 unfolding less
 less-back have off c = go (leb off have) (ltb (have - off) 18446744073709551616) refl
   where
-    go : (a b : Bool) → leb off have ≡ a → cond (a && b) (Done (have - off)) (Refused 2) ≡ Done c → c + off ≡ have
+    go : (a b : Bool) → leb off have ≡ a → cond (a && b) (Done (have - off)) (Refused FREQUENCY) ≡ Done c → c + off ≡ have
     go true true h e =
         let is : have - off ≡ c = ap valueOf e in
         let under = leb-true off have h in

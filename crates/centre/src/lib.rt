@@ -4,20 +4,20 @@ ghost use mathlib.Core.Path.{_≡_};
 ghost use Prim.Native.Nat.{_+_};
 ghost use Rattle.centre.specs.Centre.{centreAt, centreBy, centreOf, less};
 use bands::Planned;
-use chip::Answer;
 use driver::Driver;
 use r82xx::Tuner;
+use refusals::Answer;
 
 // Of a band that shifts upward, or not at all: the shift is taken off with the IF.
 fn less_both(lo: u64, ifreq: u64, up: u64) -> Answer
     ensures { λ r. ⌜ r ≡ less lo (ifreq + up) ⌝ }
 {
     if lo < ifreq {
-        return Answer::Refused(chip::FREQUENCY);
+        return Answer::Refused(refusals::FREQUENCY);
     }
     let rest = lo - ifreq;
     if rest < up {
-        return Answer::Refused(chip::FREQUENCY);
+        return Answer::Refused(refusals::FREQUENCY);
     }
     Answer::Done(rest - up)
 }
@@ -29,13 +29,13 @@ fn less_one(lo: u64, ifreq: u64, down: u64) -> Answer
     if lo < ifreq {
         let lack = ifreq - lo;
         if down < lack {
-            return Answer::Refused(chip::FREQUENCY);
+            return Answer::Refused(refusals::FREQUENCY);
         }
         return Answer::Done(down - lack);
     }
     let rest = lo - ifreq;
     if 0xffff_ffff_ffff_ffff - rest < down {
-        return Answer::Refused(chip::FREQUENCY);
+        return Answer::Refused(refusals::FREQUENCY);
     }
     Answer::Done(rest + down)
 }
@@ -64,8 +64,8 @@ fn at_plan(lo: u64, planned: Planned, ifreq: u64, hz: u64) -> Answer
 fn by_plan(told: Answer, planned: Planned, ifreq: u64, hz: u64) -> Answer
     ensures { λ r. ⌜ r ≡ centreBy told planned ifreq hz ⌝ }
 {
-    if planned.refusal == bands::TABLE {
-        return Answer::Refused(bands::TABLE);
+    if planned.refusal == refusals::TABLE {
+        return Answer::Refused(refusals::TABLE);
     }
     match told {
         Answer::Done(lo) => at_plan(lo, planned, ifreq, hz),

@@ -5,6 +5,7 @@ use mathlib.Core.Bool.{Bool, true, false, cond}
 use native.Mathlib.Omega.{arith}
 use borrow.Author.Tests.{eqb-false, eqb-true, ltb-false}
 use lib.Dec.{eqb, ltb}
+use Rattle.refusals.specs.Table.{ROOM, OUTCOMES, REPLIES}
 use Rattle.chip.specs.Calls.{tooShort, refusalWith}
 
 -- lent slices that suffice
@@ -20,7 +21,7 @@ first-zero false a k h e = (refl, e)
 pub enough : (n m room outcomes replies : ℕ) → tooShort n m room outcomes replies ≡ 0 → Enough n m room outcomes replies
 unfolding tooShort
 enough n m room outcomes replies e =
-    let a = first-zero (ltb room (16 * n + 8)) 8 (cond (ltb outcomes n) 9 (cond (ltb replies m) 10 0)) (omega arith) e in
+    let a = first-zero (ltb room (16 * n + 8)) ROOM (cond (ltb outcomes n) OUTCOMES (cond (ltb replies m) REPLIES 0)) (omega arith) e in
     let b = first-zero (ltb outcomes n) 9 (cond (ltb replies m) 10 0) (omega arith) (a .1) in
     let d = first-zero (ltb replies m) 10 0 (omega arith) (b .1) in
     record {

@@ -14,8 +14,8 @@ use Rattle.transcript.specs.declared.Entry.{Entry}
 use Rattle.transcript.specs.Entries.{Eight, Eights, entryBytes, zeros8}
 use Rattle.transcript.specs.Sections.{entriesBytes, sectionBytes, trailerBytes}
 use Rattle.transcript.proofs.Laid.{eights-append, entry-next, section-laid}
-use Rattle.chip.specs.declared.Answer.{Answer}
-use Rattle.chip.specs.declared.Answer.the-variants.{Refused}
+use Rattle.refusals.specs.declared.Answer.{Answer}
+use Rattle.refusals.specs.declared.Answer.the-variants.{Refused}
 use Rattle.chip.specs.declared.Chip.{Chip}
 use Rattle.chip.specs.declared.Flow.{Flow}
 use Rattle.chip.specs.declared.LockTries.{LockTries}

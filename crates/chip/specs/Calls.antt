@@ -9,8 +9,9 @@ use lib.ListN.{length}
 use lib.Seq.{sets}
 use Rattle.transcript.specs.declared.Entry.{Entry}
 use Rattle.transcript.specs.Sections.{sectionBytes}
-use Rattle.chip.specs.declared.Answer.{Answer}
-use Rattle.chip.specs.declared.Answer.the-variants.{Done, Refused, Stopped}
+use Rattle.refusals.specs.declared.Answer.{Answer}
+use Rattle.refusals.specs.declared.Answer.the-variants.{Refused, Stopped}
+use Rattle.refusals.specs.Table.{SETUP, ROOM, OUTCOMES, REPLIES}
 use Rattle.chip.specs.declared.Chip.{Chip}
 use Rattle.chip.specs.declared.LockTries.{LockTries}
 use Rattle.chip.specs.declared.Progress.{Progress}
@@ -22,27 +23,11 @@ use Rattle.chip.specs.Steps.{Step, Trace, trace}
 -- "room is 16 bytes for each of its most entries, plus 8"
 unfoldable pub tooShort : ℕ → ℕ → ℕ → ℕ → ℕ → ℕ
 tooShort n m room outcomes replies =
-    cond (ltb room (16 * n + 8)) 8 (cond (ltb outcomes n) 9 (cond (ltb replies m) 10 0))
+    cond (ltb room (16 * n + 8)) ROOM (cond (ltb outcomes n) OUTCOMES (cond (ltb replies m) REPLIES 0))
 
 -- 1 unless the records given are in their ranges, then an argument's number where it is refused, then 8, 9, 10
 abbrev pub refusalWith : Bool → ℕ → ℕ → ℕ → ℕ → ℕ → ℕ → ℕ
-refusalWith sound argument n m room os rs = cond sound (cond (eqb argument 0) (tooShort n m room os rs) argument) 1
-
--- document 01's number, value and index of an answer: "A refused call's value is 0; 11 also gives the failing entry's index"
-abbrev pub numberOf : Answer → ℕ
-numberOf (Done value) = 0
-numberOf (Refused number) = number
-numberOf (Stopped index) = 11
-
-abbrev pub valueOf : Answer → ℕ
-valueOf (Done value) = value
-valueOf (Refused number) = 0
-valueOf (Stopped index) = 0
-
-abbrev pub indexOf : Answer → ℕ
-indexOf (Done value) = 0
-indexOf (Refused number) = 0
-indexOf (Stopped index) = index
+refusalWith sound argument n m room os rs = cond sound (cond (eqb argument 0) (tooShort n m room os rs) argument) SETUP
 
 -- the answer of a call by how far it has come: `whole` where no step failed
 abbrev pub answerOf : Answer → Progress → Answer

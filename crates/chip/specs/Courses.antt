@@ -7,10 +7,12 @@ use mathlib.Core.Bool.{Bool, cond}
 use mathlib.Core.List.{List, []}
 use lib.ListN.{length}
 use Rattle.transcript.specs.declared.Entry.{Entry}
-use Rattle.chip.specs.declared.Answer.{Answer}
-use Rattle.chip.specs.declared.Answer.the-variants.{Refused}
+use Rattle.refusals.specs.declared.Answer.{Answer}
+use Rattle.refusals.specs.declared.Answer.the-variants.{Refused}
 use Rattle.chip.specs.declared.Chip.{Chip}
-use Rattle.chip.specs.Calls.{Called, callEntries, callOf, called, numberOf, refusalWith}
+use Rattle.refusals.specs.Answers.{numberOf}
+use Rattle.refusals.specs.Table.{SETUP}
+use Rattle.chip.specs.Calls.{Called, callEntries, callOf, called, refusalWith}
 use Rattle.chip.specs.Steps.{Step, Trace}
 
 -- Still: "0 entries: no lent memory, no section"; the record and the answer.
@@ -58,6 +60,6 @@ entriesBy a os c = callEntries (a .number) os (a .steps) c
 
 -- what a call leaves. "A given record out of its ranges .. is refused 1 first, all unchanged"
 unfoldable pub leftBy : {R : Type 0} → Bool → Course R → List ℕ → Chip → R → List ℕ → Called R
-leftBy sound (Still next answer) os c old room = cond sound (called next room 0 answer) (called old room 0 (Refused 1))
+leftBy sound (Still next answer) os c old room = cond sound (called next room 0 answer) (called old room 0 (Refused SETUP))
 leftBy sound (Taken argument n m rs whole ss keep) os c old room =
     callOf (refusalWith sound argument n m (length room) (length os) (length rs)) whole os ss c keep old room

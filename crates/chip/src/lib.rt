@@ -13,32 +13,12 @@ ghost use Rattle.chip.specs.Chips.{chipOf, maskOf};
 ghost use Rattle.chip.specs.Entries.{flagOf, withOutcome};
 ghost use Rattle.chip.specs.Steps.{closingOwed, progressOf, step, run, line, masked, updates, allIn, inRange, whileOpen, chunkBytes, chunkStep, chunkTable, within, tunerWrite};
 ghost use Rattle.chip.specs.InCode.{withTry, closing, inRoom, onLog, onRoom, logged, listed, meantOf, sealed};
-ghost use Rattle.chip.specs.Calls.{tooShort, answerOf, numberOf, refusalWith, valueOf};
+ghost use Rattle.chip.specs.Calls.{tooShort, answerOf, refusalWith};
 ghost use Rattle.chip.specs.Steps.Step.{Open, Close, Send, Mask, Plain};
+use refusals::Answer;
 use transcript::Entry;
 
 pub const REG_SHADOW_START: u8 = 0x05;
-
-// Refusal numbers of document 01's table. 5 went with `update_shadow` (#106) and is not used again.
-pub const SETUP: u8 = 1;
-
-pub const FREQUENCY: u8 = 2;
-
-pub const RATE: u8 = 3;
-
-pub const CORRECTION: u8 = 4;
-
-pub const PIN: u8 = 6;
-
-pub const COEFFICIENT: u8 = 7;
-
-pub const ROOM: u8 = 8;
-
-pub const OUTCOMES: u8 = 9;
-
-pub const REPLIES: u8 = 10;
-
-pub const STEP: u8 = 11;
 
 // What the record says of the chip's registers 0x05 to 0x1f: the shadow, which is the byte last attempted (#106), and whether that is in doubt.
 pub struct Chip {
@@ -107,13 +87,6 @@ pub const START: Log = Log {
 pub struct Flow {
     pub chip: Chip,
     pub log: Log,
-}
-
-// A call's answer: its value, a refusal's number, or refusal 11 with the failing entry's index.
-pub enum Answer {
-    Done(u64),
-    Refused(u8),
-    Stopped(usize),
 }
 
 // A part of the 27 bytes that is sent in one write: `size` bytes from `at`.
@@ -709,13 +682,13 @@ pub fn too_short(n: usize, m: usize, room: usize, outcomes: usize, replies: usiz
     ensures { λ r. ⌜ r ≡ tooShort n m room outcomes replies ⌝ }
 {
     if room < 16 * n + 8 {
-        return ROOM;
+        return refusals::ROOM;
     }
     if outcomes < n {
-        return OUTCOMES;
+        return refusals::OUTCOMES;
     }
     if replies < m {
-        return REPLIES;
+        return refusals::REPLIES;
     }
     0
 }
@@ -734,33 +707,12 @@ pub fn refusal(
     ensures { λ r. ⌜ r ≡ refusalWith whole argument n m room outcomes replies ⌝ }
 {
     if !whole {
-        return SETUP;
+        return refusals::SETUP;
     }
     if argument != 0 {
         return argument;
     }
     too_short(n, m, room, outcomes, replies)
-}
-
-// The number of an answer's refusal, 0 for none, and its value.
-pub fn number_of(answer: Answer) -> u8
-    ensures { λ r. ⌜ r ≡ numberOf answer ⌝ }
-{
-    match answer {
-        Answer::Done(_) => 0,
-        Answer::Refused(n) => n,
-        Answer::Stopped(_) => STEP,
-    }
-}
-
-pub fn value_of(answer: Answer) -> u64
-    ensures { λ r. ⌜ r ≡ valueOf answer ⌝ }
-{
-    match answer {
-        Answer::Done(v) => v,
-        Answer::Refused(_) => 0,
-        Answer::Stopped(_) => 0,
-    }
 }
 
 // Writes the trailer, and returns the answer: `whole` where no step failed, else refusal 11 with the index.

@@ -8,7 +8,8 @@ use borrow.Author.Tests.{eq-eqb, ne-eqb, le-leb, leb-false, lt-leb}
 use lib.Dec.{leb}
 use lib.ListN.{drop, getD, length, replicate, take, length-append, length-drop, length-replicate, length-take}
 use lib.Seq.{sets, sets-eq, take-at, drop-length, length-take-le}
-use Rattle.chip.specs.declared.Answer.the-variants.{Done, Refused}
+use Rattle.refusals.specs.declared.Answer.the-variants.{Done, Refused}
+use Rattle.refusals.specs.Table.{SETUP, COMMAND}
 use Rattle.chip.proofs.Laws.{and-left, and-right}
 use Rattle.drivers.specs.Drivers.{Hops, hops}
 use Rattle.records.specs.declared.DriverRead.{DriverRead}
@@ -31,7 +32,7 @@ use Rattle.commands.proofs.Runs.{driver-exact, tuner-exact}
 -- ---- a command over both records' bytes
 
 module _ (x : Command) (table rs os d t room : List ℕ) where
-  pub unknown-run : isUnknown x ≡ true → (r : TuneReply) → r ≡ noCommand (Refused 14) → hops r room d t ≡ runOver x table rs os d t room
+  pub unknown-run : isUnknown x ≡ true → (r : TuneReply) → r ≡ noCommand (Refused COMMAND) → hops r room d t ≡ runOver x table rs os d t room
   unfolding runOver
   unknown-run u r e = ap (λ (q : TuneReply). hops q room d t) e ∙ rw u
 
@@ -39,7 +40,7 @@ module _ (x : Command) (table rs os d t room : List ℕ) where
     read-is : (dr .ok && tr .ok) ≡ (driverOf d .ok && tunerOf t .ok)
     read-is = λ i. is-driver i .ok && is-tuner i .ok
 
-    pub no-records : (dr .ok && tr .ok) ≡ false → (r : TuneReply) → r ≡ noCommand (Refused 1) → hops r room d t ≡ runOver x table rs os d t room
+    pub no-records : (dr .ok && tr .ok) ≡ false → (r : TuneReply) → r ≡ noCommand (Refused SETUP) → hops r room d t ≡ runOver x table rs os d t room
     unfolding runOver
     no-records h r e = ap (λ (q : TuneReply). hops q room d t) e ∙ rw (known, sym read-is ∙ h)
 
@@ -129,7 +130,7 @@ module _ (table chunk rs os stream d t room : List ℕ) (got : Gathered) (is-got
       go : (z : Bool) → isStream stream ≡ z → isStream stream ≡ b
       go z e = e ∙ sym (ok-is z e) ∙ h
 
-  pub not-fed : got .ok ≡ false → (q : TuneReply) → q ≡ noCommand (Refused 1) → (r : FeedReply) → r ≡ fedOf q 0 0 0
+  pub not-fed : got .ok ≡ false → (q : TuneReply) → q ≡ noCommand (Refused SETUP) → (r : FeedReply) → r ≡ fedOf q 0 0 0
       → feeds r stream d t room ≡ feedOver table chunk rs os stream d t room
   unfolding feedOver
   not-fed h q e r f =
@@ -182,7 +183,7 @@ module _ (table chunk rs os stream d t room : List ℕ) (got : Gathered) (is-got
 -- ---- what waits
 
 module _ (stream : List ℕ) (h : ℕ) (e : h ≡ pendingCount stream) where
-  pub none-pending : h ≡ 9 → Refused 1 ≡ pendingAnswer stream
+  pub none-pending : h ≡ 9 → Refused SETUP ≡ pendingAnswer stream
   unfolding pendingAnswer
   none-pending n = rw (is-none stream h e n)
 

@@ -11,8 +11,9 @@ use lib.IntN.{ℤ}
 use lib.ListN.{length}
 use lib.Seq.{sets}
 use Rattle.bands.specs.Tables.{planBy}
-use Rattle.chip.specs.declared.Answer.{Answer}
-use Rattle.chip.specs.declared.Answer.the-variants.{Done, Refused}
+use Rattle.refusals.specs.declared.Answer.{Answer}
+use Rattle.refusals.specs.declared.Answer.the-variants.{Done, Refused}
+use Rattle.refusals.specs.Table.{CORRECTION}
 use Rattle.chip.specs.declared.Chip.{Chip}
 use Rattle.chip.specs.declared.LockTries.{LockTries}
 use Rattle.chip.specs.Calls.{Called, callOf, called, lockedIn, performed, refusalWith, lockTriesIn, triesIn}
@@ -260,7 +261,7 @@ module _ (table rs os d t room : List ℕ) (driver-bytes : Bytes d) (good-tuner 
       done : Course Both
       done = Still (both (withCorrected T (xtalBy (T .nominal) ppm)) (withPpm D ppm)) (Done 0)
 
-      go : (b : Bool) → still true (cond b done (Still (both T D) (Refused 4))) ≡ leftBy true (cond b done (Still (both T D) (Refused 4))) os (T .chip) (both T D) room
+      go : (b : Bool) → still true (cond b done (Still (both T D) (Refused CORRECTION))) ≡ leftBy true (cond b done (Still (both T D) (Refused CORRECTION))) os (T .chip) (both T D) room
       go true = refl
       go false = refl
 

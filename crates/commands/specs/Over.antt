@@ -5,8 +5,9 @@ use mathlib.Core.Bool.{_&&_, cond}
 use mathlib.Core.List.{List, []}
 use lib.Dec.{eqb}
 use lib.ListN.{length}
-use Rattle.chip.specs.declared.Answer.the-variants.{Done, Refused}
-use Rattle.chip.specs.declared.Answer.{Answer}
+use Rattle.refusals.specs.declared.Answer.the-variants.{Done, Refused}
+use Rattle.refusals.specs.declared.Answer.{Answer}
+use Rattle.refusals.specs.Table.{SETUP, COMMAND}
 use Rattle.chip.specs.Entries.{noTries}
 use Rattle.drivers.specs.Drivers.{Hops, hops, hopsBy, ratesMade, ratesRefused}
 use Rattle.records.specs.Drivers.{driverOf}
@@ -26,11 +27,11 @@ notRun number d t room = hopsBy (ratesRefused number room d t) noTries
 -- "new 14 command ..; it stands first", then 1 where either record's bytes are not valid, then the call's own
 unfoldable pub runOver : Command → List ℕ → List ℕ → List ℕ → List ℕ → List ℕ → List ℕ → Hops
 runOver c table rs os d t room =
-    cond (isUnknown c) (notRun 14 d t room)
+    cond (isUnknown c) (notRun COMMAND d t room)
     (cond (driverOf d .ok && tunerOf t .ok)
     (hopsBy (ratesMade (commandResult c table rs os (tunerOf t .tuner) (driverOf d .driver) room) d t)
     (commandLockTries c rs os (tunerOf t .tuner) (driverOf d .driver) room))
-    (notRun 1 d t room))
+    (notRun SETUP d t room))
 
 -- ---- a call
 
@@ -72,8 +73,8 @@ unfoldable pub feedOver : List ℕ → List ℕ → List ℕ → List ℕ → Li
 feedOver table chunk rs os stream d t room =
     cond (isStream stream)
     (gottenOver (usedBy (pendingOf stream) chunk) (gathered (pendingOf stream) chunk) table rs os d t room)
-    (feeds (fedOf (noCommand (Refused 1)) 0 0 0) stream d t room)
+    (feeds (fedOf (noCommand (Refused SETUP)) 0 0 0) stream d t room)
 
 -- "An incomplete command at the end is reported with its length, 1 to 8": 0 where nothing waits
 unfoldable pub pendingAnswer : List ℕ → Answer
-pendingAnswer stream = cond (isStream stream) (Done (length (pendingOf stream))) (Refused 1)
+pendingAnswer stream = cond (isStream stream) (Done (length (pendingOf stream))) (Refused SETUP)

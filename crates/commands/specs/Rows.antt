@@ -5,7 +5,8 @@ use Prim.Native.Nat.{ℕ}
 use mathlib.Core.Bool.{Bool, true, false, _&&_, _||_, cond}
 use mathlib.Core.List.{List}
 use Rattle.bands.specs.Tables.{planBy}
-use Rattle.chip.specs.declared.Answer.the-variants.{Refused}
+use Rattle.refusals.specs.declared.Answer.the-variants.{Refused}
+use Rattle.refusals.specs.Table.{COMMAND}
 use Rattle.chip.specs.declared.LockTries.{LockTries}
 use Rattle.chip.specs.Calls.{Called}
 use Rattle.chip.specs.Courses.{Course, leftBy}
@@ -35,7 +36,7 @@ commandRow (GainIndex k) table rs t d = beside d (courseOf (order.Order.GainInde
 commandRow (Bandwidth hz) table rs t d = beside d (courseOf (order.Order.Bandwidth hz) t)
 commandRow (Correction ppm) table rs t d = correctionRow ppm t d
 commandRow Reload table rs t d = beside d (courseOf order.Order.Reload t)
-commandRow Unknown table rs t d = Still (both t d) (Refused 14)
+commandRow Unknown table rs t d = Still (both t d) (Refused COMMAND)
 
 abbrev pub isUnknown : Command → Bool
 isUnknown (Frequency hz) = false

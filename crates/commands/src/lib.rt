@@ -3,7 +3,7 @@
 ghost use mathlib.Core.Path.{_≡_};
 ghost use mathlib.Core.Bool.{_&&_, true};
 ghost use lib.ListN.{length};
-ghost use Rattle.chip.specs.declared.Answer.the-variants.{Done, Refused};
+ghost use Rattle.refusals.specs.declared.Answer.the-variants.{Done, Refused};
 ghost use Rattle.chip.specs.Entries.{noTries};
 ghost use Rattle.drivers.specs.Drivers.{hops};
 ghost use Rattle.records.specs.Drivers.{driverOf};
@@ -11,14 +11,11 @@ ghost use Rattle.records.specs.Tuners.{tunerOf};
 ghost use Rattle.reply.specs.Replies.{tunedOf};
 ghost use Rattle.commands.specs.Over.{feedOver, feeds, fedOf, noCommand, pendingAnswer, runOver};
 ghost use Rattle.commands.specs.Rows.{isUnknown};
-use chip::Answer;
+use refusals::Answer;
 use reply::Reply;
 use reply::TuneReply;
 use stream::COMMAND;
 use stream::Command;
-
-// The refusal number of document 02.
-pub const UNKNOWN: u8 = 14;
 
 // A command's reply, or none; `used` bytes of the chunk were taken; `completed` is 1 where a command was, else 0; `pending` bytes wait.
 #[repr(C)]
@@ -125,7 +122,7 @@ fn call_over(
         Command::Bandwidth(hz) => still(tuners::set_bandwidth(given, hz, outcomes, room, tuner)),
         Command::Correction(ppm) => still(drivers::set_ppm(tuner, driver, ppm)),
         Command::Reload => still(tuners::reload(given, outcomes, room, tuner)),
-        Command::Unknown => refuse(UNKNOWN),
+        Command::Unknown => refuse(refusals::COMMAND),
     }
 }
 
@@ -143,13 +140,13 @@ fn run_over(
         ≡ runOver command (now (table .entry)) (now (replies .entry)) (now (outcomes .entry)) (now (driver .entry)) (now (tuner .entry)) (now (room .entry)) ⌝ }
 {
     if is_unknown(command) {
-        return refuse(UNKNOWN);
+        return refuse(refusals::COMMAND);
     }
     let d = records::decode_driver(driver);
     let t = records::decode_tuner(tuner);
     let whole = d.ok & t.ok;
     if !whole {
-        return refuse(chip::SETUP);
+        return refuse(refusals::SETUP);
     }
     let before = driver_copy(driver);
     let given = tuner_copy(tuner);
@@ -199,7 +196,7 @@ pub fn feed(
 {
     let got = stream::gather(stream, chunk);
     if !got.ok {
-        return fed(refuse(chip::SETUP), 0, 0, 0);
+        return fed(refuse(refusals::SETUP), 0, 0, 0);
     }
     let image = stream::image(got);
     wire::copy(stream, 0, &image);
@@ -219,7 +216,7 @@ pub fn pending(stream: &[u8]) -> Answer
 {
     let held = stream::pending_count(stream);
     if held == COMMAND {
-        return Answer::Refused(chip::SETUP);
+        return Answer::Refused(refusals::SETUP);
     }
     Answer::Done(held as u64)
 }

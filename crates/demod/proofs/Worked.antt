@@ -5,7 +5,8 @@ use mathlib.Core.Path.{_≡_, refl, sym, ap}
 use mathlib.Core.List.{List, [], _∷_, map}
 use lib.Pow.{shr-mod}
 use native.Mathlib.Omega.{arith}
-use Rattle.chip.specs.declared.Answer.the-variants.{Refused}
+use Rattle.refusals.specs.declared.Answer.the-variants.{Refused}
+use Rattle.refusals.specs.Table.{RATIO}
 use Rattle.chip.specs.Calls.{called}
 use Rattle.chip.specs.Steps.Step.{Plain}
 use Rattle.device.specs.Accesses.{accessStep, demodWrite, demodWrite16}
@@ -40,10 +41,10 @@ unfolding accessStep rateSteps sentOf
 rate-cut = refl
 
 -- Document 02, #103: it is refused 13 with the room unchanged, as every rate is that the resampler doesn't hold, whatever is lent
-pub not-held : (rate xtal : ℕ) (os room : List ℕ) → rateNumber rate xtal ≡ 13 → freeResult (demodCourse (RateXtal rate xtal)) os room ≡ called tt room 0 (Refused 13)
+pub not-held : (rate xtal : ℕ) (os room : List ℕ) → rateNumber rate xtal ≡ RATIO → freeResult (demodCourse (RateXtal rate xtal)) os room ≡ called tt room 0 (Refused RATIO)
 not-held rate xtal os room h = sym (argument-bad (rateNumber rate xtal) 4 0 [] os (rateSteps rate xtal) room 13 h (λ e. omega (arith, e)))
 
-pub rate-cut-refused : (os room : List ℕ) → freeResult (demodCourse (RateXtal 225_000 28_800_000)) os room ≡ called tt room 0 (Refused 13)
+pub rate-cut-refused : (os room : List ℕ) → freeResult (demodCourse (RateXtal 225_000 28_800_000)) os room ≡ called tt room 0 (Refused RATIO)
 unfolding ratioHolds rateNumber
 rate-cut-refused os room = not-held 225_000 28_800_000 os room refl
 

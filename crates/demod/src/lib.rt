@@ -13,13 +13,13 @@ ghost use Rattle.device.specs.Calls.{freeResult};
 ghost use Rattle.demod.specs.Programs.{ddcByte, ddcSteps, firSteps, ifRows, ifSteps, initSteps, powerSteps, rateRows, rateSteps, resetSteps, upward};
 ghost use Rattle.demod.specs.Calls.{demodCourse};
 ghost use Rattle.demod.specs.Calls.Order.{Baseband, LowIf, ZeroIf, Reset, Direct, Start, Stop, IfXtal, RateXtal};
-use chip::Answer;
 use chip::Flow;
 use chip::Log;
 use device::Access;
 use device::Handed;
 use device::NO_CHIP;
 use device::NONE;
+use refusals::Answer;
 use registers::block;
 use registers::demod::P0_PAGE;
 use registers::demod::P1_DDC_SYNC;
@@ -411,7 +411,7 @@ pub fn set_if_freq_xtal(hz: u32, xtal: u32, outcomes: &[u8], room: &mut [u8]) ->
     ensures { λ r. ⌜ back r (now (room .exit)) ≡ freeResult (demodCourse (IfXtal hz xtal)) (now (outcomes .entry)) (now (room .entry)) ⌝ }
 {
     if xtal == 0 {
-        return device::refused(chip::CORRECTION);
+        return device::refused(refusals::CORRECTION);
     }
     let rows = if_rows(hz, xtal);
     device::perform(rows, 3, 0, outcomes, 0, room)

@@ -5,7 +5,7 @@ use Prim.Native.Nat.{ℕ}
 use mathlib.Core.Bool.{Bool, true, false}
 use mathlib.Core.List.{List}
 use lib.ListN.{replicate}
-use Rattle.chip.specs.declared.Answer.the-variants.{Done}
+use Rattle.refusals.specs.declared.Answer.the-variants.{Done}
 use Rattle.chip.specs.declared.Chip.{Chip}
 use Rattle.chip.specs.Calls.{Called, callOf}
 use Rattle.chip.specs.Courses.{Course, leftBy}

@@ -7,6 +7,7 @@ use mathlib.Core.List.{List, [], _∷_, map}
 use lib.Bits.{bitAnd, bitOr}
 use lib.Dec.{eqb, ltb}
 use lib.ListN.{getD}
+use Rattle.refusals.specs.Table.{PIN}
 use Rattle.chip.specs.Courses.{Course}
 use Rattle.chip.specs.Steps.{Step}
 use Rattle.device.specs.declared.Access.{Access}
@@ -50,7 +51,7 @@ pub data Order : Type 0 where
 
 -- "6 pin | GPIO above 7"
 abbrev pub pinRefusal : ℕ → ℕ
-pinRefusal pin = cond (ltb 7 pin) 6 0
+pinRefusal pin = cond (ltb 7 pin) PIN 0
 
 -- "GPIO direction 4, 2; GPIO bit 2, 1"
 abbrev pub gpioCourse : Order → Course (Unit {0})

@@ -9,17 +9,17 @@ ghost use Rattle.chip.specs.declared.Chip.{Chip};
 ghost use Rattle.chip.specs.InCode.{inRoom, onLog, onRoom};
 ghost use Rattle.chip.specs.Steps.{closingOwed, step, run};
 ghost use Rattle.chip.specs.Calls.{called, tooShort};
-ghost use Rattle.chip.specs.declared.Answer.the-variants.{Refused};
+ghost use Rattle.refusals.specs.declared.Answer.the-variants.{Refused};
 ghost use Rattle.device.specs.Accesses.{accessEntry, accessStep};
 ghost use Rattle.device.specs.InCode.{ten, back};
 ghost use Rattle.device.specs.Calls.{freeCall, freeResult};
 ghost use Rattle.device.specs.Gpio.{bitRows, bitSteps, changedOf, gpioCourse, outputRows, outputSteps, withBit, withoutBit};
 ghost use Rattle.device.specs.Gpio.Order.{Output, Bit};
-use chip::Answer;
 use chip::Chip;
 use chip::Flow;
 use chip::Log;
 use chip::START;
+use refusals::Answer;
 use registers::block;
 use registers::sys;
 use transcript::BLOCK;
@@ -304,7 +304,7 @@ pub fn set_gpio_output(gpio: u8, outcomes: &[u8], replies: &[u8], room: &mut [u8
     ensures { λ r. ⌜ back r (now (room .exit)) ≡ freeResult (gpioCourse (Output gpio (now (replies .entry)))) (now (outcomes .entry)) (now (room .entry)) ⌝ }
 {
     if gpio > 7 {
-        return refused(chip::PIN);
+        return refused(refusals::PIN);
     }
     let a = reply(replies, 0);
     let b = reply(replies, 1);
@@ -317,7 +317,7 @@ pub fn set_gpio_bit(gpio: u8, value: u8, outcomes: &[u8], replies: &[u8], room: 
     ensures { λ r. ⌜ back r (now (room .exit)) ≡ freeResult (gpioCourse (Bit gpio value (now (replies .entry)))) (now (outcomes .entry)) (now (room .entry)) ⌝ }
 {
     if gpio > 7 {
-        return refused(chip::PIN);
+        return refused(refusals::PIN);
     }
     let a = reply(replies, 0);
     let rows = bit_rows(gpio, value, a);

@@ -8,8 +8,9 @@ use native.Mathlib.Omega.{arith}
 use borrow.Author.Tests.{eq-eqb, ne-eqb}
 use lib.Dec.{eqb, leb}
 use lib.IntN.{ℤ}
-use Rattle.chip.specs.declared.Answer.{Answer}
-use Rattle.chip.specs.declared.Answer.the-variants.{Done, Refused}
+use Rattle.refusals.specs.declared.Answer.{Answer}
+use Rattle.refusals.specs.declared.Answer.the-variants.{Done, Refused}
+use Rattle.refusals.specs.Table.{SETUP, CORRECTION}
 use Rattle.chip.specs.Calls.{Called, called}
 use Rattle.chip.specs.Courses.{leftBy}
 use Rattle.chip.specs.Courses.Course.{Still}
@@ -88,7 +89,7 @@ correction-left t d ppm v z r e f g =
     go : (whole taken : Bool)
         → called (both (withCorrected t (cond (eqb (number whole taken) 0) (xtalBy (t .nominal) ppm) (t .corrected))) (withPpm d (cond (eqb (number whole taken) 0) ppm (d .ppm)))) [] 0
         (cond (eqb (number whole taken) 0) (Done 0) (Refused (number whole taken)))
-        ≡ leftBy whole (cond taken (Still (both (withCorrected t (xtalBy (t .nominal) ppm)) (withPpm d ppm)) (Done 0)) (Still (both t d) (Refused 4))) [] (t .chip) (both t d) []
+        ≡ leftBy whole (cond taken (Still (both (withCorrected t (xtalBy (t .nominal) ppm)) (withPpm d ppm)) (Done 0)) (Still (both t d) (Refused CORRECTION))) [] (t .chip) (both t d) []
     go true true = refl
     go true false = refl
     go false true = refl
@@ -112,18 +113,18 @@ module _ (ppm : ℤ) (t : Tuner) (d : Driver) where
   abbrev Taken : Bool
   Taken = leb 1 (xtalBy (t .nominal) ppm) && leb 1 (xtalBy (d .nominal) ppm)
 
-  not-sound : (sound t && soundDriver d) ≡ false → correctionCall ppm t d ≡ called (both t d) [] 0 (Refused 1)
+  not-sound : (sound t && soundDriver d) ≡ false → correctionCall ppm t d ≡ called (both t d) [] 0 (Refused SETUP)
   unfolding correctionResult leftBy
   not-sound h = go Taken
     where
       go : (b : Bool)
           → leftBy (sound t && soundDriver d)
-          (cond b (Still (both (withCorrected t (xtalBy (t .nominal) ppm)) (withPpm d ppm)) (Done 0)) (Still (both t d) (Refused 4))) [] (t .chip) (both t d) []
-          ≡ called (both t d) [] 0 (Refused 1)
+          (cond b (Still (both (withCorrected t (xtalBy (t .nominal) ppm)) (withPpm d ppm)) (Done 0)) (Still (both t d) (Refused CORRECTION))) [] (t .chip) (both t d) []
+          ≡ called (both t d) [] 0 (Refused SETUP)
       go true = rw h
       go false = rw h
 
-  pub out-of-range : (sound t && soundDriver d) ≡ true → Taken ≡ false → correctionCall ppm t d ≡ called (both t d) [] 0 (Refused 4)
+  pub out-of-range : (sound t && soundDriver d) ≡ true → Taken ≡ false → correctionCall ppm t d ≡ called (both t d) [] 0 (Refused CORRECTION)
   unfolding correctionResult leftBy
   out-of-range h k = rw (h, k)
 
@@ -147,8 +148,8 @@ module _ (ppm : ℤ) (t : Tuner) (d : Driver) where
             xtal-is (d .nominal) ppm (and-right (leb 1 (xtalBy (t .nominal) ppm)) (leb 1 (xtalBy (d .nominal) ppm)) k)
                 ∙ ap (λ (x : Called Both). corrected-variants.Is (xtalOf (x .next .driver))) (sym is),
           )
-      go true false h k = let other : Refused 4 ≡ Done 0 = sym (ap (λ (x : Called Both). x .answer) (out-of-range h k)) ∙ done in let never : _≡_ {A = ℕ} 0 1 = cc in absurd (omega arith)
-      go false b h k = let other : Refused 1 ≡ Done 0 = sym (ap (λ (x : Called Both). x .answer) (not-sound h)) ∙ done in let never : _≡_ {A = ℕ} 0 1 = cc in absurd (omega arith)
+      go true false h k = let other : Refused CORRECTION ≡ Done 0 = sym (ap (λ (x : Called Both). x .answer) (out-of-range h k)) ∙ done in let never : _≡_ {A = ℕ} 0 1 = cc in absurd (omega arith)
+      go false b h k = let other : Refused SETUP ≡ Done 0 = sym (ap (λ (x : Called Both). x .answer) (not-sound h)) ∙ done in let never : _≡_ {A = ℕ} 0 1 = cc in absurd (omega arith)
 
   -- "or refuses and sets neither"
   pub neither-set : (correctionCall ppm t d .answer ≡ Done 0 → ⊥) → correctionCall ppm t d .next ≡ both t d

@@ -10,8 +10,9 @@ use Rattle.board.specs.declared.Path.{Path}
 use Rattle.board.specs.declared.PathRead.{PathRead}
 use Rattle.board.specs.declared.PathRead.the-variants as path-read
 use Rattle.bands.specs.declared.Planned.{Planned}
-use Rattle.chip.specs.declared.Answer.{Answer}
-use Rattle.chip.specs.declared.Answer.the-variants.{Done, Refused}
+use Rattle.refusals.specs.declared.Answer.{Answer}
+use Rattle.refusals.specs.declared.Answer.the-variants.{Done, Refused}
+use Rattle.refusals.specs.Table.{SETUP, RATIO, TABLE}
 use Rattle.chip.specs.declared.Flow.{Flow}
 use Rattle.chip.specs.declared.Progress.the-variants.{Going}
 use Rattle.chip.specs.Calls.{Called, answerOf, callOf, called, refusalWith}
@@ -90,13 +91,13 @@ board-path-eight kind path rs =
 
 -- a rate's call: what it is refused by, and what it is performed with
 module _ (os room : List ℕ) (rate : ℕ) (t : Tuner) (d : Driver) (p : Planned) (s : Bool) (xtal ratio argument given : ℕ)
-    (by-tuner : s ≡ sound t) (by-driver : xtal ≡ xtalOf d) (by-rate : ratio ≡ rateNumber rate xtal) (by-table : argument ≡ cond (eqb (p .refusal) 19) 19 ratio)
+    (by-tuner : s ≡ sound t) (by-driver : xtal ≡ xtalOf d) (by-rate : ratio ≡ rateNumber rate xtal) (by-table : argument ≡ cond (eqb (p .refusal) TABLE) 19 ratio)
     (by-all : given ≡ refusalWith (s && leb 1 xtal) argument 17 0 (length room) (length os) 0) where
   number : given ≡ refusalWith (sound t && soundDriver d) (rateArgument rate p d) 17 0 (length room) (length os) 0
   number =
       by-all
       ∙ (λ i. refusalWith (by-tuner i && leb 1 (by-driver i))
-      ((by-table ∙ ap (λ (n : ℕ). cond (eqb (p .refusal) 19) 19 n) (by-rate ∙ ap (rateNumber rate) by-driver)) i) 17 0 (length room) (length os) 0)
+      ((by-table ∙ ap (λ (n : ℕ). cond (eqb (p .refusal) TABLE) 19 n) (by-rate ∙ ap (rateNumber rate) by-driver)) i) 17 0 (length room) (length os) 0)
 
   pub rate-refused : (given ≡ 0 → ⊥) → called (both t d) room 0 (Refused given) ≡ rateResult rate p os t d room
   unfolding rateResult leftBy
@@ -123,8 +124,8 @@ module _ (os room : List ℕ) (rate : ℕ) (t : Tuner) (d : Driver) (p : Planned
       q a (λ i. both ((n ∙ ap (λ (x : ℕ). retuned t x (f .chip)) by-if) i) ((l ∙ ap (λ (x : ℕ). ratedBy d rate x (f .log .progress)) by-driver) i)) refl
 
 -- Document 02, #103: a rate that the resampler doesn't hold is refused 13 "with record and buffers unchanged", whatever is lent to it
-pub not-held : (rate : ℕ) (p : Planned) (os : List ℕ) (t : Tuner) (d : Driver) (room : List ℕ) → (sound t && soundDriver d) ≡ true → rateArgument rate p d ≡ 13
-    → rateResult rate p os t d room ≡ called (both t d) room 0 (Refused 13)
+pub not-held : (rate : ℕ) (p : Planned) (os : List ℕ) (t : Tuner) (d : Driver) (room : List ℕ) → (sound t && soundDriver d) ≡ true → rateArgument rate p d ≡ RATIO
+    → rateResult rate p os t d room ≡ called (both t d) room 0 (Refused RATIO)
 unfolding rateResult leftBy callOf
 not-held rate p os t d room s h = rw (s, h)
 
@@ -143,7 +144,7 @@ abbrev boardLeft : PathRead → List ℕ → List ℕ → Tuner → List ℕ →
 boardLeft p os rs t room = leftBy (sound t) (boardRow p rs t) os (t .chip) t room
 
 -- the board's path: a number that names none, a refusal, and what it is performed with
-pub path-none : (p : PathRead) (os rs : List ℕ) (t : Tuner) (room : List ℕ) → p ≡ path-read.Refused → called t room 0 (Refused 1) ≡ boardLeft p os rs t room
+pub path-none : (p : PathRead) (os rs : List ℕ) (t : Tuner) (room : List ℕ) → p ≡ path-read.Refused → called t room 0 (Refused SETUP) ≡ boardLeft p os rs t room
 unfolding leftBy
 path-none p os rs t room e = rw e (either-one (sound t) t room)
 

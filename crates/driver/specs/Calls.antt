@@ -10,8 +10,9 @@ use Rattle.board.specs.declared.PathRead.{PathRead}
 use Rattle.board.specs.declared.PathRead.the-variants as path-read
 use Rattle.board.specs.Numbers.{pathOf}
 use Rattle.bands.specs.declared.Planned.{Planned}
-use Rattle.chip.specs.declared.Answer.{Answer}
-use Rattle.chip.specs.declared.Answer.the-variants.{Done, Refused}
+use Rattle.refusals.specs.declared.Answer.{Answer}
+use Rattle.refusals.specs.declared.Answer.the-variants.{Done, Refused}
+use Rattle.refusals.specs.Table.{SETUP, CORRECTION, TABLE}
 use Rattle.chip.specs.declared.Chip.{Chip}
 use Rattle.chip.specs.declared.Progress.{Progress}
 use Rattle.chip.specs.Calls.{Called, called}
@@ -27,7 +28,7 @@ use Rattle.driver.specs.Programs.{boardPathSteps, ifFor, sampleRateSteps
 
 -- `corrected_xtal_hz`
 unfoldable pub xtalAnswer : ℕ → Answer
-xtalAnswer xtal = cond (leb 1 xtal) (Done xtal) (Refused 1)
+xtalAnswer xtal = cond (leb 1 xtal) (Done xtal) (Refused SETUP)
 
 -- both records
 pub record Both : Type 0 where
@@ -43,7 +44,7 @@ abbrev pub correctionRow : ℤ → Tuner → Driver → Course Both
 correctionRow ppm t d =
     cond (leb 1 (xtalBy (t .nominal) ppm) && leb 1 (xtalBy (d .nominal) ppm))
     (Still (both (withCorrected t (xtalBy (t .nominal) ppm)) (withPpm d ppm)) (Done 0))
-    (Still (both t d) (Refused 4))
+    (Still (both t d) (Refused CORRECTION))
 
 -- 1 for either record stands before it
 unfoldable pub correctionResult : ℤ → List ℕ → Tuner → Driver → List ℕ → Called Both
@@ -67,7 +68,7 @@ ratedBy d rate xtal progress = cond (goes progress) (withRate d rate (trueOf rat
 
 -- #113: "`set_sample_rate` plans by a table too (19 after 1); no plan, not inverted"
 abbrev pub rateArgument : ℕ → Planned → Driver → ℕ
-rateArgument rate p d = cond (eqb (p .refusal) 19) 19 (rateRefusal rate d)
+rateArgument rate p d = cond (eqb (p .refusal) TABLE) TABLE (rateRefusal rate d)
 
 -- the rows of both calls with steps, by the table's plan for the recorded frequency. "sample rate 17, 0"
 abbrev pub rateRow : ℕ → Planned → Tuner → Driver → Course Both
@@ -78,7 +79,7 @@ rateRow rate p t d =
 
 -- "board path 10, 3", on R820T too; a number that names no path is a setup: 1
 abbrev pub boardRow : PathRead → List ℕ → Tuner → Course Tuner
-boardRow path-read.Refused rs t = Still t (Refused 1)
+boardRow path-read.Refused rs t = Still t (Refused SETUP)
 boardRow (path-read.Is path) rs t = Taken 0 10 3 rs (Done 0) (boardPathSteps (t .kind) path rs) (λ tr. withChip t (tr .chip))
 
 -- what they leave, by the outcomes and the room that are lent to them

@@ -5,15 +5,16 @@ use Prim.Native.Nat.{ℕ}
 use mathlib.Core.Bool.{cond, _&&_}
 use lib.Dec.{eqb, leb}
 use lib.IntN.{ℤ}
-use Rattle.chip.specs.declared.Answer.{Answer}
-use Rattle.chip.specs.declared.Answer.the-variants.{Done, Refused}
+use Rattle.refusals.specs.declared.Answer.{Answer}
+use Rattle.refusals.specs.declared.Answer.the-variants.{Done, Refused}
+use Rattle.refusals.specs.Table.{SETUP, CORRECTION}
 use Rattle.r82xx.specs.Record.{soundBy}
 use Rattle.driver.specs.Record.{xtalBy}
 
 -- the number that refuses it, 0 for none
 unfoldable pub correctionRefusal : ℕ → ℕ → ℕ → ℤ → ℤ → ℕ
 correctionRefusal nominal corrected other had ppm =
-    cond (soundBy nominal corrected && leb 1 (xtalBy other had)) (cond (leb 1 (xtalBy nominal ppm) && leb 1 (xtalBy other ppm)) 0 4) 1
+    cond (soundBy nominal corrected && leb 1 (xtalBy other had)) (cond (leb 1 (xtalBy nominal ppm) && leb 1 (xtalBy other ppm)) 0 CORRECTION) SETUP
 
 -- what is stored: the tuner's corrected reference, and the driver's ppm
 unfoldable pub keptReference : ℕ → ℕ → ℕ → ℤ → ℤ → ℕ

@@ -10,8 +10,9 @@ use Rattle.board.specs.declared.Board.the-variants.{Generic}
 use Rattle.board.specs.declared.BoardRead.{BoardRead}
 use Rattle.board.specs.declared.BoardRead.the-variants as board-read
 use Rattle.board.specs.Numbers.{boardOf}
-use Rattle.chip.specs.declared.Answer.{Answer}
-use Rattle.chip.specs.declared.Answer.the-variants.{Done, Refused}
+use Rattle.refusals.specs.declared.Answer.{Answer}
+use Rattle.refusals.specs.declared.Answer.the-variants.{Done, Refused}
+use Rattle.refusals.specs.Table.{SETUP, CORRECTION}
 use Rattle.reference.specs.declared.Corrected.{Corrected}
 use Rattle.reference.specs.declared.Corrected.the-variants as corrected-variants
 use Rattle.reference.specs.Correct.{correctedOf}
@@ -47,11 +48,11 @@ nothingMade number = made (Refused number) (driver Generic 1 (pos 0) 0 0 0)
 
 -- a board by its number (0 generic, 1 V4) that was read: 1, then 4. "At the record's making the true rate is 0"
 abbrev pub madeOn : BoardRead → ℕ → ℤ → ℕ → ℕ → Made
-madeOn board-read.Refused nominal ppm frequency rate = nothingMade 1
+madeOn board-read.Refused nominal ppm frequency rate = nothingMade SETUP
 madeOn (board-read.Is board) nominal ppm frequency rate =
     cond (leb 1 nominal && leb nominal 4_294_967_295)
-    (cond (leb 1 (xtalBy nominal ppm)) (made (Done 0) (driver board nominal ppm frequency rate 0)) (nothingMade 4))
-    (nothingMade 1)
+    (cond (leb 1 (xtalBy nominal ppm)) (made (Done 0) (driver board nominal ppm frequency rate 0)) (nothingMade CORRECTION))
+    (nothingMade SETUP)
 
 unfoldable pub driverOf : ℕ → ℕ → ℤ → ℕ → ℕ → Made
 driverOf board nominal ppm frequency rate = madeOn (boardOf board) nominal ppm frequency rate

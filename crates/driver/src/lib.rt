@@ -22,13 +22,13 @@ use board::Board;
 use board::BoardRead;
 use board::Path;
 use board::PathRead;
-use chip::Answer;
 use chip::Chip;
 use chip::Flow;
 use chip::Progress;
 use pll::Kind;
 use r82xx::Tuner;
 use reference::Corrected;
+use refusals::Answer;
 
 pub struct Driver {
     pub board: Board,
@@ -228,8 +228,8 @@ pub fn path_steps(
 fn rate_argument(table: u8, rate: u8) -> u8
     ensures { λ r. ⌜ r ≡ cond (eqb table 19) 19 rate ⌝ }
 {
-    if table == bands::TABLE {
-        return bands::TABLE;
+    if table == refusals::TABLE {
+        return refusals::TABLE;
     }
     rate
 }
@@ -265,11 +265,11 @@ fn correction_refusal(nominal: u32, corrected: u32, other: u32, had: i32, ppm: i
 {
     let whole = r82xx::sound(nominal, corrected) & (1 <= xtal_by(other, had));
     if !whole {
-        return chip::SETUP;
+        return refusals::SETUP;
     }
     let taken = (1 <= xtal_by(nominal, ppm)) & (1 <= xtal_by(other, ppm));
     if !taken {
-        return chip::CORRECTION;
+        return refusals::CORRECTION;
     }
     0
 }
@@ -338,17 +338,17 @@ impl Driver {
         ensures { λ r. ⌜ r ≡ driverOf board nominal ppm frequency rate ⌝ }
     {
         let BoardRead::Is(named) = board_named(board) else {
-            return nothing(chip::SETUP);
+            return nothing(refusals::SETUP);
         };
         if nominal < 1 {
-            return nothing(chip::SETUP);
+            return nothing(refusals::SETUP);
         }
         if 4_294_967_295 < nominal {
-            return nothing(chip::SETUP);
+            return nothing(refusals::SETUP);
         }
         let small = nominal as u32;
         if xtal_by(small, ppm) < 1 {
-            return nothing(chip::CORRECTION);
+            return nothing(refusals::CORRECTION);
         }
         Made {
             answer: Answer::Done(0),
@@ -368,7 +368,7 @@ impl Driver {
     {
         let xtal = xtal_by(self.nominal, self.ppm);
         if xtal < 1 {
-            return Answer::Refused(chip::SETUP);
+            return Answer::Refused(refusals::SETUP);
         }
         Answer::Done(xtal as u64)
     }
@@ -455,7 +455,7 @@ pub fn apply_input_path(
         ≡ boardResult path (now (replies .entry)) (now (outcomes .entry)) tuner (now (room .entry)) ⌝ }
 {
     let PathRead::Is(by) = board::path_of(path) else {
-        return r82xx::refused(tuner, chip::SETUP);
+        return r82xx::refused(tuner, refusals::SETUP);
     };
     let whole = r82xx::sound(tuner.nominal, tuner.corrected);
     let number = chip::refusal(whole, 0, 10, 3, room.len(), outcomes.len(), replies.len());

@@ -9,8 +9,9 @@ use borrow.Author.Tests.{eqb-true, lt-ltb, le-ltb, ltb-false}
 use lib.Dec.{eqb, ltb}
 use lib.IntN.{ℤ}
 use lib.ListN.{length}
-use Rattle.chip.specs.declared.Answer.{Answer}
-use Rattle.chip.specs.declared.Answer.the-variants.{Refused}
+use Rattle.refusals.specs.declared.Answer.{Answer}
+use Rattle.refusals.specs.declared.Answer.the-variants.{Refused}
+use Rattle.refusals.specs.Table.{SETUP}
 use Rattle.chip.specs.declared.LockTries.{LockTries}
 use Rattle.chip.specs.Calls.{Called, called}
 use Rattle.chip.specs.Entries.{noTries}
@@ -131,7 +132,7 @@ module _ (ppm : ℤ) (t d : List ℕ) (tr : TunerRead) (dr : DriverRead) (is-tun
   read-is : (tr .ok && dr .ok) ≡ (tunerOf t .ok && driverOf d .ok)
   read-is = λ i. is-tuner i .ok && is-driver i .ok
 
-  pub no-records : (tr .ok && dr .ok) ≡ false → (r : Reply) → r ≡ replyOf (Refused 1) 0 → corrects r t d ≡ correctOver ppm t d
+  pub no-records : (tr .ok && dr .ok) ≡ false → (r : Reply) → r ≡ replyOf (Refused SETUP) 0 → corrects r t d ≡ correctOver ppm t d
   unfolding correctOver
   no-records h r e = ap (λ (x : Reply). corrects x t d) e ∙ rw (sym read-is ∙ h)
 
@@ -153,7 +154,7 @@ module _ (table d t : List ℕ) (dr : DriverRead) (tr : TunerRead) (is-driver : 
   both-read : (dr .ok && tr .ok) ≡ (driverOf d .ok && tunerOf t .ok)
   both-read = λ i. is-driver i .ok && is-tuner i .ok
 
-  pub no-centre : (dr .ok && tr .ok) ≡ false → Refused 1 ≡ centreOver table d t
+  pub no-centre : (dr .ok && tr .ok) ≡ false → Refused SETUP ≡ centreOver table d t
   unfolding centreOver
   no-centre h = rw (sym both-read ∙ h)
 

@@ -6,9 +6,10 @@ use mathlib.Core.List.{List}
 use lib.Dec.{eqb, ltb}
 use lib.IntN.{ℤ}
 use lib.ListN.{length}
-use Rattle.lending.specs.Lent.{Given, answeredTo}
-use Rattle.chip.specs.declared.Answer.{Answer}
-use Rattle.chip.specs.declared.Answer.the-variants.{Refused}
+use Rattle.refusals.specs.Lent.{Given, answeredTo}
+use Rattle.refusals.specs.declared.Answer.{Answer}
+use Rattle.refusals.specs.declared.Answer.the-variants.{Refused}
+use Rattle.refusals.specs.Table.{SETUP}
 use Rattle.chip.specs.Calls.{Called}
 use Rattle.bands.specs.Tables.{planBy}
 use Rattle.centre.specs.Centre.{centreOf}
@@ -34,11 +35,11 @@ freshInto board nominal ppm frequency rate out =
     answeredTo (madeDriver board nominal ppm frequency rate .answer) (driverBytes (madeDriver board nominal ppm frequency rate .driver)) out
 
 abbrev pub xtalOver : List ℕ → Answer
-xtalOver b = ofRecord (driverOf b .ok) (driverOf b .driver) (λ d. xtalAnswer (xtalOf d)) (Refused 1)
+xtalOver b = ofRecord (driverOf b .ok) (driverOf b .driver) (λ d. xtalAnswer (xtalOf d)) (Refused SETUP)
 
 -- the recording's centre: 1 for either record, then 19, 20 and 2
 unfoldable pub centreOver : List ℕ → List ℕ → List ℕ → Answer
-centreOver table d t = cond (driverOf d .ok && tunerOf t .ok) (centreOf table (driverOf d .driver) (tunerOf t .tuner)) (Refused 1)
+centreOver table d t = cond (driverOf d .ok && tunerOf t .ok) (centreOf table (driverOf d .driver) (tunerOf t .tuner)) (Refused SETUP)
 
 -- what a rate leaves: its answer, the room, the slices for both next records
 pub record Rates : Type 0 where
@@ -121,4 +122,4 @@ unfoldable pub correctOver : ℤ → List ℕ → List ℕ → Corrects
 correctOver ppm tuner driver =
     cond (tunerOf tuner .ok && driverOf driver .ok)
     (correctsMade (correctionCall ppm (tunerOf tuner .tuner) (driverOf driver .driver)) tuner driver)
-    (corrects (replyOf (Refused 1) 0) tuner driver)
+    (corrects (replyOf (Refused SETUP) 0) tuner driver)

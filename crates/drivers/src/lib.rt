@@ -3,7 +3,7 @@
 ghost use mathlib.Core.Path.{_≡_};
 ghost use Prim.Native.Nat.{_≤_};
 ghost use lib.ListN.{length};
-ghost use Rattle.lending.specs.Lent.{answeredTo, given};
+ghost use Rattle.refusals.specs.Lent.{answeredTo, given};
 ghost use Rattle.board.specs.Numbers.{pathOf};
 ghost use Rattle.driver.specs.Calls.{boardRow};
 ghost use Rattle.records.specs.Drivers.{driverBytes};
@@ -13,11 +13,11 @@ ghost use Rattle.reply.specs.Replies.{replyOf, tunedOf};
 ghost use Rattle.tuners.specs.Over.{after, nextOf, overTuner};
 ghost use Rattle.drivers.specs.Drivers.{bothReady, centreOver, correctOver, corrects, freshInto, hopOver, hops, rateOver, rates, xtalOver};
 use boards::Hopped;
-use chip::Answer;
 use driver::Driver;
 use driver::Rated;
 use records::DRIVER;
 use records::TUNER;
+use refusals::Answer;
 use reply::Reply;
 use reply::TuneReply;
 
@@ -25,7 +25,7 @@ fn lend(answer: Answer, driver: Driver, out: &mut [u8]) -> Answer
     ensures { λ r. ⌜ given r (now (out .exit)) ≡ answeredTo answer (driverBytes driver) (now (out .entry)) ⌝ }
 {
     let image = records::driver_image(driver);
-    lending::lend_answer(answer, &image, out)
+    refusals::lend_answer(answer, &image, out)
 }
 
 pub fn fresh(
@@ -48,7 +48,7 @@ pub fn corrected_xtal_hz(driver: &[u8]) -> Answer
 {
     let read = records::decode_driver(driver);
     if !read.ok {
-        return Answer::Refused(chip::SETUP);
+        return Answer::Refused(refusals::SETUP);
     }
     let given = read.driver;
     given.corrected_xtal_hz()
@@ -62,7 +62,7 @@ pub fn centre(driver: &[u8], tuner: &[u8], table: &[u8]) -> Answer
     let t = records::decode_tuner(tuner);
     let whole = d.ok & t.ok;
     if !whole {
-        return Answer::Refused(chip::SETUP);
+        return Answer::Refused(refusals::SETUP);
     }
     centre::centre(d.driver, t.tuner, table)
 }
@@ -72,16 +72,16 @@ fn ready(ok: bool, argument: u8, driver: usize, tuner: usize) -> u8
     ensures { λ r. ⌜ r ≡ bothReady ok argument driver tuner ⌝ }
 {
     if !ok {
-        return chip::SETUP;
+        return refusals::SETUP;
     }
     if argument != 0 {
         return argument;
     }
     if driver < DRIVER {
-        return chip::ROOM;
+        return refusals::ROOM;
     }
     if tuner < TUNER {
-        return chip::ROOM;
+        return refusals::ROOM;
     }
     0
 }
@@ -116,7 +116,7 @@ pub fn set_ppm(tuner: &mut [u8], driver: &mut [u8], ppm: i32) -> Reply
     let d = records::decode_driver(driver);
     let whole = t.ok & d.ok;
     if !whole {
-        return tuners::refuse(chip::SETUP);
+        return tuners::refuse(refusals::SETUP);
     }
     let told = driver::corrected(t.tuner, d.driver, ppm);
     let answer = told.answer;

@@ -13,9 +13,10 @@ use Rattle.transcript.specs.Entries.{bare}
 use Rattle.transcript.specs.Sections.{allFit, countOf, entriesIn, entriesOf, isSection, sectionBytes, sectionEntries, sectionOf, startOf}
 use Rattle.transcript.proofs.Exact.{entriesIn-take}
 use Rattle.transcript.proofs.Reading.{found, lies, sound}
-use Rattle.chip.specs.declared.Answer.the-variants as answer
-use Rattle.lending.specs.Lent.{given}
-use Rattle.lending.proofs.Giving as giving
+use Rattle.refusals.specs.declared.Answer.the-variants as answer
+use Rattle.refusals.specs.Lent.{given}
+use Rattle.refusals.proofs.Giving as giving
+use Rattle.refusals.specs.Table.{ROOM, SECTION, EXPANSION}
 use Rattle.expansion.specs.declared.Found.the-variants as number
 use Rattle.expansion.specs.Expansion as spec
 use Rattle.expansion.specs.Expansion.{allExpand, allHeard, expandInto, expanded, heardEntries, readInto, sizeOf}
@@ -43,11 +44,11 @@ is-not true n h =
 is-not false n h = refl
 
 module _ (s out : List ℕ) where
-  pub no-section : section.Refused ≡ sectionOf s → given (answer.Refused 12) out ≡ expandInto s out
+  pub no-section : section.Refused ≡ sectionOf s → given (answer.Refused SECTION) out ≡ expandInto s out
   unfolding expandInto sectionOf
   no-section h =
       let never : isSection s ≡ false = none (isSection s) (startOf s) (countOf s) h in
-      rw never (giving.refused 12 (length (expanded (sectionEntries s))) (expanded (sectionEntries s)) out (omega arith))
+      rw never (giving.refused SECTION (length (expanded (sectionEntries s))) (expanded (sectionEntries s)) out (omega arith))
 
   module _ (start count : ℕ) (h : section.Read start count ≡ sectionOf s) where
     entries : entriesIn count (drop start s) ≡ sectionEntries s
@@ -64,11 +65,11 @@ module _ (s out : List ℕ) where
         let l = lies s start count h in
         (l .0, l .1, ap₂ (λ (k i : ℕ). allFit k (drop i s)) (f .1 .1) (f .1 .0) ∙ sound s (f .0) .fit)
 
-    pub cannot : number.Refused ≡ sizeOf (entriesIn count (drop start s)) → given (answer.Refused 15) out ≡ expandInto s out
+    pub cannot : number.Refused ≡ sizeOf (entriesIn count (drop start s)) → given (answer.Refused EXPANSION) out ≡ expandInto s out
     unfolding expandInto sizeOf
     cannot q =
         let p : allExpand (sectionEntries s) ≡ false = ap allExpand (sym entries) ∙ is-not (allExpand (entriesIn count (drop start s))) (length (expanded (entriesIn count (drop start s)))) q in
-        rw (found s start count h .0, p) (giving.refused 15 (length (expanded (sectionEntries s))) (expanded (sectionEntries s)) out (omega arith))
+        rw (found s start count h .0, p) (giving.refused EXPANSION (length (expanded (sectionEntries s))) (expanded (sectionEntries s)) out (omega arith))
 
     module _ (k : ℕ) (q : number.Is k ≡ sizeOf (entriesIn count (drop start s))) where
       pub sized : (allExpand (entriesIn count (drop start s)) ≡ true) × (k ≡ length (expanded (entriesIn count (drop start s))))
@@ -81,7 +82,7 @@ module _ (s out : List ℕ) where
       long : k ≡ length (expanded (sectionEntries s))
       long = sized .1 ∙ ap (λ (es : List Entry). length (expanded es)) entries
 
-      pub too-short : length out < k → given (answer.Refused 8) out ≡ expandInto s out
+      pub too-short : length out < k → given (answer.Refused ROOM) out ≡ expandInto s out
       unfolding expandInto
       too-short r =
           rw (found s start count h .0, all) (giving.too-short 0 (length (expanded (sectionEntries s))) (expanded (sectionEntries s)) out refl (omega (arith, long)))
@@ -98,10 +99,10 @@ module _ (b out : List ℕ) where
   abbrev bytes : List ℕ
   bytes = sectionBytes (map bare (heardEntries 4096 b))
 
-  pub no-packets : number.Refused ≡ spec.countOf b → given (answer.Refused 15) out ≡ readInto b out
+  pub no-packets : number.Refused ≡ spec.countOf b → given (answer.Refused EXPANSION) out ≡ readInto b out
   unfolding readInto spec.countOf
   no-packets q =
-      rw (is-not (allHeard 4096 b) (length (heardEntries 4096 b)) q) (giving.refused 15 (length bytes) bytes out (omega arith))
+      rw (is-not (allHeard 4096 b) (length (heardEntries 4096 b)) q) (giving.refused EXPANSION (length bytes) bytes out (omega arith))
 
   module _ (k : ℕ) (q : number.Is k ≡ spec.countOf b) where
     pub counts : (allHeard 4096 b ≡ true) × (k ≡ length (heardEntries 4096 b))
@@ -111,7 +112,7 @@ module _ (b out : List ℕ) where
     whole : 16 * k + 8 ≡ length bytes
     whole = omega (arith, counts .1, section-long b)
 
-    pub no-room : length out < 16 * k + 8 → given (answer.Refused 8) out ≡ readInto b out
+    pub no-room : length out < 16 * k + 8 → given (answer.Refused ROOM) out ≡ readInto b out
     unfolding readInto
     no-room r = rw (counts .0) (giving.too-short 0 (length bytes) bytes out refl (omega (arith, whole)))
 

@@ -23,7 +23,7 @@ use Rattle.packets.specs.Heard.{entryIn, packetsStand, syncIn}
 use Rattle.packets.proofs.Units.{bare-core, core, no-stray, unit-read, unit-stands}
 use Rattle.packets.proofs.Begins.{Transfer, became-transfer, entry-expands, entry-fits, kind-within, most-bytes, own-packets, size-within, unit-begins}
 use Rattle.packets.proofs.Written.{stays}
-use Rattle.lending.specs.Lent.{lentTo}
+use Rattle.refusals.specs.Lent.{lentTo}
 use Rattle.expansion.specs.Expansion.{allExpand, allHeard, expandInto, expanded, heardEntries, readInto, transfers}
 use Rattle.expansion.proofs.Hearing.{heard-most}
 

@@ -10,7 +10,8 @@ use Rattle.transcript.specs.Entries.{bare}
 use Rattle.transcript.specs.Sections.{isSection, sectionBytes, sectionEntries}
 use Rattle.packets.specs.Packets.{became, expands, packets, packetsOf}
 use Rattle.packets.specs.Heard.{entryIn, packetsStand}
-use Rattle.lending.specs.Lent.{Given, lentTo}
+use Rattle.refusals.specs.Lent.{Given, lentTo}
+use Rattle.refusals.specs.Table.{SECTION, EXPANSION}
 use Rattle.expansion.specs.declared.Found.{Found}
 use Rattle.expansion.specs.declared.Found.the-variants.{Is, Refused}
 
@@ -30,7 +31,7 @@ sizeOf es = cond (allExpand es) (Is (length (expanded es))) Refused
 unfoldable pub expandInto : List ℕ → List ℕ → Given
 expandInto s out =
     let bytes = expanded (sectionEntries s) in
-    lentTo (cond (isSection s) (cond (allExpand (sectionEntries s)) 0 15) 12) (length bytes) bytes out
+    lentTo (cond (isSection s) (cond (allExpand (sectionEntries s)) 0 EXPANSION) SECTION) (length bytes) bytes out
 
 -- bytes that are packets of at most f entries, one entry's after the other's
 unfoldable pub allHeard : ℕ → List ℕ → Bool
@@ -50,7 +51,7 @@ countOf b = cond (allHeard 4096 b) (Is (length (heardEntries 4096 b))) Refused
 unfoldable pub readInto : List ℕ → List ℕ → Given
 readInto b out =
     let bytes = sectionBytes (map bare (heardEntries 4096 b)) in
-    lentTo (cond (allHeard 4096 b) 0 15) (length bytes) bytes out
+    lentTo (cond (allHeard 4096 b) 0 EXPANSION) (length bytes) bytes out
 
 -- "without waits"; "A repeater entry comes back as the demod write it became."
 unfoldable pub transfers : List Entry → List Entry

@@ -8,14 +8,11 @@ ghost use lib.ListN.{length, drop};
 ghost use lib.Seq.{sets};
 ghost use Rattle.transcript.specs.Entries.{bare};
 ghost use Rattle.transcript.specs.Sections.{allFit, entriesIn, sectionBytes};
-ghost use Rattle.lending.specs.Lent.{given};
+ghost use Rattle.refusals.specs.Lent.{given};
 ghost use Rattle.expansion.specs.Expansion.{allExpand, allHeard, countOf, expandInto, expanded, heardEntries, readInto, sizeOf};
-use chip::Answer;
+use refusals::Answer;
 use transcript::Entry;
 use transcript::Section;
-
-// Refusal 15.
-pub const EXPANSION: u8 = 15;
 
 // A number that was found, or refusal 15.
 pub enum Found {
@@ -62,13 +59,13 @@ pub fn expand(section: &[u8], out: &mut [u8]) -> Answer
     ensures { λ r. ⌜ given r (now (out .exit)) ≡ expandInto (now (section .entry)) (now (out .entry)) ⌝ }
 {
     let Section::Read { start, count } = transcript::read_section(section) else {
-        return Answer::Refused(12);
+        return Answer::Refused(refusals::SECTION);
     };
     let Found::Is(size) = measured(section, start, count) else {
-        return Answer::Refused(EXPANSION);
+        return Answer::Refused(refusals::EXPANSION);
     };
     if out.len() < size {
-        return Answer::Refused(chip::ROOM);
+        return Answer::Refused(refusals::ROOM);
     }
     write_packets(section, start, count, out);
     Answer::Done(size as u64)
@@ -115,11 +112,11 @@ pub fn read_packets(packets: &[u8], out: &mut [u8]) -> Answer
     ensures { λ r. ⌜ given r (now (out .exit)) ≡ readInto (now (packets .entry)) (now (out .entry)) ⌝ }
 {
     let Found::Is(count) = counted(packets) else {
-        return Answer::Refused(EXPANSION);
+        return Answer::Refused(refusals::EXPANSION);
     };
     let size = 16 * count + 8;
     if out.len() < size {
-        return Answer::Refused(chip::ROOM);
+        return Answer::Refused(refusals::ROOM);
     }
     write_section(packets, out);
     Answer::Done(size as u64)

@@ -11,6 +11,7 @@ use lib.IntN.{ℤ}
 use lib.ListN.{length, take, drop, take-append-drop, length-map, length-take, length-drop}
 use lib.Pow.{areBytes}
 use lib.Seq.{take-at, drop-at}
+use Rattle.refusals.specs.Table.{COEFFICIENT}
 use Rattle.fir.specs.declared.Packed.{Packed}
 use Rattle.fir.specs.Packing.{every, firFits, lowOf, no-bytes, packOf, packed, signedOf, threes, twos, unpackOf, within}
 use Rattle.fir.proofs.Lists.{cons}
@@ -141,7 +142,7 @@ pub packed-in : (v : List ℤ) → firFits v ≡ true → packed v ≡ record { 
 unfolding packed
 packed-in v h = simp h
 
-pub packed-out : (v : List ℤ) → firFits v ≡ false → packed v ≡ record { refusal = 7; bytes = no-bytes }
+pub packed-out : (v : List ℤ) → firFits v ≡ false → packed v ≡ record { refusal = COEFFICIENT; bytes = no-bytes }
 unfolding packed
 packed-out v h = simp h
 

@@ -9,6 +9,7 @@ use lib.Dec.{ltb}
 use lib.IntN.{ℤ, pos, negsuc}
 use lib.ListN.{take, drop}
 use lib.Signed.{mag}
+use Rattle.refusals.specs.Table.{COEFFICIENT}
 use Rattle.fir.specs.declared.Packed.{Packed}
 
 -- from -half to half - 1
@@ -54,7 +55,7 @@ no-bytes = 0 ∷ 0 ∷ 0 ∷ 0 ∷ 0 ∷ 0 ∷ 0 ∷ 0 ∷ 0 ∷ 0 ∷ 0 ∷ 0 �
 
 -- the packer's answer: its refusal, 0 or 7, and the bytes, zeros where it refused
 unfoldable pub packed : List ℤ → Packed
-packed v = cond (firFits v) (record { refusal = 0; bytes = packOf v }) (record { refusal = 7; bytes = no-bytes })
+packed v = cond (firFits v) (record { refusal = 0; bytes = packOf v }) (record { refusal = COEFFICIENT; bytes = no-bytes })
 
 -- the Rust's FIR_DEFAULT
 abbrev pub firDefault : List ℤ

@@ -127,7 +127,7 @@ pub fn pack_fir(v: [i32; 16]) -> Packed
         };
     }
     Packed {
-        refusal: 7,
+        refusal: refusals::COEFFICIENT,
         bytes: [0; 20],
     }
 }

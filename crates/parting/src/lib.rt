@@ -94,7 +94,7 @@ fn refused() -> Place
         count: 0,
         index: 0,
         whose: 0,
-        refusal: transcript::SECTION,
+        refusal: refusals::SECTION as u32,
     }
 }
 

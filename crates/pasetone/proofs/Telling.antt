@@ -3,8 +3,8 @@
 use Prim.Native.Nat.{ℕ}
 use mathlib.Core.Path.{_≡_, ap, _∙_}
 use mathlib.Core.List.{List}
-use Rattle.lending.specs.Lent.{Given, given}
-use Rattle.chip.specs.declared.Answer.{Answer}
+use Rattle.refusals.specs.Lent.{Given, given}
+use Rattle.refusals.specs.declared.Answer.{Answer}
 use Rattle.chip.specs.Calls.{Called, called}
 use Rattle.reply.specs.declared.Reply.{Reply}
 use Rattle.reply.specs.Replies.{replyOf}

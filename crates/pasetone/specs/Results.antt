@@ -5,8 +5,8 @@ use Prim.Native.Nat.{ℕ}
 use mathlib.Core.Bool.{Bool, not}
 use mathlib.Core.List.{List}
 use lib.Dec.{eqb}
-use Rattle.lending.specs.Lent.{Given}
-use Rattle.chip.specs.declared.Answer.{Answer}
+use Rattle.refusals.specs.Lent.{Given}
+use Rattle.refusals.specs.declared.Answer.{Answer}
 use Rattle.chip.specs.Calls.{Called}
 use Rattle.reply.specs.declared.Reply.{Reply}
 use Rattle.reply.specs.Replies.{callReply, replyOf}

@@ -40,9 +40,9 @@ use denote.Triple.Entry.{onEntry}
 use denote.Triple.Spec.{Meets, tripleOf}
 use denote.Triple.Walked.{says, Stays, stay-none, walkOf, AllGo, goes-none, Walks, ends-at, walked, walk-meets}
 use Rattle.chip.specs.Calls.{Called, called}
-use Rattle.chip.specs.declared.Answer.{Answer}
-use Rattle.chip.proofs.Answer as S
-use Rattle.chip.proofs.Answer.Laws as S′
+use Rattle.refusals.specs.declared.Answer.{Answer}
+use Rattle.refusals.proofs.Answer as S
+use Rattle.refusals.proofs.Answer.Laws as S′
 use Rattle.r82xx.specs.declared.Tuner.{Tuner}
 use Rattle.r82xx.specs.declared.TunerResult.{TunerResult}
 use Rattle.r82xx.proofs.Lent.{Lies, lies-in, lies-out, vals}

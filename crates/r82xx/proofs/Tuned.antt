@@ -12,8 +12,9 @@ use lib.ListN.{getD, length, replicate}
 use Rattle.board.specs.declared.Path.{Path}
 use Rattle.board.specs.declared.PathRead.{PathRead}
 use Rattle.board.specs.declared.PathRead.the-variants as path-read
-use Rattle.chip.specs.declared.Answer.{Answer}
-use Rattle.chip.specs.declared.Answer.the-variants.{Done, Refused}
+use Rattle.refusals.specs.declared.Answer.{Answer}
+use Rattle.refusals.specs.declared.Answer.the-variants.{Done, Refused}
+use Rattle.refusals.specs.Table.{SETUP}
 use Rattle.chip.specs.declared.Chip.{Chip}
 use Rattle.chip.specs.declared.Flow.{Flow}
 use Rattle.chip.specs.declared.LockTries.{LockTries}
@@ -103,16 +104,16 @@ abbrev pathLeft : PathRead → Kind → List ℕ → Tuner → List ℕ → Call
 pathLeft p kind os t room = leftBy (sound t) (pathRow p kind t) os (t .chip) t room
 
 -- a refusal by 1 is the same whether or not the record is in its ranges
-pub either-one : (b : Bool) (t : Tuner) (room : List ℕ) → called t room 0 (Refused 1) ≡ cond b (called t room 0 (Refused 1)) (called t room 0 (Refused 1))
+pub either-one : (b : Bool) (t : Tuner) (room : List ℕ) → called t room 0 (Refused SETUP) ≡ cond b (called t room 0 (Refused SETUP)) (called t room 0 (Refused SETUP))
 either-one true t room = refl
 either-one false t room = refl
 
-pub path-none : (p : PathRead) (kind : Kind) (os : List ℕ) (t : Tuner) (room : List ℕ) → p ≡ path-read.Refused → called t room 0 (Refused 1) ≡ pathLeft p kind os t room
+pub path-none : (p : PathRead) (kind : Kind) (os : List ℕ) (t : Tuner) (room : List ℕ) → p ≡ path-read.Refused → called t room 0 (Refused SETUP) ≡ pathLeft p kind os t room
 unfolding leftBy
 path-none p kind os t room e = rw e (either-one (sound t) t room)
 
 -- the answer of a call without steps
-still-answered : (b : Bool) (t u : Tuner) (room : List ℕ) (value : ℕ) → called t room 0 (cond b (Done value) (Refused 1)) ≡ cond b (called t room 0 (Done value)) (called t room 0 (Refused 1))
+still-answered : (b : Bool) (t u : Tuner) (room : List ℕ) (value : ℕ) → called t room 0 (cond b (Done value) (Refused SETUP)) ≡ cond b (called t room 0 (Done value)) (called t room 0 (Refused SETUP))
 still-answered true t u room value = refl
 still-answered false t u room value = refl
 
@@ -137,7 +138,7 @@ chosen-step db k e = ap clamped e ∙ within (chosenOf db) (chosen-lt db)
     within n h = omega arith
 
 -- what is stored and answered on numbers is what the rows leave
-told-still : (b : Bool) (t : Tuner) (value : ℕ) → cond b (Done value) (Refused 1) ≡ cond b (called t [] 0 (Done value)) (called t [] 0 (Refused 1)) .answer
+told-still : (b : Bool) (t : Tuner) (value : ℕ) → cond b (Done value) (Refused SETUP) ≡ cond b (called t [] 0 (Done value)) (called t [] 0 (Refused SETUP)) .answer
 told-still true t value = refl
 told-still false t value = refl
 
@@ -157,7 +158,7 @@ pub notch-left : (t : Tuner) (on : Bool) → called (withNotch t (keptNotch (t .
 unfolding resultOf leftBy keptNotch soundAnswer
 notch-left t on = go (sound t)
   where
-    go : (b : Bool) → called (withNotch t (cond b on (t .notch))) [] 0 (cond b (Done 0) (Refused 1)) ≡ cond b (called (withNotch t on) [] 0 (Done 0)) (called t [] 0 (Refused 1))
+    go : (b : Bool) → called (withNotch t (cond b on (t .notch))) [] 0 (cond b (Done 0) (Refused SETUP)) ≡ cond b (called (withNotch t on) [] 0 (Done 0)) (called t [] 0 (Refused SETUP))
     go true = refl
     go false = refl
 

@@ -3,6 +3,7 @@
 use Prim.Native.Nat.{ℕ, _+_, _^_}
 use mathlib.Core.Bool.{_||_, cond}
 use lib.Dec.{eqb, leb}
+use Rattle.refusals.specs.Table.{FREQUENCY}
 use Rattle.chip.specs.Calls.{refusalWith}
 use Rattle.pll.specs.declared.Pll.{Pll}
 use Rattle.pll.specs.Plan.{planOf}
@@ -15,7 +16,7 @@ refusalOf t = refusalWith (sound t)
 
 -- "2 frequency | hz 0; hz + IF over u64"
 abbrev pub hzRefusal : ℕ → ℕ → ℕ
-hzRefusal hz ifreq = cond (eqb hz 0 || leb (2 ^ 64) (hz + ifreq)) 2 0
+hzRefusal hz ifreq = cond (eqb hz 0 || leb (2 ^ 64) (hz + ifreq)) FREQUENCY 0
 
 abbrev pub planFor : Tuner → ℕ → Pll
 planFor t hz = planOf (t .kind) (hz + t .ifreq) (t .corrected)

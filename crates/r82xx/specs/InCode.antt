@@ -3,8 +3,9 @@
 -- Assumes nothing.
 use Prim.Native.Nat.{ℕ}
 use mathlib.Core.Bool.{Bool, cond}
-use Rattle.chip.specs.declared.Answer.{Answer}
-use Rattle.chip.specs.declared.Answer.the-variants.{Done, Refused}
+use Rattle.refusals.specs.declared.Answer.{Answer}
+use Rattle.refusals.specs.declared.Answer.the-variants.{Done, Refused}
+use Rattle.refusals.specs.Table.{SETUP}
 use Rattle.r82xx.specs.Record.{soundBy}
 
 -- the notch that `apply_notch` stores
@@ -13,4 +14,4 @@ keptNotch nominal corrected old on = cond (soundBy nominal corrected) on old
 
 -- an answer that only says whether the record was sound
 unfoldable pub soundAnswer : ℕ → ℕ → ℕ → Answer
-soundAnswer nominal corrected value = cond (soundBy nominal corrected) (Done value) (Refused 1)
+soundAnswer nominal corrected value = cond (soundBy nominal corrected) (Done value) (Refused SETUP)

@@ -10,8 +10,9 @@ use lib.ListN.{length, replicate}
 use Rattle.board.specs.declared.PathRead.{PathRead}
 use Rattle.board.specs.declared.PathRead.the-variants as path-read
 use Rattle.board.specs.Numbers.{pathOf}
-use Rattle.chip.specs.declared.Answer.{Answer}
-use Rattle.chip.specs.declared.Answer.the-variants.{Done, Refused}
+use Rattle.refusals.specs.declared.Answer.{Answer}
+use Rattle.refusals.specs.declared.Answer.the-variants.{Done, Refused}
+use Rattle.refusals.specs.Table.{SETUP}
 use Rattle.chip.specs.declared.LockTries.{LockTries}
 use Rattle.chip.specs.declared.Update.{Update}
 use Rattle.chip.specs.Calls.{Called, lockTriesIn}
@@ -57,7 +58,7 @@ gainRow k t = bracket 5 (gainUpdates k) (Done (toBits binary32 (gainOf (stepAt k
 
 -- "input path 4, 0 (R820T: 0, 0)"; a number that names no path is a setup: 1
 abbrev pub pathRow : PathRead → Kind → Tuner → Course Tuner
-pathRow path-read.Refused kind t = Still t (Refused 1)
+pathRow path-read.Refused kind t = Still t (Refused SETUP)
 pathRow (path-read.Is path) R820T t = Still t (Done 0)
 pathRow (path-read.Is path) R828D t = bracket 2 (pathUpdates path) (Done 0) t t
 

@@ -6,8 +6,9 @@ use mathlib.Core.List.{List}
 use lib.Dec.{eqb, leb}
 use lib.Ieee.{Float, binary32, ofBits}
 use lib.ListN.{replicate}
-use Rattle.chip.specs.declared.Answer.{Answer}
-use Rattle.chip.specs.declared.Answer.the-variants.{Done, Refused, Stopped}
+use Rattle.refusals.specs.declared.Answer.{Answer}
+use Rattle.refusals.specs.declared.Answer.the-variants.{Done, Refused, Stopped}
+use Rattle.refusals.specs.Table.{SETUP}
 use Rattle.chip.specs.declared.Chip.{Chip}
 use Rattle.chip.specs.declared.Progress.{Progress}
 use Rattle.chip.specs.Steps.{goes}
@@ -45,7 +46,7 @@ made answer tuner = record { answer = answer; tuner = tuner }
 
 -- "1 setup | kind not R820T or R828D, or nominal reference not 1..4,294,967,295 | nothing made": the record beside a refusal is always this one
 abbrev pub nothingMade : Made
-nothingMade = made (Refused 1) (freshTuner R820T 0 1)
+nothingMade = made (Refused SETUP) (freshTuner R820T 0 1)
 
 -- kind: 0 R820T, 1 R828D
 unfoldable pub madeOf : ℕ → ℕ → ℕ → Made

@@ -8,7 +8,7 @@ ghost use lib.Ieee.{binary32, toBits};
 ghost use Prim.Native.Nat.{ℕ, _+_, _≤_, _<_};
 ghost use lib.ListN.{length};
 ghost use Rattle.chip.specs.Calls.{called, performed, lockTriesIn};
-ghost use Rattle.chip.specs.declared.Answer.the-variants.{Done, Refused};
+ghost use Rattle.refusals.specs.declared.Answer.the-variants.{Done, Refused};
 ghost use Rattle.chip.specs.Entries.{lockTries};
 ghost use Rattle.chip.specs.InCode.{meantOf};
 ghost use Rattle.chip.specs.Steps.{allIn, goes, trace};
@@ -20,13 +20,13 @@ ghost use Rattle.r82xx.specs.Calls.{hzRefusal, refusalOf};
 ghost use Rattle.r82xx.specs.Orders.{bracket, lockKept, quietly, resultOf, lockTriesOf, tableOf, tuneOf};
 ghost use Rattle.r82xx.specs.Orders.Order.{Initialize, Reload, Bandwidth, IfFreq, Gain, GainIndex, InputPath, Tune, Notch, GainTold, IfTold};
 use board::PathRead;
-use chip::Answer;
 use chip::Chip;
 use chip::Flow;
 use chip::Progress;
 use chip::Updates;
 use pll::Kind;
 use pll::Pll;
+use refusals::Answer;
 use tuning::Tuning;
 use writes::IF_FREQ_NARROW;
 use writes::INIT_ARRAY;
@@ -122,10 +122,10 @@ pub fn hz_refusal(hz: u64, ifreq: u64) -> u8
     ensures { λ r. ⌜ r ≡ hzRefusal hz ifreq ⌝ }
 {
     if hz == 0 {
-        return chip::FREQUENCY;
+        return refusals::FREQUENCY;
     }
     if 0xffff_ffff_ffff_ffff - ifreq < hz {
-        return chip::FREQUENCY;
+        return refusals::FREQUENCY;
     }
     0
 }
@@ -134,7 +134,7 @@ fn sound_answer(nominal: u32, corrected: u32, value: u64) -> Answer
     ensures { λ r. ⌜ r ≡ soundAnswer nominal corrected value ⌝ }
 {
     if !sound(nominal, corrected) {
-        return Answer::Refused(chip::SETUP);
+        return Answer::Refused(refusals::SETUP);
     }
     Answer::Done(value)
 }
@@ -166,7 +166,7 @@ impl Tuner {
         ensures { λ r. ⌜ r ≡ madeOf kind address nominal ⌝ }
     {
         let refused = Made {
-            answer: Answer::Refused(chip::SETUP),
+            answer: Answer::Refused(refusals::SETUP),
             tuner: fresh(Kind::R820T, 0, 1),
         };
         if nominal < 1 {
@@ -317,7 +317,7 @@ impl Tuner {
             ≡ resultOf (InputPath path) (now (outcomes .entry)) self (now (room .entry)) ⌝ }
     {
         let PathRead::Is(by) = board::path_of(path) else {
-            return refused(self, chip::SETUP);
+            return refused(self, refusals::SETUP);
         };
         let kind = self.kind;
         match kind {

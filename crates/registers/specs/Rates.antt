@@ -9,6 +9,7 @@ use mathlib.Core.Bool.{Bool, _&&_, cond}
 use mathlib.Core.List.{List, [], _∷_}
 use lib.Dec.{eqb, leb, ltb}
 use lib.Bits.{bitAnd, bitOr}
+use Rattle.refusals.specs.Table.{RATE, CORRECTION, RATIO}
 use Rattle.registers.specs.declared.IfRegs.{IfRegs}
 use Rattle.registers.specs.declared.ResampleRegs.{ResampleRegs}
 
@@ -41,15 +42,15 @@ ratioHolds r = leb 4 r && ltb r (2 ^ 29) && eqb (r / 2 ^ 27 % 2) (r / 2 ^ 28 % 2
 
 -- 4 for a reference of 0, before a later number
 abbrev pub xtalNumber : ℕ → ℕ → ℕ
-xtalNumber xtal later = cond (eqb xtal 0) 4 later
+xtalNumber xtal later = cond (eqb xtal 0) CORRECTION later
 
 -- "both resampler calls, after rate": 3, then 4, before a later number
 abbrev pub zeroNumber : ℕ → ℕ → ℕ → ℕ
-zeroNumber rate xtal later = cond (eqb rate 0) 3 (xtalNumber xtal later)
+zeroNumber rate xtal later = cond (eqb rate 0) RATE (xtalNumber xtal later)
 
 -- why a rate is not sent, 0 where it is: "new 13 ratio, after 3 and after 4 for a zero reference"
 unfoldable pub rateNumber : ℕ → ℕ → ℕ
-rateNumber rate xtal = zeroNumber rate xtal (cond (ratioHolds (ratioOf rate xtal)) 0 13)
+rateNumber rate xtal = zeroNumber rate xtal (cond (ratioHolds (ratioOf rate xtal)) 0 RATIO)
 
 -- Document 02, #104: "the true rate, xtal·2^22 divided by the ratio as sent after masking and the copied bit, cut to a whole u64"
 unfoldable pub trueOf : ℕ → ℕ → ℕ
@@ -65,7 +66,7 @@ numberFrom x [] = x
 numberFrom x (b ∷ bs) = numberFrom (x * 2 ^ 8 + b) bs
 
 unfoldable pub ifRegsOf : ℕ → ℕ → IfRegs
-ifRegsOf hz xtal = cond (eqb xtal 0) (record { refusal = 4; bytes = 0 ∷ 0 ∷ 0 ∷ [] }) (record { refusal = 0; bytes = threeOf (ifRatioOf hz xtal) })
+ifRegsOf hz xtal = cond (eqb xtal 0) (record { refusal = CORRECTION; bytes = 0 ∷ 0 ∷ 0 ∷ [] }) (record { refusal = 0; bytes = threeOf (ifRatioOf hz xtal) })
 
 -- six bits and three bytes, high first
 abbrev pub fourOf : ℕ → List ℕ

@@ -160,10 +160,10 @@ fn zero_number(rate: u32, xtal: u32) -> u8
     ensures { λ r. ⌜ r ≡ zeroNumber rate xtal 0 ⌝ }
 {
     if rate == 0 {
-        return 3;
+        return refusals::RATE;
     }
     if xtal == 0 {
-        return 4;
+        return refusals::CORRECTION;
     }
     0
 }
@@ -180,7 +180,7 @@ pub fn rate_number(rate: u32, xtal: u32) -> u8
     if ratio_holds(whole) {
         return 0;
     }
-    13
+    refusals::RATIO
 }
 
 // The rate that is had for one that is asked: the ratio is sent without its two low bits.
@@ -209,7 +209,7 @@ pub fn if_freq_regs(hz: u32, xtal: u32) -> IfRegs
 {
     if xtal == 0 {
         return IfRegs {
-            refusal: 4,
+            refusal: refusals::CORRECTION as u32,
             bytes: [0, 0, 0],
         };
     }

@@ -89,7 +89,7 @@ fn unless_refused(refusal: u64, bytes: &[u8]) -> &[u8]
 pub fn valued(c: &[u8], refusal: u64, value: u64, bytes: &[u8]) -> Verdict
     ensures { λ r. ⌜ (r ≡ Verdict.Same → Valued (now (c .entry)) refusal value (now (bytes .entry))) ⌝ }
 {
-    if layout::one(c, layout::REFUSAL) == 8 {
+    if layout::one(c, layout::REFUSAL) == refusals::ROOM as u64 {
         return Verdict::Later;
     }
     let told = Answer {

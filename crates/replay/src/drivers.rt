@@ -6,11 +6,11 @@ use crate::compare;
 use crate::handed;
 use crate::layout;
 use boards::Hopped;
-use chip::Answer;
 use compare::Verdict;
 use driver::Driver;
 use driver::Rated;
 use r82xx::Tuner;
+use refusals::Answer;
 
 fn ppm_of(c: &[u8]) -> i32 {
     wire::to_signed(layout::four(c, layout::D) as u32)
@@ -145,7 +145,7 @@ pub fn tune_board(c: &[u8]) -> Verdict {
     let t = read.tuner;
     let d = given.driver;
     if !(read.ok & given.ok) {
-        let setup = Answer::Refused(chip::SETUP);
+        let setup = Answer::Refused(refusals::SETUP);
         return judged_both(c, setup, 0, t, d, handed::room(&space, n), &[0, 0]);
     }
     let hopped = hop(c, t, d, n, &mut space);

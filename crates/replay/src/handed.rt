@@ -3,11 +3,11 @@ ghost use mathlib.Core.Path.{_≡_};
 ghost use Prim.Native.Nat.{_<_};
 use crate::compare;
 use crate::layout;
-use chip::Answer;
 use compare::Verdict;
 use driver::Driver;
 use r82xx::Tuner;
 use r82xx::TunerResult;
+use refusals::Answer;
 
 pub fn numbers(answer: Answer, count: usize) -> compare::Answer {
     match answer {
@@ -24,7 +24,7 @@ pub fn numbers(answer: Answer, count: usize) -> compare::Answer {
             count: count,
         },
         Answer::Stopped(index) => compare::Answer {
-            refusal: 11,
+            refusal: refusals::STEP as u64,
             value: 0,
             index: index,
             count: count,
@@ -78,7 +78,7 @@ pub fn judged(c: &[u8], told: TunerResult, room: &[u8]) -> Verdict {
 // A given record that is not valid.
 pub fn refused(c: &[u8], room: &[u8]) -> Verdict {
     let told = compare::Answer {
-        refusal: 1,
+        refusal: refusals::SETUP as u64,
         value: 0,
         index: 0,
         count: 0,

@@ -80,7 +80,7 @@ pub fn read_section(c: &[u8]) -> Verdict {
         }
         transcript::Section::Refused => {
             let told = Answer {
-                refusal: transcript::SECTION as u64,
+                refusal: refusals::SECTION as u64,
                 value: 0,
                 index: 0,
                 count: 0,

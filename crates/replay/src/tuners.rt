@@ -91,7 +91,7 @@ pub fn tuned(c: &[u8]) -> Verdict {
     let read = records::decode_tuner(layout::part(c, layout::TUNER));
     let t = read.tuner;
     if !read.ok {
-        let told = r82xx::refused(t, chip::SETUP);
+        let told = r82xx::refused(t, refusals::SETUP);
         return handed::judged_with(c, told, handed::room(&space, n), &[0, 0]);
     }
     let tuned = tune(c, t, n, &mut space);
@@ -136,7 +136,7 @@ pub fn get_gain_table(c: &[u8]) -> Verdict {
     }
     let mut out = [0xa5u8; 1088];
     if !read.ok {
-        return handed::answered(c, chip::Answer::Refused(chip::SETUP), &out, n);
+        return handed::answered(c, refusals::Answer::Refused(refusals::SETUP), &out, n);
     }
     let t = read.tuner;
     let a = answers::gain_table(t, &mut out[0..n]);

@@ -3,9 +3,10 @@
 use Prim.Native.Nat.{ℕ, zero, suc, _%_}
 use mathlib.Core.Bool.{cond}
 use mathlib.Core.List.{List, [], _∷_}
-use Rattle.chip.specs.declared.Answer.{Answer}
+use Rattle.refusals.specs.declared.Answer.{Answer}
 use Rattle.chip.specs.declared.LockTries.{LockTries}
-use Rattle.chip.specs.Calls.{Called, indexOf, numberOf, valueOf}
+use Rattle.refusals.specs.Answers.{indexOf, numberOf, valueOf}
+use Rattle.chip.specs.Calls.{Called}
 use Rattle.transcript.specs.declared.Entry.{Entry}
 use Rattle.transcript.specs.declared.Section.{Section}
 use Rattle.transcript.specs.declared.Section.the-variants as section

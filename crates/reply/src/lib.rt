@@ -5,7 +5,7 @@ ghost use mathlib.Core.Path.{_≡_};
 ghost use Prim.Native.Nat.{_%_};
 ghost use Rattle.chip.specs.Entries.{lockTries};
 ghost use Rattle.reply.specs.Replies.{partsOf, replyOf, tunedOf};
-use chip::Answer;
+use refusals::Answer;
 use transcript::Section;
 
 // refusal 0 is done; index is the failing entry's where it is 11; count is how many entries were made.
@@ -63,7 +63,7 @@ pub fn numbers(answer: Answer, count: usize) -> Reply
         Answer::Stopped(index) => Reply {
             value: 0,
             index: index as u64,
-            refusal: 11,
+            refusal: refusals::STEP as u32,
             count: low,
         },
     }

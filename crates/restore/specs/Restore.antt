@@ -6,6 +6,7 @@ use mathlib.Core.Path.{_≡_}
 use mathlib.Core.Bool.{Bool, true, false, cond, not, _&&_}
 use mathlib.Core.List.{List, [], _∷_, map}
 use lib.Dec.{leb, ltb}
+use Rattle.refusals.specs.Table.{SECTION}
 use Rattle.transcript.specs.declared.Entry.{Entry}
 use Rattle.transcript.specs.Sections.{sectionBytes}
 use Rattle.attempts.specs.Attempts.{byteIn, doubtIn, lastIn, names}
@@ -65,7 +66,7 @@ listBytes address s = sectionBytes (listOf address (chainEntries s))
 
 -- "Refusals: 12 for any section"
 abbrev pub refusedBy : List ℕ → ℕ
-refusedBy s = cond (chain s) 0 12
+refusedBy s = cond (chain s) 0 SECTION
 
 -- ---- what the list is for
 

@@ -12,9 +12,10 @@ use lib.Seq.{sets, sets-eq, take-at}
 use Rattle.transcript.specs.declared.Entry.{Entry}
 use Rattle.transcript.specs.Sections.{sectionBytes}
 use Rattle.transcript.proofs.Laid.{length-sectionBytes}
-use Rattle.chip.specs.declared.Answer.the-variants.{Refused}
-use Rattle.lending.specs.Lent.{given, lentTo}
-use Rattle.lending.proofs.Giving as giving
+use Rattle.refusals.specs.declared.Answer.the-variants.{Refused}
+use Rattle.refusals.specs.Lent.{given, lentTo}
+use Rattle.refusals.proofs.Giving as giving
+use Rattle.refusals.specs.Table.{SECTION}
 use Rattle.attempts.specs.Attempts.{Last, byteIn, doubtIn, lastIn}
 use Rattle.attempts.specs.Namings.Last.{Never, Tried}
 use Rattle.sections.specs.Chain.{chain, chainEntries}
@@ -127,7 +128,7 @@ all-good s refusal is h = go (chain s) refl
     go : (b : Bool) → chain s ≡ b → chain s ≡ true
     go true e = e
     go false e =
-        let twelve : refusal ≡ 12 = is ∙ rw e in
+        let twelve : refusal ≡ SECTION = is ∙ rw e in
         absurd (omega arith)
 
 pub refuses : (s : List ℕ) (address : ℕ) (out : List ℕ) (refusal : ℕ) → refusal ≡ refusedBy s → (refusal ≡ 0 → ⊥) → given (Refused refusal) out ≡ restoreInto s address out

@@ -9,7 +9,7 @@ use lib.ListN.{length, getD}
 use Rattle.transcript.specs.declared.Entry.{Entry}
 use Rattle.attempts.specs.Attempts.{Last, lastIn}
 use Rattle.attempts.specs.Namings.Last.{Never, Tried}
-use Rattle.lending.specs.Lent.{Given, lentTo}
+use Rattle.refusals.specs.Lent.{Given, lentTo}
 use Rattle.restore.specs.Restore.{listBytes, refusedBy}
 
 -- what is told of a register: a mark, and the byte that was sent last

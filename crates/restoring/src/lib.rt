@@ -9,10 +9,10 @@ ghost use lib.ListN.{length, drop};
 ghost use lib.Seq.{sets};
 ghost use Rattle.transcript.specs.Sections.{allFit, entriesIn, sectionBytes};
 ghost use Rattle.sections.specs.Chain.{chain, chainEntries};
-ghost use Rattle.lending.specs.Lent.{given};
+ghost use Rattle.refusals.specs.Lent.{given};
 ghost use Rattle.restore.specs.Restore.{listBy, refusedBy, runOf, runLen, runs, slot, writeOf};
 ghost use Rattle.restoring.specs.Standing.{heldOf, markOf, nextSure, only, over, restoreInto, sureOf, knownAs, knownIn, knownAll};
-use chip::Answer;
+use refusals::Answer;
 use transcript::Entry;
 use transcript::Section;
 
@@ -105,7 +105,7 @@ fn walked(s: &[u8], address: u8, marks: &mut [u8], sent: &mut [u8]) -> u8
     while 0 < end {
         let part = &s[0..end];
         let Section::Read { start, count } = transcript::read_section(part) else {
-            return 12;
+            return refusals::SECTION;
         };
         noted_all(part, start, count, address, marks, sent);
         end = start;
@@ -230,5 +230,5 @@ pub fn restore(sections: &[u8], address: u8, out: &mut [u8]) -> Answer
     }
     let mut image = [0u8; 232];
     let size = write_list(address, &marks, &sent, &mut image);
-    lending::lend(0, size as u64, &image[0..size], out)
+    refusals::lend(0, size as u64, &image[0..size], out)
 }

@@ -8,6 +8,7 @@ use borrow.Author.Tests.{eqb-false, eqb-true, ltb-true, ltb-false}
 use lib.Dec.{eqb, leb, ltb}
 use lib.ListN.{List·getD-append, drop, getD, length, length-append, length-drop, take, take-append-drop}
 use lib.Seq.{drop-append-seam, getD-append-seam, getD-drop, getD-take, length-take-le, sets, take-add, take-append-add, take-append-seam, take-take}
+use Rattle.refusals.specs.Table.{SETUP, ROOM, OUTCOMES, REPLIES}
 use Rattle.transcript.specs.declared.Entry.{Entry}
 use Rattle.transcript.specs.Entries.{bare, zeros8}
 use Rattle.transcript.specs.Table.{isRead}
@@ -121,7 +122,7 @@ unfolding tooShort
 outcomes-lent s (Still left answer) os room h = omega arith
 outcomes-lent s (Taken argument n m rs whole ss keep) os room h = go s (eqb argument 0) refl (ltb room (16 * n + 8)) (ltb os n) refl h
   where
-    go : (w z : Bool) → eqb argument 0 ≡ z → (x y : Bool) → ltb os n ≡ y → cond w (cond z (cond x 8 (cond y 9 (cond (ltb (length rs) m) 10 0))) argument) 1 ≡ 0 → n ≤ os
+    go : (w z : Bool) → eqb argument 0 ≡ z → (x y : Bool) → ltb os n ≡ y → cond w (cond z (cond x ROOM (cond y OUTCOMES (cond (ltb (length rs) m) REPLIES 0))) argument) SETUP ≡ 0 → n ≤ os
     go true true e true y l q = absurd (omega arith)
     go true true e false true l q = absurd (omega arith)
     go true true e false false l q = ltb-false os n l

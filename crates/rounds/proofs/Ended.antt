@@ -10,7 +10,7 @@ use lib.ListN.{getD, length, length-append, length-take, take}
 use Rattle.transcript.specs.declared.Entry.{Entry}
 use Rattle.transcript.specs.Entries.{bare}
 use Rattle.transcript.specs.Table.{isRead}
-use Rattle.chip.specs.declared.Answer.{Answer}
+use Rattle.refusals.specs.declared.Answer.{Answer}
 use Rattle.chip.specs.declared.Chip.{Chip}
 use Rattle.chip.specs.declared.Progress.the-variants.{Going}
 use Rattle.chip.specs.Calls.{Called, callEntries, callOf, performed, refusalWith}

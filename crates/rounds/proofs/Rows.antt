@@ -9,8 +9,9 @@ use Rattle.bands.specs.Tables.{planBy}
 use Rattle.board.specs.declared.PathRead.{PathRead}
 use Rattle.board.specs.declared.PathRead.the-variants as path-read
 use Rattle.board.specs.Numbers.{pathOf}
-use Rattle.chip.specs.declared.Answer.{Answer}
-use Rattle.chip.specs.declared.Answer.the-variants.{Refused}
+use Rattle.refusals.specs.declared.Answer.{Answer}
+use Rattle.refusals.specs.declared.Answer.the-variants.{Refused}
+use Rattle.refusals.specs.Table.{SETUP}
 use Rattle.chip.specs.declared.Chip.{Chip}
 use Rattle.chip.specs.Calls.{callEntries, refusalWith}
 use Rattle.chip.specs.Courses.{Course, askedBy, entriesBy, stepsOf}
@@ -138,7 +139,7 @@ module _ (k : ℕ) (qs ps : List ℕ) (known : take k qs ≡ take k ps) where
       subst (λ (x : List Step). Alike k qs 0 x ts) (append-nil ss) (subst (λ (x : List Step). Alike k qs 0 (ss ++ []) x) (append-nil ts) a)
 
   board-kin : (p : PathRead) (t : Tuner) → Kin k qs ps Tuner (boardRow p qs t) (boardRow p ps t)
-  board-kin path-read.Refused t = still t (Refused 1)
+  board-kin path-read.Refused t = still t (Refused SETUP)
   board-kin (path-read.Is path) t = moved _ _ _ qs ps _ _ _ _ (λ l. l) (whole-of _ _ (path-alike k qs ps known (t .kind) path [] [] none))
 
   tuner-kin : (o : tuner.Order) (t : Tuner) → Kin k qs ps Tuner (tuner.courseOf (tunerWith qs o) t) (tuner.courseOf (tunerWith ps o) t)

@@ -13,8 +13,8 @@ use Rattle.attempts.specs.Namings as any
 use Rattle.attempts.specs.Namings.{Last}
 use Rattle.attempts.specs.Namings.Last.{Never, Tried}
 use Rattle.attempts.proofs.Lasts.{known, last-append, last-known}
-use Rattle.chip.specs.declared.Answer.{Answer}
-use Rattle.chip.specs.declared.Answer.the-variants.{Done, Refused, Stopped}
+use Rattle.refusals.specs.declared.Answer.{Answer}
+use Rattle.refusals.specs.declared.Answer.the-variants.{Done, Refused, Stopped}
 use Rattle.chip.specs.declared.Chip.{Chip}
 use Rattle.chip.specs.declared.Progress.{Progress}
 use Rattle.chip.specs.declared.Progress.the-variants.{Going, Refused11}

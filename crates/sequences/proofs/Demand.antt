@@ -19,7 +19,7 @@ use Rattle.transcript.specs.Sections.{AllFit, Parted}
 use Rattle.attempts.specs.Attempts.{Played, Regs, byteIn, doubtIn, lastIn}
 use Rattle.attempts.specs.Namings.Last.{Never, Tried}
 use Rattle.attempts.proofs.Doubt.{InVain}
-use Rattle.chip.specs.declared.Answer.the-variants.{Done, Stopped}
+use Rattle.refusals.specs.declared.Answer.the-variants.{Done, Stopped}
 use Rattle.chip.specs.declared.Chip.{Chip}
 use Rattle.chip.specs.declared.Progress.the-variants.{Going, Refused11}
 use Rattle.chip.specs.Calls.{Called}

@@ -5,7 +5,7 @@ use mathlib.Core.Bool.{Bool, true, false, not, _&&_, cond}
 use mathlib.Core.List.{List, [], _∷_}
 use lib.Dec.{eqb}
 use Rattle.transcript.specs.declared.Entry.{Entry}
-use Rattle.chip.specs.declared.Answer.{Answer}
+use Rattle.refusals.specs.declared.Answer.{Answer}
 use Rattle.chip.specs.declared.Chip.{Chip}
 use Rattle.chip.specs.declared.Progress.{Progress}
 use Rattle.chip.specs.declared.Progress.the-variants.{Going, Refused11}

@@ -8,7 +8,8 @@ use borrow.Author.Tests.{eq-eqb}
 use lib.Dec.{eqb}
 use lib.ListN.{length, replicate}
 use Rattle.transcript.specs.declared.Entry.{Entry}
-use Rattle.chip.specs.declared.Answer.the-variants.{Refused}
+use Rattle.refusals.specs.declared.Answer.the-variants.{Refused}
+use Rattle.refusals.specs.Table.{FREQUENCY}
 use Rattle.chip.specs.declared.Chip.{Chip}
 use Rattle.chip.specs.declared.Progress.the-variants.{Going}
 use Rattle.chip.specs.Calls.{Called, answerOf, tooShort, lockedIn, performed, lockTriesIn, triesIn}
@@ -67,12 +68,12 @@ module _ (t : Tuner) (hz z : ℕ) (rs os room : List ℕ) where
     abbrev run-of : Trace
     run-of = trace outcomes (tuneOf t pll-variants.Refused hz rs) (t .chip)
 
-    left : result (call (Tuned (Tune hz rs)) outcomes room) t ≡ performed (Refused 2) (lockKept t) room run-of
+    left : result (call (Tuned (Tune hz rs)) outcomes room) t ≡ performed (Refused FREQUENCY) (lockKept t) room run-of
     left = tune-by-plan t hz outcomes rs room ∙ ap (byPlan t hz outcomes rs room) p ∙ progress-on _ _ _ _ _ _ _ _ e
 
-    pub late-answer : result (call (Tuned (Tune hz rs)) outcomes room) t .answer ≡ Refused 2
+    pub late-answer : result (call (Tuned (Tune hz rs)) outcomes room) t .answer ≡ Refused FREQUENCY
     late-answer =
-        ap (λ (c : Called Tuner). c .answer) left ∙ ap (answerOf (Refused 2)) (left-progress (t .chip .address) hz z (t .kind) (t .notch) rs os (t .chip))
+        ap (λ (c : Called Tuner). c .answer) left ∙ ap (answerOf (Refused FREQUENCY)) (left-progress (t .chip .address) hz z (t .kind) (t .notch) rs os (t .chip))
 
     -- open, 11 writes, close
     pub late-entries : entries (call (Tuned (Tune hz rs)) outcomes room) t ≡ muxEntries t hz (eqb z 0)

@@ -19,8 +19,9 @@ use Rattle.board.specs.declared.Route.the-variants.{By, Direct}
 use Rattle.bands.specs.declared.Planned.{Planned}
 use Rattle.boards.specs.Hops.{hopKept, hopRefusal, hopResult, hopSteps}
 use Rattle.board.specs.Numbers.{pathOf}
-use Rattle.chip.specs.declared.Answer.{Answer}
-use Rattle.chip.specs.declared.Answer.the-variants.{Refused}
+use Rattle.refusals.specs.declared.Answer.{Answer}
+use Rattle.refusals.specs.declared.Answer.the-variants.{Refused}
+use Rattle.refusals.specs.Table.{FREQUENCY}
 use Rattle.chip.specs.declared.Chip.{Chip}
 use Rattle.chip.specs.declared.Progress.the-variants.{Going}
 use Rattle.chip.specs.Calls.{Called, answerOf, callEntries, callOf, tooShort, performed, refusalWith}
@@ -193,10 +194,10 @@ progress-on number whole os ss c keep old room e = rw (eq-eqb number 0 e)
 pub refused-in-the-pll : (t : Tuner) (hz : ℕ) (rs os room : List ℕ)
     → refusalOf t (hzRefusal hz (t .ifreq)) 53 35 (length room) (length (replicate 13 0 ++ os)) (length rs) ≡ 0
     → planFor t hz ≡ pll-variants.Refused
-    → (resultOf (Tune hz rs) (replicate 13 0 ++ os) t room .answer ≡ Refused 2) × (resultOf (Tune hz rs) (replicate 13 0 ++ os) t room .count ≡ 13)
+    → (resultOf (Tune hz rs) (replicate 13 0 ++ os) t room .answer ≡ Refused FREQUENCY) × (resultOf (Tune hz rs) (replicate 13 0 ++ os) t room .count ≡ 13)
 refused-in-the-pll t hz rs os room e p =
     let is : _ = tune-by-plan t hz (replicate 13 0 ++ os) rs room ∙ ap (byPlan t hz (replicate 13 0 ++ os) rs room) p ∙ progress-on _ _ _ _ _ _ _ _ e in (
-      ap (λ (c : Called Tuner). c .answer) is ∙ ap (answerOf (Refused 2)) (none-failed (t .chip .address) hz (t .kind) (t .notch) rs os (t .chip)),
+      ap (λ (c : Called Tuner). c .answer) is ∙ ap (answerOf (Refused FREQUENCY)) (none-failed (t .chip .address) hz (t .kind) (t .notch) rs os (t .chip)),
       ap (λ (c : Called Tuner). c .count) is ∙ thirteen (t .chip .address) hz (t .kind) (t .notch) rs os (t .chip),
     )
 
@@ -222,7 +223,7 @@ module _ (address : ℕ) (rs os : List ℕ) (c : Chip) where
 pub hop-refused-in-the-pll : (t : Tuner) (hz : ℕ) (table rs : List ℕ) (d : Driver) (os room : List ℕ)
     → refusalWith (sound t && soundDriver d) (hopRefusal (planBy table hz) (t .ifreq)) 64 38 (length room) (length (replicate 23 0 ++ os)) (length rs) ≡ 0
     → planFor t (planBy table hz .plan .hz) ≡ pll-variants.Refused
-    → (hopResult (planBy table hz) hz rs (replicate 23 0 ++ os) t d room .answer ≡ Refused 2)
+    → (hopResult (planBy table hz) hz rs (replicate 23 0 ++ os) t d room .answer ≡ Refused FREQUENCY)
     × (hopResult (planBy table hz) hz rs (replicate 23 0 ++ os) t d room .count ≡ lateCount (t .kind) (planBy table hz .plan .path))
 unfolding hopResult leftBy
 hop-refused-in-the-pll t hz table rs d os room e p =
@@ -233,4 +234,4 @@ hop-refused-in-the-pll t hz table rs d os room e p =
     (hopSteps (t .kind) (t .chip .address) (at .plan) plan rs) (t .chip) (hopKept t d (at .plan) (tuneAnswer plan hz) hz) (both t d) room) in
     let is : by (planFor t (at .plan .hz)) ≡ _ = ap by p ∙ progress-on _ _ _ _ _ _ _ _ e in
     let n = hop-late (t .chip .address) rs os (t .chip) (t .kind) (at .plan) (at .plan .path) refl in
-    (ap (λ (x : Called Both). x .answer) is ∙ ap (answerOf (Refused 2)) (n .1), ap (λ (x : Called Both). x .count) is ∙ n .0)
+    (ap (λ (x : Called Both). x .answer) is ∙ ap (answerOf (Refused FREQUENCY)) (n .1), ap (λ (x : Called Both). x .count) is ∙ n .0)

@@ -11,8 +11,9 @@ use Rattle.board.specs.declared.PathRead.{PathRead}
 use Rattle.board.specs.declared.PathRead.the-variants as path-read
 use Rattle.board.specs.Numbers.{pathOf}
 use Rattle.bands.specs.Tables.{planBy}
-use Rattle.chip.specs.declared.Answer.{Answer}
-use Rattle.chip.specs.declared.Answer.the-variants.{Done, Refused}
+use Rattle.refusals.specs.declared.Answer.{Answer}
+use Rattle.refusals.specs.declared.Answer.the-variants.{Done, Refused}
+use Rattle.refusals.specs.Table.{SETUP, CORRECTION}
 use Rattle.chip.specs.declared.Chip.{Chip}
 use Rattle.chip.specs.declared.Update.{Update}
 use Rattle.chip.specs.declared.Progress.{Progress}
@@ -48,7 +49,7 @@ data Keeps (x : ℕ) : Course Tuner → Type 0 where
       → Keeps x (Taken argument n m rs whole ss keep)
 
 module _ (x : ℕ) (t : Tuner) (z : t .ifreq ≡ x) where
-  rest-kept : (s : Bool) (next : Tuner) (answer : Answer) (room : List ℕ) → next .ifreq ≡ x → cond s (called next room 0 answer) (called t room 0 (Refused 1)) .next .ifreq ≡ x
+  rest-kept : (s : Bool) (next : Tuner) (answer : Answer) (room : List ℕ) → next .ifreq ≡ x → cond s (called next room 0 answer) (called t room 0 (Refused SETUP)) .next .ifreq ≡ x
   rest-kept true next answer room h = h
   rest-kept false next answer room h = z
 
@@ -76,17 +77,17 @@ module _ (x : ℕ) (t : Tuner) (z : t .ifreq ≡ x) where
   gain-kept k = bracket-kept 5 (gainUpdates k) _ (withGain t (gainOf (stepAt k))) z
 
   path-kept : (p : PathRead) (kind : Kind) → Keeps x (pathRow p kind t)
-  path-kept path-read.Refused kind = resting t (Refused 1) z
+  path-kept path-read.Refused kind = resting t (Refused SETUP) z
   path-kept (path-read.Is path) R820T = resting t (Done 0) z
   path-kept (path-read.Is path) R828D = bracket-kept 2 (pathUpdates path) (Done 0) t z
 
   board-kept : (p : PathRead) (rs : List ℕ) → Keeps x (boardRow p rs t)
-  board-kept path-read.Refused rs = resting t (Refused 1) z
+  board-kept path-read.Refused rs = resting t (Refused SETUP) z
   board-kept (path-read.Is path) rs = stepping 0 10 3 rs (Done 0) (boardPathSteps (t .kind) path rs) _ (λ tr. z)
 
-  correction-kept : (b : Bool) (v : ℕ) (ppm : ℤ) (d : Driver) → Keeps x (tunerPart (cond b (Still (both (withCorrected t v) (withPpm d ppm)) (Done 0)) (Still (both t d) (Refused 4))))
+  correction-kept : (b : Bool) (v : ℕ) (ppm : ℤ) (d : Driver) → Keeps x (tunerPart (cond b (Still (both (withCorrected t v) (withPpm d ppm)) (Done 0)) (Still (both t d) (Refused CORRECTION))))
   correction-kept true v ppm d = resting (withCorrected t v) (Done 0) z
-  correction-kept false v ppm d = resting t (Refused 4) z
+  correction-kept false v ppm d = resting t (Refused CORRECTION) z
 
   every-kept : (o : Order) → setsIf o ≡ false → ((rate : ℕ) → rates o ≡ true → ifFor (t .ifreq) rate ≡ x) → Keeps x (rowOf o t)
   every-kept (Tuned Initialize) h same = stepping 0 19 0 [] (Done 0) _ _ (λ tr. z)

@@ -13,7 +13,7 @@ use Rattle.attempts.specs.Attempts.{Played, Regs}
 use Rattle.bands.specs.Tables.{planBy}
 use Rattle.boards.specs.Hops.{pathReplies}
 use Rattle.driver.specs.declared.Driver.{Driver}
-use Rattle.chip.specs.declared.Answer.the-variants.{Done}
+use Rattle.refusals.specs.declared.Answer.the-variants.{Done}
 use Rattle.oscillator.specs.Registers.{Within, hzIn, standsBy}
 use Rattle.oscillator.proofs.Oscillator.{Says, each-five, same-hz, within}
 use Rattle.pll.specs.declared.Kind.{Kind}

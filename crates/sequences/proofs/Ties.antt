@@ -11,7 +11,7 @@ use lib.Dec.{eqb}
 use lib.ListN.{length, set, take, length-set}
 use Rattle.transcript.specs.declared.Entry.{Entry}
 use Rattle.transcript.specs.Sections.{Parted}
-use Rattle.chip.specs.declared.Answer.the-variants.{Refused, Stopped}
+use Rattle.refusals.specs.declared.Answer.the-variants.{Refused, Stopped}
 use Rattle.chip.specs.declared.Chip.{Chip}
 use Rattle.chip.specs.declared.Progress.the-variants.{Refused11}
 use Rattle.chip.specs.Calls.{Called, callEntries}

@@ -11,7 +11,8 @@ use lib.ListN.{drop, getD, length, replicate, take}
 use lib.Seq.{getD-drop, sets}
 use Rattle.transcript.specs.declared.Entry.{Entry}
 use Rattle.transcript.specs.Entries.{zeros8}
-use Rattle.chip.specs.declared.Answer.the-variants.{Done, Refused, Stopped}
+use Rattle.refusals.specs.declared.Answer.the-variants.{Done, Refused, Stopped}
+use Rattle.refusals.specs.Table.{FREQUENCY}
 use Rattle.chip.specs.declared.Chip.{Chip}
 use Rattle.chip.specs.declared.LockTries.{LockTries}
 use Rattle.chip.specs.declared.Update.{Update}
@@ -306,7 +307,7 @@ by-plan : (number : ℕ) (os rs room : List ℕ) (hz : ℕ) (t : Tuner) (plan : 
     → isDone (callOf number (tuneAnswer plan hz) os (tuneOf t plan hz rs) (t .chip) (lockKept t) t room .answer) ≡ true
     → lockTriesIn (callEntries number os (tuneOf t plan hz rs) (t .chip)) ≡ waitedFrom rs 10 0
 by-plan number os rs room hz t pll-variants.Refused h =
-    absurd (false≢true (went number (Refused 2) os (tuneOf t pll-variants.Refused hz rs) (t .chip) (lockKept t) t room h .0))
+    absurd (false≢true (went number (Refused FREQUENCY) os (tuneOf t pll-variants.Refused hz rs) (t .chip) (lockKept t) t room h .0))
 by-plan number os rs room hz t (pll-variants.Planned p) h =
     let w = went number (Done hz) os (tuneOf t (pll-variants.Planned p) hz rs) (t .chip) (lockKept t) t room h .1 in
     rw (w .taken-up) (planned-said os rs hz t p (w .going))
@@ -339,7 +340,7 @@ hop-by : (number : ℕ) (os rs room : List ℕ) (hz : ℕ) (at : board.Plan) (t 
     → isDone (callOf number (tuneAnswer plan hz) os (hopSteps (t .kind) (t .chip .address) at plan rs) (t .chip) (hopKept t d at (tuneAnswer plan hz) hz) (both t d) room .answer) ≡ true
     → lockTriesIn (callEntries number os (hopSteps (t .kind) (t .chip .address) at plan rs) (t .chip)) ≡ waitedFrom (drop (pathReplies (t .kind) (at .path)) rs) 10 0
 hop-by number os rs room hz at t d pll-variants.Refused h =
-    absurd (false≢true (went number (Refused 2) os (hopSteps (t .kind) (t .chip .address) at pll-variants.Refused rs) (t .chip) (hopKept t d at (Refused 2) hz) (both t d) room h .0))
+    absurd (false≢true (went number (Refused FREQUENCY) os (hopSteps (t .kind) (t .chip .address) at pll-variants.Refused rs) (t .chip) (hopKept t d at (Refused FREQUENCY) hz) (both t d) room h .0))
 hop-by number os rs room hz at t d (pll-variants.Planned p) h =
     let w = went number (Done hz) os (hopSteps (t .kind) (t .chip .address) at (pll-variants.Planned p) rs) (t .chip) (hopKept t d at (Done hz) hz) (both t d) room h .1 in
     rw (w .taken-up) (hop-said os rs at t p (w .going))

@@ -16,11 +16,13 @@ use Rattle.board.specs.declared.Path.the-variants.{Hf, Vhf, Uhf}
 use Rattle.board.specs.declared.Route.{Route}
 use Rattle.board.specs.declared.Route.the-variants.{By, Direct}
 use Rattle.boards.specs.Hops.{hopKept, hopRefusal, hopResult, hopSteps, pathPart, pathReplies}
-use Rattle.chip.specs.declared.Answer.the-variants.{Done, Refused}
+use Rattle.refusals.specs.declared.Answer.the-variants.{Done, Refused}
 use Rattle.chip.specs.declared.Chip.{Chip}
 use Rattle.chip.specs.declared.Progress.{Progress}
 use Rattle.chip.specs.declared.Progress.the-variants.{Going, Refused11}
-use Rattle.chip.specs.Calls.{Called, answerOf, callOf, called, numberOf, performed, refusalWith}
+use Rattle.refusals.specs.Answers.{numberOf}
+use Rattle.refusals.specs.Table.{FREQUENCY}
+use Rattle.chip.specs.Calls.{Called, answerOf, callOf, called, performed, refusalWith}
 use Rattle.chip.specs.Courses.{leftBy}
 use Rattle.chip.specs.Steps.{Step, Trace, acts, every, inList, line, okFor, run, taken, trace}
 use Rattle.chip.specs.Steps.Step.{Open, Close, Send, Mask, Plain}
@@ -178,7 +180,7 @@ module _ (t : Tuner) (es : List Entry) (s : Sequence t es) (hz : ℕ) (rs os roo
       by pll-variants.Refused e =
           let is : result tune t ≡ byPlan t hz os rs room pll-variants.Refused = tune-by-plan t hz os rs room ∙ ap (byPlan t hz os rs room) e in
           let w =
-          went number (Refused 2) os (tuneOf t pll-variants.Refused hz rs) (t .chip) (lockKept t) t room (ap (λ (d : Called Tuner). isDone (d .answer)) (sym is) ∙ h) in
+          went number (Refused FREQUENCY) os (tuneOf t pll-variants.Refused hz rs) (t .chip) (lockKept t) t room (ap (λ (d : Called Tuner). isDone (d .answer)) (sym is) ∙ h) in
           absurd (false≢true (w .0))
       by (pll-variants.Planned p) e =
           let is : result tune t ≡ byPlan t hz os rs room (pll-variants.Planned p) = tune-by-plan t hz os rs room ∙ ap (byPlan t hz os rs room) e in
@@ -279,7 +281,7 @@ module _ (t : Tuner) (es : List Entry) (s : Sequence t es) (hz : ℕ) (table rs 
       by pll-variants.Refused e =
           let is : hopResult at hz rs os t d room ≡ byHop t hz table rs d os room pll-variants.Refused = hop-by-plan t hz table rs d os room ∙ ap (byHop t hz table rs d os room) e in
           let w =
-          went number (Refused 2) os (hopSteps (t .kind) (t .chip .address) (at .plan) pll-variants.Refused rs) (t .chip) (hopKept t d (at .plan) (Refused 2) hz) (both t d) room
+          went number (Refused FREQUENCY) os (hopSteps (t .kind) (t .chip .address) (at .plan) pll-variants.Refused rs) (t .chip) (hopKept t d (at .plan) (Refused FREQUENCY) hz) (both t d) room
           (ap (λ (x : Called Both). isDone (x .answer)) (sym is) ∙ h) in
           absurd (false≢true (w .0))
       by (pll-variants.Planned p) e =

@@ -21,7 +21,7 @@ use Rattle.board.specs.declared.PathRead.{PathRead}
 use Rattle.board.specs.declared.PathRead.the-variants as path-read
 use Rattle.bands.specs.Tables.{planBy}
 use Rattle.board.specs.Numbers.{pathOf}
-use Rattle.chip.specs.declared.Answer.{Answer}
+use Rattle.refusals.specs.declared.Answer.{Answer}
 use Rattle.chip.specs.declared.Chip.{Chip}
 use Rattle.chip.specs.Calls.{Called, callEntries, callOf}
 use Rattle.chip.specs.Chips.{attemptedBy, maskedByte, pair}

@@ -14,8 +14,9 @@ use Rattle.board.specs.declared.PathRead.the-variants as path-read
 use Rattle.board.specs.Numbers.{pathOf}
 use Rattle.bands.specs.Tables.{planBy}
 use Rattle.boards.specs.Hops.{hopResult, hopRow}
-use Rattle.chip.specs.declared.Answer.{Answer}
-use Rattle.chip.specs.declared.Answer.the-variants.{Done, Refused}
+use Rattle.refusals.specs.declared.Answer.{Answer}
+use Rattle.refusals.specs.declared.Answer.the-variants.{Done, Refused}
+use Rattle.refusals.specs.Table.{SETUP, CORRECTION}
 use Rattle.chip.specs.declared.Chip.{Chip}
 use Rattle.chip.specs.declared.Update.{Update}
 use Rattle.chip.specs.declared.Progress.{Progress}
@@ -106,7 +107,7 @@ suffices whole argument n m os rs room ss l e =
 
 module _ (t : Tuner) (s : Bool) (os room : List ℕ) where
   resting-view : (next : Tuner) (answer : Answer) → stops answer ≡ false → next .chip ≡ t .chip → (b : Bool)
-      → Silent t (cond b (called next room 0 answer) (called t room 0 (Refused 1))) (ask 0 [])
+      → Silent t (cond b (called next room 0 answer) (called t room 0 (Refused SETUP))) (ask 0 [])
   resting-view next answer n a true = record { nothing = refl; count = refl; named = n; kept = a }
   resting-view next answer n a false = record { nothing = refl; count = refl; named = refl; kept = refl }
 
@@ -215,18 +216,18 @@ module _ (t : Tuner) where
   gain-proper k = bracket-proper 5 (gainUpdates k) _ t (withGain t (gainOf (stepAt k))) refl (gain-in k)
 
   path-proper : (p : PathRead) (kind : Kind) → Proper t (pathRow p kind t)
-  path-proper path-read.Refused kind = resting t (Refused 1) refl refl
+  path-proper path-read.Refused kind = resting t (Refused SETUP) refl refl
   path-proper (path-read.Is path) R820T = resting t (Done 0) refl refl
   path-proper (path-read.Is path) R828D = bracket-proper 2 (pathUpdates path) (Done 0) t t refl (path-in path)
 
   board-proper : (p : PathRead) (rs : List ℕ) → Proper t (boardRow p rs t)
-  board-proper path-read.Refused rs = resting t (Refused 1) refl refl
+  board-proper path-read.Refused rs = resting t (Refused SETUP) refl refl
   board-proper (path-read.Is path) rs = stepping 0 10 3 rs (Done 0) (boardPathSteps (t .kind) path rs) _ refl (fine-board (t .kind) path rs) (λ tr. refl)
 
   -- a correction leaves the chip's record as it was
-  correction-proper : (b : Bool) (v : ℕ) (ppm : ℤ) (d : Driver) → Proper t (tunerPart (cond b (Still (both (withCorrected t v) (withPpm d ppm)) (Done 0)) (Still (both t d) (Refused 4))))
+  correction-proper : (b : Bool) (v : ℕ) (ppm : ℤ) (d : Driver) → Proper t (tunerPart (cond b (Still (both (withCorrected t v) (withPpm d ppm)) (Done 0)) (Still (both t d) (Refused CORRECTION))))
   correction-proper true v ppm d = resting (withCorrected t v) (Done 0) refl refl
-  correction-proper false v ppm d = resting t (Refused 4) refl refl
+  correction-proper false v ppm d = resting t (Refused CORRECTION) refl refl
 
   unstopped : (plan : Pll) (hz : ℕ) → stops (tuneAnswer plan hz) ≡ false
   unstopped pll-variants.Refused hz = refl

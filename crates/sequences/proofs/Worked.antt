@@ -30,7 +30,7 @@ use Rattle.status.specs.Reversal.{reversed}
 use Rattle.tuning.specs.Mux.{lastAt, rangeOf}
 use Rattle.tuning.specs.Program.{innerSteps}
 use Rattle.tuning.specs.Tries.{repairUpdates, replyBytes, triesFrom}
-use Rattle.chip.specs.declared.Answer.the-variants.{Done, Stopped}
+use Rattle.refusals.specs.declared.Answer.the-variants.{Done, Stopped}
 use Rattle.chip.specs.Calls.{callOf, tooShort, lockedIn, triesIn}
 use Rattle.chip.specs.Chips.{attemptedBy, maskOf}
 use Rattle.chip.specs.Steps.{chunkBytes, every, run, step, trace}

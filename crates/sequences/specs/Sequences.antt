@@ -5,7 +5,7 @@ use mathlib.Core.Path.{_≡_}
 use mathlib.Core.Bool.{true}
 use mathlib.Core.List.{List, [], _++_}
 use Rattle.transcript.specs.declared.Entry.{Entry}
-use Rattle.chip.specs.declared.Answer.the-variants.{Done}
+use Rattle.refusals.specs.declared.Answer.the-variants.{Done}
 use Rattle.r82xx.specs.declared.Tuner.{Tuner}
 use Rattle.r82xx.specs.Record.{madeOf}
 use Rattle.sequences.specs.Calls.{Call, tunerAfter, entries, given}

@@ -10,7 +10,8 @@ use lib.Seq.{sets}
 use Rattle.wire.specs.Bytes.{leBytes, leValue}
 use Rattle.wire.specs.Parts.{joined, partsFrom}
 use Rattle.wire.proofs.Joins.{laid-joined}
-use Rattle.lending.specs.Lent.{Given, lentTo}
+use Rattle.refusals.specs.Lent.{Given, lentTo}
+use Rattle.refusals.specs.Table.{EDITION}
 use Rattle.settings.specs.declared.Settings.{Settings}
 use Rattle.settings.specs.declared.Settings2.{Settings2}
 use Rattle.settings.specs.declared.Read.{Read}
@@ -49,13 +50,13 @@ if-there s n h e =
 
 -- both editions
 module _ (s : List ℕ) (r : Read2) where
-  pub by-old : (x : Read) → r ≡ onlyOf2 s → x ≡ readOf1 s → r .refusal ≡ 16 → widened x ≡ readOf2 s
+  pub by-old : (x : Read) → r ≡ onlyOf2 s → x ≡ readOf1 s → r .refusal ≡ EDITION → widened x ≡ readOf2 s
   unfolding readOf2
-  by-old x e f h = rw (← e, eq-eqb (r .refusal) 16 h, f)
+  by-old x e f h = rw (← e, eq-eqb (r .refusal) EDITION h, f)
 
-  pub by-own : r ≡ onlyOf2 s → (r .refusal ≡ 16 → ⊥) → r ≡ readOf2 s
+  pub by-own : r ≡ onlyOf2 s → (r .refusal ≡ EDITION → ⊥) → r ≡ readOf2 s
   unfolding readOf2
-  by-own e h = rw (← e, ne-eqb (r .refusal) 16 h)
+  by-own e h = rw (← e, ne-eqb (r .refusal) EDITION h)
 
 module _ (r : Read) where
   pub widened-refused : (r .refusal ≡ 0 → ⊥) → refused2 (r .refusal) ≡ widened r

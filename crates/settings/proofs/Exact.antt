@@ -14,6 +14,7 @@ use mir.Val.{Fits, SFits, ofZ, toZ}
 use mir.Facts.{fits-ofZ, ofZ-toZ, sfits-toZ, toZ-ofZ}
 use Rattle.wire.specs.Bytes.{Bytes}
 use Rattle.wire.specs.Parts.{sum}
+use Rattle.refusals.specs.Table.{EDITION}
 use Rattle.gain.specs.Steps.{clamped}
 use Rattle.settings.specs.declared.Settings.{Settings}
 use Rattle.settings.specs.declared.Read.{Read}
@@ -41,7 +42,7 @@ module _ (p : List ℕ) (edition : ℕ) (ks ns : List ℕ) (within : Within ks n
       )
 
   -- and a reader of another edition answers 16, whatever its fields are
-  pub other : (asked size : ℕ) → (edition ≡ asked → ⊥) → trailerRefusal asked size (p ++ imageOf edition ks ns) ≡ 16
+  pub other : (asked size : ℕ) → (edition ≡ asked → ⊥) → trailerRefusal asked size (p ++ imageOf edition ks ns) ≡ EDITION
   unfolding trailerRefusal
   other asked size h =
       let b = p ++ imageOf edition ks ns in

@@ -11,7 +11,7 @@ use Rattle.wire.specs.Parts.{Sized, joined, partsFrom, sum}
 use Rattle.wire.proofs.Joins.{joined-parts, length-joined, parts-joined}
 use Rattle.wire.proofs.Stores.{sets-append}
 use Rattle.wire.proofs.Widths.{length-leBytes, one-below, one-number, value-bytes}
-use Rattle.lending.proofs.Giving.{covered}
+use Rattle.refusals.proofs.Giving.{covered}
 use Rattle.settings.specs.Image.{Within, imageOf, partsOf, trailer}
 use Rattle.settings.specs.Reading.{distanceOf, editionOf, fillerOf, valuesIn}
 

@@ -15,7 +15,7 @@ use mir.Facts.{ofZ-toZ}
 use Rattle.wire.specs.Bytes.{leBytes, leValue}
 use Rattle.wire.specs.Parts.{joined, partsFrom}
 use Rattle.wire.proofs.Joins.{laid-joined}
-use Rattle.lending.specs.Lent.{Given, lentTo}
+use Rattle.refusals.specs.Lent.{Given, lentTo}
 use Rattle.gain.specs.Steps.{clamped}
 use Rattle.settings.specs.declared.Settings.{Settings}
 use Rattle.settings.specs.declared.Read.{Read}

@@ -7,9 +7,10 @@ use lib.ListN.{length, getD, take, drop}
 use lib.Seq.{sets, sets-eq, take-at}
 use mir.Facts.{ofZ-toZ}
 use Rattle.wire.specs.Bytes.{Bytes}
-use Rattle.chip.specs.declared.Answer.the-variants.{Done, Refused}
-use Rattle.lending.specs.Lent.{Given, given, lentTo}
-use Rattle.lending.proofs.Giving.{laid, refused}
+use Rattle.refusals.specs.declared.Answer.the-variants.{Done, Refused}
+use Rattle.refusals.specs.Lent.{Given, given, lentTo}
+use Rattle.refusals.proofs.Giving.{laid, refused}
+use Rattle.refusals.specs.Table.{EDITION, NOT_EXPRESSIBLE}
 use Rattle.settings.specs.declared.Settings.{Settings}
 use Rattle.settings.specs.declared.Settings2.{Settings2}
 use Rattle.settings.specs.declared.Read.{Read}
@@ -30,7 +31,7 @@ fields2-within w h =
 -- ---- written, then read
 
 -- edition 1's reader answers 16 to every image of edition 2, whatever its fields are
-pub later-is-16 : (p ns : List ℕ) → Within widths2 ns → readOf1 (p ++ imageOf 2 widths2 ns) ≡ reading.refused 16
+pub later-is-16 : (p ns : List ℕ) → Within widths2 ns → readOf1 (p ++ imageOf 2 widths2 ns) ≡ reading.refused EDITION
 unfolding readOf1 judged
 later-is-16 p ns within = rw (other p 2 widths2 ns within 1 19 (λ e. omega (arith, e)))
 
@@ -51,7 +52,7 @@ module _ (p : List ℕ) (w : Settings2) (h : Proper2 w) where
 
 module _ (p : List ℕ) (s : Settings) (h : Proper s) where
   -- of edition 1 the strict reader of edition 2 reads nothing
-  pub old-is-16 : onlyOf2 (p ++ image1 s) ≡ refused2 16
+  pub old-is-16 : onlyOf2 (p ++ image1 s) ≡ refused2 EDITION
   unfolding onlyOf2 judged
   old-is-16 = rw (other p 1 widths1 (numbers1 s) (fields-within s h) 2 23 (λ e. omega (arith, e)))
 
@@ -150,20 +151,20 @@ module _ (s : Settings) (h : Proper s) where
       ∙ first last (image2 (wider s usualIf)) 27 (long2 (wider s usualIf)) rest
 
   -- a move that is given the other edition
-  pub already-1 : (p out : List ℕ) → movedTo1 (p ++ image1 s) out ≡ given (Refused 16) out
+  pub already-1 : (p out : List ℕ) → movedTo1 (p ++ image1 s) out ≡ given (Refused EDITION) out
   already-1 p out =
       ap (λ (r : Read2). lentTo (narrowRefusal r) 23 (image1 (r .settings .settings)) out) (old-is-16 p s h)
-      ∙ ap (λ (n : ℕ). lentTo n 23 (image1 (refused2 16 .settings .settings)) out) (sym (narrow-refused (refused2 16) (λ e. omega (arith, e))))
-      ∙ sym (refused 16 23 (image1 (refused2 16 .settings .settings)) out (omega arith))
+      ∙ ap (λ (n : ℕ). lentTo n 23 (image1 (refused2 EDITION .settings .settings)) out) (sym (narrow-refused (refused2 EDITION) (λ e. omega (arith, e))))
+      ∙ sym (refused EDITION 23 (image1 (refused2 EDITION .settings .settings)) out (omega arith))
 
-pub already-2 : (p out ns : List ℕ) → Within widths2 ns → movedTo2 (p ++ imageOf 2 widths2 ns) out ≡ given (Refused 16) out
+pub already-2 : (p out ns : List ℕ) → Within widths2 ns → movedTo2 (p ++ imageOf 2 widths2 ns) out ≡ given (Refused EDITION) out
 already-2 p out ns within =
     ap (λ (r : Read). lentTo (r .refusal) 27 (image2 (wider (r .settings) usualIf)) out) (later-is-16 p ns within)
-    ∙ sym (refused 16 27 (image2 (wider (reading.refused 16 .settings) usualIf)) out (omega arith))
+    ∙ sym (refused EDITION 27 (image2 (wider (reading.refused EDITION .settings) usualIf)) out (omega arith))
 
 -- "Move 2 back to 1 only if IF is 2,300,000": another IF is 18, and the output stays
-pub not-expressible : (p out : List ℕ) (w : Settings2) → Proper2 w → (w .ifreq ≡ usualIf → ⊥) → movedTo1 (p ++ image2 w) out ≡ given (Refused 18) out
+pub not-expressible : (p out : List ℕ) (w : Settings2) → Proper2 w → (w .ifreq ≡ usualIf → ⊥) → movedTo1 (p ++ image2 w) out ≡ given (Refused NOT_EXPRESSIBLE) out
 not-expressible p out w h other-if =
     ap (λ (r : Read2). lentTo (narrowRefusal r) 23 (image1 (r .settings .settings)) out) (only-read p w h)
     ∙ ap (λ (n : ℕ). lentTo n 23 (image1 (w .settings)) out) (sym (narrow-other (read2 0 w) refl other-if))
-    ∙ sym (refused 18 23 (image1 (w .settings)) out (omega arith))
+    ∙ sym (refused NOT_EXPRESSIBLE 23 (image1 (w .settings)) out (omega arith))

@@ -6,6 +6,7 @@ use Prim.Native.Nat.{ℕ}
 use lib.IntN.{negsuc}
 use Rattle.wire.specs.Bytes.{leBytes, leValue}
 use Rattle.wire.specs.Parts.{joined}
+use Rattle.refusals.specs.Table.{EDITION, SETTINGS, NOT_EXPRESSIBLE}
 use Rattle.settings.specs.declared.Settings.{Settings}
 use Rattle.settings.specs.Image.{fitsOf, image1, image2, imageOf, partsOf, trailer, wider}
 use Rattle.settings.specs.Reading.{judged, narrowRefusal, onlyOf2, read, read2, readOf1, readOf2, refused, refused2, settings, trailerRefusal, widened}
@@ -46,7 +47,7 @@ unfolding readOf1 judged trailerRefusal fitsOf leValue
 read-1 = refl
 
 -- "The edition 1 reader still answers 16 to edition 2, and the new reader takes both"
-pub old-reader : readOf1 (fields ++ (other ++ end2)) ≡ refused 16
+pub old-reader : readOf1 (fields ++ (other ++ end2)) ≡ refused EDITION
 unfolding readOf1 judged trailerRefusal
 old-reader = refl
 
@@ -58,33 +59,33 @@ pub new-reader-2 : readOf2 (fields ++ (other ++ end2)) ≡ read2 0 (wider site 3
 unfolding readOf2 onlyOf2 judged trailerRefusal fitsOf leValue
 new-reader-2 = refl
 
-pub edition-3 : readOf2 (fields ++ (other ++ (0x03 ∷ 0x00 ∷ 0x17 ∷ 0x00 ∷ []))) ≡ refused2 16
+pub edition-3 : readOf2 (fields ++ (other ++ (0x03 ∷ 0x00 ∷ 0x17 ∷ 0x00 ∷ []))) ≡ refused2 EDITION
 unfolding readOf2 onlyOf2 readOf1 widened judged trailerRefusal
 edition-3 = refl
 
 -- "17 settings (short slice, wrong distance, nonzero filler, kind, board or gain out of range); a slice under 4 bytes is 17"
-pub short-slice : readOf1 (0x00 ∷ (0x01 ∷ 0x00 ∷ 0x13 ∷ 0x00 ∷ [])) ≡ refused 17
+pub short-slice : readOf1 (0x00 ∷ (0x01 ∷ 0x00 ∷ 0x13 ∷ 0x00 ∷ [])) ≡ refused SETTINGS
 unfolding readOf1 judged trailerRefusal leValue
 short-slice = refl
 
-pub three-bytes : readOf1 (0x01 ∷ 0x00 ∷ 0x13 ∷ []) ≡ refused 17
+pub three-bytes : readOf1 (0x01 ∷ 0x00 ∷ 0x13 ∷ []) ≡ refused SETTINGS
 unfolding readOf1 judged trailerRefusal
 three-bytes = refl
 
-pub wrong-distance : readOf1 (fields ++ (0x01 ∷ 0x00 ∷ 0x12 ∷ 0x00 ∷ [])) ≡ refused 17
+pub wrong-distance : readOf1 (fields ++ (0x01 ∷ 0x00 ∷ 0x12 ∷ 0x00 ∷ [])) ≡ refused SETTINGS
 unfolding readOf1 judged trailerRefusal leValue
 wrong-distance = refl
 
-pub nonzero-filler : readOf1 (fields ++ (0x01 ∷ 0x01 ∷ 0x13 ∷ 0x00 ∷ [])) ≡ refused 17
+pub nonzero-filler : readOf1 (fields ++ (0x01 ∷ 0x01 ∷ 0x13 ∷ 0x00 ∷ [])) ≡ refused SETTINGS
 unfolding readOf1 judged trailerRefusal
 nonzero-filler = refl
 
-pub gain-of-29 : readOf1 (image1 (settings 1 1 (negsuc 24) 2_048_000 102_300_000 29)) ≡ refused 17
+pub gain-of-29 : readOf1 (image1 (settings 1 1 (negsuc 24) 2_048_000 102_300_000 29)) ≡ refused SETTINGS
 unfolding readOf1 judged trailerRefusal fitsOf imageOf partsOf trailer joined leBytes leValue
 gain-of-29 = refl
 
 -- "Move 2 back to 1 only if IF is 2,300,000": else "18 not expressible"
-pub not-expressible : narrowRefusal (onlyOf2 (fields ++ (other ++ end2))) ≡ 18
+pub not-expressible : narrowRefusal (onlyOf2 (fields ++ (other ++ end2))) ≡ NOT_EXPRESSIBLE
 unfolding narrowRefusal onlyOf2 judged trailerRefusal fitsOf leValue
 not-expressible = refl
 

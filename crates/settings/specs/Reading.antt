@@ -12,7 +12,8 @@ use mir.Syntax.{w32}
 use mir.Val.{toZ}
 use Rattle.wire.specs.Bytes.{leValue}
 use Rattle.wire.specs.Parts.{partsFrom, sum}
-use Rattle.lending.specs.Lent.{Given, lentTo}
+use Rattle.refusals.specs.Lent.{Given, lentTo}
+use Rattle.refusals.specs.Table.{EDITION, SETTINGS, NOT_EXPRESSIBLE}
 use Rattle.settings.specs.declared.Settings.{Settings}
 use Rattle.settings.specs.declared.Settings2.{Settings2}
 use Rattle.settings.specs.declared.Read.{Read}
@@ -38,8 +39,8 @@ valuesIn ks s = map leValue (partsFrom (length s - 4 - sum ks) ks s)
 -- by the trailer alone: 0, 16 or 17
 unfoldable pub trailerRefusal : ℕ → ℕ → List ℕ → ℕ
 trailerRefusal edition size s =
-    cond (ltb (length s) 4) 17
-    (cond (eqb (editionOf s) edition) (cond (eqb (fillerOf s) 0 && eqb (distanceOf s) size && leb size (length s - 4)) 0 17) 16)
+    cond (ltb (length s) 4) SETTINGS
+    (cond (eqb (editionOf s) edition) (cond (eqb (fillerOf s) 0 && eqb (distanceOf s) size && leb size (length s - 4)) 0 SETTINGS) EDITION)
 
 -- ---- edition 1
 
@@ -58,7 +59,7 @@ abbrev pub refused : ℕ → Read
 refused number = read number (settings 0 0 (pos 0) 0 0 0)
 
 abbrev pub fieldRefusal : Settings → ℕ
-fieldRefusal s = cond (fitsOf s) 0 17
+fieldRefusal s = cond (fitsOf s) 0 SETTINGS
 
 -- the trailer's refusal, then a field's, of a record of any edition
 abbrev pub unless : {R : Type 0} → (ℕ → R) → ℕ → R → R
@@ -115,7 +116,7 @@ widened r = unless refused2 (r .refusal) (read2 0 (wider (r .settings) usualIf))
 
 -- "the new reader takes both": what is not edition 2 is read as edition 1, whose 16 is for neither
 unfoldable pub readOf2 : List ℕ → Read2
-readOf2 s = cond (eqb (onlyOf2 s .refusal) 16) (widened (readOf1 s)) (onlyOf2 s)
+readOf2 s = cond (eqb (onlyOf2 s .refusal) EDITION) (widened (readOf1 s)) (onlyOf2 s)
 
 abbrev pub toldOf2 : Read2 → Reply2
 toldOf2 r =
@@ -139,7 +140,7 @@ movedTo2 s out = lentTo (readOf1 s .refusal) 27 (image2 (wider (readOf1 s .setti
 
 -- "Move 2 back to 1 only if IF is 2,300,000": else 18
 unfoldable pub narrowRefusal : Read2 → ℕ
-narrowRefusal r = cond (eqb (r .refusal) 0) (cond (eqb (r .settings .ifreq) usualIf) 0 18) (r .refusal)
+narrowRefusal r = cond (eqb (r .refusal) 0) (cond (eqb (r .settings .ifreq) usualIf) 0 NOT_EXPRESSIBLE) (r .refusal)
 
 abbrev pub movedTo1 : List ℕ → List ℕ → Given
 movedTo1 s out = lentTo (narrowRefusal (onlyOf2 s)) 23 (image1 (onlyOf2 s .settings .settings)) out

@@ -4,20 +4,13 @@ ghost use mathlib.Core.Path.{_≡_};
 ghost use Prim.Native.Nat.{_+_, _≤_, _<_};
 ghost use lib.ListN.{length, take, drop};
 ghost use lib.Seq.{sets};
-ghost use Rattle.lending.specs.Lent.{given};
+ghost use Rattle.refusals.specs.Lent.{given};
 ghost use Rattle.wire.specs.Bytes.{leValue};
 ghost use Rattle.wire.specs.Parts.{joined, partsFrom};
 ghost use Rattle.settings.specs.Image.{image1, image2, numbers1, partsOf, trailer, widths1};
 ghost use Rattle.settings.specs.Reading.{fieldRefusal, movedTo1, movedTo2, narrowRefusal, onlyOf2, readOf1, readOf2, refused, refused2, settingsFrom, toldOf1, toldOf2, trailerRefusal, widened, writtenTo1, writtenTo2};
 ghost use mathlib.Core.List.{map};
-use chip::Answer;
-
-// Refusal numbers of document 02.
-pub const EDITION: u8 = 16;
-
-pub const SETTINGS: u8 = 17;
-
-pub const NOT_EXPRESSIBLE: u8 = 18;
+use refusals::Answer;
 
 // The IF that edition 1 stands for.
 const USUAL_IF: u32 = 2_300_000;
@@ -102,7 +95,7 @@ impl Settings {
         if (self.kind <= 1) & (self.board <= 1) & (self.gain <= 28) {
             return 0;
         }
-        SETTINGS
+        refusals::SETTINGS
     }
 }
 
@@ -128,16 +121,16 @@ fn trailer_refusal(s: &[u8], edition: u8, size: usize) -> u8
 {
     let n = s.len();
     if n < 4 {
-        return SETTINGS;
+        return refusals::SETTINGS;
     }
     if s[n - 4] != edition {
-        return EDITION;
+        return refusals::EDITION;
     }
     let distance = wire::get(s, n - 2, 2) as usize;
     if (s[n - 3] == 0) & (distance == size) & (size <= n - 4) {
         return 0;
     }
-    SETTINGS
+    refusals::SETTINGS
 }
 
 // The fields that stand from `at`, as they are.
@@ -209,7 +202,7 @@ pub fn write_1(s: Settings, out: &mut [u8]) -> Answer
     ensures { λ r. ⌜ given r (now (out .exit)) ≡ writtenTo1 s (now (out .entry)) ⌝ }
 {
     let image = image_1(s);
-    lending::lend(s.refusal(), IMAGE_1 as u64, &image, out)
+    refusals::lend(s.refusal(), IMAGE_1 as u64, &image, out)
 }
 
 pub fn told_1(read: Read) -> Reply1
@@ -287,7 +280,7 @@ pub fn read_2(s: &[u8]) -> Read2
     ensures { λ r. ⌜ r ≡ readOf2 (now (s .entry)) ⌝ }
 {
     let read = read_only_2(s);
-    if read.refusal == EDITION {
+    if read.refusal == refusals::EDITION {
         return widen(read_1(s));
     }
     read
@@ -327,7 +320,7 @@ pub fn write_2(w: Settings2, out: &mut [u8]) -> Answer
 {
     let s = w.settings;
     let image = image_2(w);
-    lending::lend(s.refusal(), IMAGE_2 as u64, &image, out)
+    refusals::lend(s.refusal(), IMAGE_2 as u64, &image, out)
 }
 
 // Edition 1 as edition 2, with the IF that it stands for.
@@ -340,7 +333,7 @@ pub fn move_1_to_2(s: &[u8], out: &mut [u8]) -> Answer
         settings: settings,
         ifreq: USUAL_IF,
     });
-    lending::lend(read.refusal, IMAGE_2 as u64, &image, out)
+    refusals::lend(read.refusal, IMAGE_2 as u64, &image, out)
 }
 
 fn narrow_refusal(read: Read2) -> u8
@@ -351,7 +344,7 @@ fn narrow_refusal(read: Read2) -> u8
     }
     let w = read.settings;
     if w.ifreq != USUAL_IF {
-        return NOT_EXPRESSIBLE;
+        return refusals::NOT_EXPRESSIBLE;
     }
     0
 }
@@ -364,5 +357,5 @@ pub fn move_2_to_1(s: &[u8], out: &mut [u8]) -> Answer
     let w = read.settings;
     let settings = w.settings;
     let image = image_1(settings);
-    lending::lend(narrow_refusal(read), IMAGE_1 as u64, &image, out)
+    refusals::lend(narrow_refusal(read), IMAGE_1 as u64, &image, out)
 }

@@ -6,8 +6,9 @@ use mathlib.Core.List.{List, [], _∷_}
 use native.Mathlib.Omega.{arith}
 use lib.ListN.{getD, length}
 use Rattle.chip.specs.declared.Chip.{Chip}
-use Rattle.chip.specs.declared.Answer.the-variants.{Done, Refused}
-use Rattle.chip.specs.Calls.{numberOf, valueOf}
+use Rattle.refusals.specs.declared.Answer.the-variants.{Done, Refused}
+use Rattle.refusals.specs.Answers.{numberOf, valueOf}
+use Rattle.refusals.specs.Table.{SETUP, DOUBTFUL}
 use Rattle.oscillator.specs.Registers.{hzIn, standsBy}
 use Rattle.oscillator.proofs.Oscillator.{each-five}
 use Rattle.r82xx.specs.declared.Tuner.{Tuner}
@@ -27,11 +28,11 @@ marks c b n e =
     let same : (i : ℕ) → i < 27 → getD (c .doubtful) i true ≡ getD (c .doubtful) i false = (λ i h. inside (c .doubtful) i true false (omega (arith, n))) in
     rw (same 11 (omega arith), same 13 (omega arith), same 15 (omega arith), same 16 (omega arith), same 17 (omega arith)) e
 
-pub not-sound : (t : Tuner) → sound t ≡ false → Refused 1 ≡ oscillatorOf t
+pub not-sound : (t : Tuner) → sound t ≡ false → Refused SETUP ≡ oscillatorOf t
 unfolding oscillatorOf
 not-sound t e = rw e
 
-pub doubted : (t : Tuner) → sound t ≡ true → unsure (t .chip) ≡ true → Refused 20 ≡ oscillatorOf t
+pub doubted : (t : Tuner) → sound t ≡ true → unsure (t .chip) ≡ true → Refused DOUBTFUL ≡ oscillatorOf t
 unfolding oscillatorOf
 doubted t e d = rw (e, d)
 
@@ -44,7 +45,7 @@ pub told-back : (t : Tuner) (hz : ℕ) → oscillatorOf t ≡ Done hz → (unsur
 unfolding oscillatorOf
 told-back t hz = go (sound t) (unsure (t .chip)) refl
   where
-    go : (a b : Bool) → unsure (t .chip) ≡ b → cond a (cond b (Refused 20) (Done (hzIn (t .corrected) (attemptedAt (t .chip))))) (Refused 1) ≡ Done hz
+    go : (a b : Bool) → unsure (t .chip) ≡ b → cond a (cond b (Refused DOUBTFUL) (Done (hzIn (t .corrected) (attemptedAt (t .chip))))) (Refused SETUP) ≡ Done hz
         → (unsure (t .chip) ≡ false) × (hzIn (t .corrected) (attemptedAt (t .chip)) ≡ hz)
     go true true d e =
         let none : _≡_ {A = ℕ} 20 0 = ap numberOf e in

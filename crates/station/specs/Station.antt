@@ -3,8 +3,9 @@
 use Prim.Native.Nat.{ℕ, _-_}
 use mathlib.Core.Bool.{Bool, true, cond, _||_}
 use lib.ListN.{getD}
-use Rattle.chip.specs.declared.Answer.{Answer}
-use Rattle.chip.specs.declared.Answer.the-variants.{Done, Refused}
+use Rattle.refusals.specs.declared.Answer.{Answer}
+use Rattle.refusals.specs.declared.Answer.the-variants.{Done, Refused}
+use Rattle.refusals.specs.Table.{SETUP, DOUBTFUL}
 use Rattle.chip.specs.declared.Chip.{Chip}
 use Rattle.oscillator.specs.Registers.{hzIn}
 use Rattle.r82xx.specs.declared.Tuner.{Tuner}
@@ -23,4 +24,4 @@ unsure c = doubtfulAt c 0x10 || doubtfulAt c 0x12 || doubtfulAt c 0x14 || doubtf
 
 -- "20 doubtful", after 1; else the oscillator in whole Hz, cut
 unfoldable pub oscillatorOf : Tuner → Answer
-oscillatorOf t = cond (sound t) (cond (unsure (t .chip)) (Refused 20) (Done (hzIn (t .corrected) (attemptedAt (t .chip))))) (Refused 1)
+oscillatorOf t = cond (sound t) (cond (unsure (t .chip)) (Refused DOUBTFUL) (Done (hzIn (t .corrected) (attemptedAt (t .chip))))) (Refused SETUP)

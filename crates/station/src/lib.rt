@@ -1,12 +1,9 @@
 // Which frequency a tuner's record stands for: the oscillator by the bytes last attempted, refused where one of them is in doubt.
 ghost use mathlib.Core.Path.{_≡_};
 ghost use Rattle.station.specs.Station.{oscillatorOf, unsure};
-use chip::Answer;
 use chip::Chip;
 use r82xx::Tuner;
-
-// Registers that the oscillator stands by are in doubt.
-pub const DOUBTFUL: u8 = 20;
+use refusals::Answer;
 
 // One of the five registers that the oscillator stands by is in doubt. Elements 11, 13, 15, 16 and 17 are 0x10, 0x12, 0x14, 0x15 and 0x16.
 fn in_doubt(c: Chip) -> bool
@@ -21,11 +18,11 @@ pub fn oscillator(t: Tuner) -> Answer
     ensures { λ r. ⌜ r ≡ oscillatorOf t ⌝ }
 {
     if !r82xx::sound(t.nominal, t.corrected) {
-        return Answer::Refused(chip::SETUP);
+        return Answer::Refused(refusals::SETUP);
     }
     let state = t.chip;
     if in_doubt(state) {
-        return Answer::Refused(DOUBTFUL);
+        return Answer::Refused(refusals::DOUBTFUL);
     }
     let bytes = state.shadow;
     let hz = oscillator::frequency(

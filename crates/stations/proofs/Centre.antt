@@ -17,7 +17,7 @@ use Rattle.attempts.proofs.Lasts.{last-append}
 use Rattle.attempts.proofs.Played.{last-done}
 use Rattle.bands.specs.Tables.{planBy}
 use Rattle.boards.specs.Hops.{pathReplies}
-use Rattle.chip.specs.declared.Answer.the-variants.{Done}
+use Rattle.refusals.specs.declared.Answer.the-variants.{Done}
 use Rattle.chip.specs.declared.Progress.the-variants.{Going}
 use Rattle.chip.specs.Calls.{Called}
 use Rattle.chip.specs.Courses.{leftBy}

@@ -10,8 +10,9 @@ use Rattle.attempts.specs.Attempts.{names}
 use Rattle.bands.specs.declared.Planned.{Planned}
 use Rattle.bands.specs.Tables.{planBy}
 use Rattle.boards.specs.Hops.{hopKept, hopLockTries, hopRefusal, hopResult, hopSteps, pathPart, pathReplies}
-use Rattle.chip.specs.declared.Answer.{Answer}
-use Rattle.chip.specs.declared.Answer.the-variants.{Done, Refused, Stopped}
+use Rattle.refusals.specs.declared.Answer.{Answer}
+use Rattle.refusals.specs.declared.Answer.the-variants.{Done, Refused, Stopped}
+use Rattle.refusals.specs.Table.{FREQUENCY}
 use Rattle.chip.specs.declared.Chip.{Chip}
 use Rattle.chip.specs.declared.LockTries.{LockTries}
 use Rattle.chip.specs.declared.Progress.the-variants.{Going}
@@ -75,7 +76,7 @@ module _ (t : Tuner) (hz : ℕ) (rs os room : List ℕ) where
           → LockTold (t .chip .address) (lockTriesOf (Tune hz rs) os t room) (es ++ entries (call (Tuned (Tune hz rs)) os room) t)
       by pll-variants.Refused e =
           let is = tune-by-plan t hz os rs room ∙ ap (byPlan t hz os rs room) e in
-          absurd (false≢true (went number (Refused 2) os (tuneOf t pll-variants.Refused hz rs) (t .chip) (lockKept t) t room (ap (λ (d : Called Tuner). isDone (d .answer)) (sym is) ∙ h) .0))
+          absurd (false≢true (went number (Refused FREQUENCY) os (tuneOf t pll-variants.Refused hz rs) (t .chip) (lockKept t) t room (ap (λ (d : Called Tuner). isDone (d .answer)) (sym is) ∙ h) .0))
       by (pll-variants.Planned p) e =
           let is = tune-by-plan t hz os rs room ∙ ap (byPlan t hz os rs room) e in
           let ss : List Step = tuneOf t (pll-variants.Planned p) hz rs in
@@ -112,7 +113,7 @@ module _ (t : Tuner) (hz : ℕ) (table rs : List ℕ) (d : Driver) (os room : Li
           → LockTold (t .chip .address) (hopLockTries at hz rs os t d room) (es ++ entries (call (BoardTune hz table rs d) os room) t)
       by pll-variants.Refused e =
           let is = hop-by-plan t hz table rs d os room ∙ ap (byHop t hz table rs d os room) e in
-          absurd (false≢true (went number (Refused 2) os (hopSteps (t .kind) (t .chip .address) (at .plan) pll-variants.Refused rs) (t .chip) (hopKept t d (at .plan) (Refused 2) hz) (both t d) room
+          absurd (false≢true (went number (Refused FREQUENCY) os (hopSteps (t .kind) (t .chip .address) (at .plan) pll-variants.Refused rs) (t .chip) (hopKept t d (at .plan) (Refused FREQUENCY) hz) (both t d) room
           (ap (λ (x : Called Both). isDone (x .answer)) (sym is) ∙ h) .0))
       by (pll-variants.Planned p) e =
           let address : ℕ = t .chip .address in

@@ -10,8 +10,8 @@ use lib.ListN.{getD, length}
 use Rattle.transcript.specs.declared.Entry.{Entry}
 use Rattle.attempts.specs.Attempts.{Played, Regs, byteIn, lastIn, tunerAt}
 use Rattle.attempts.proofs.Played.{played-append}
-use Rattle.chip.specs.declared.Answer.{Answer}
-use Rattle.chip.specs.declared.Answer.the-variants.{Done, Refused}
+use Rattle.refusals.specs.declared.Answer.{Answer}
+use Rattle.refusals.specs.declared.Answer.the-variants.{Done, Refused}
 use Rattle.chip.specs.declared.Chip.{Chip}
 use Rattle.chip.specs.Courses.{leftBy}
 use Rattle.chip.specs.Steps.{every}

@@ -14,8 +14,9 @@ use Rattle.board.specs.declared.Route.{Route}
 use Rattle.board.specs.declared.Route.the-variants.{By, Direct as Plainly}
 use Rattle.board.specs.Numbers.{pathOf}
 use Rattle.boards.specs.Hops.{ddcPart, hopSteps, pathPart, pathReplies}
-use Rattle.chip.specs.declared.Answer.{Answer}
-use Rattle.chip.specs.declared.Answer.the-variants.{Done, Refused}
+use Rattle.refusals.specs.declared.Answer.{Answer}
+use Rattle.refusals.specs.declared.Answer.the-variants.{Done, Refused}
+use Rattle.refusals.specs.Table.{CORRECTION}
 use Rattle.chip.specs.declared.Chip.{Chip}
 use Rattle.chip.specs.Calls.{callEntries}
 use Rattle.chip.specs.Courses.{stepsOf}
@@ -181,7 +182,7 @@ still-row (Tuned IfTold) t h = still-none
 still-row (Tuned TableTold) t h = still-none
 still-row (SampleRate rate table d) t h = absurd (true≢false h)
 still-row (Correction ppm d) t h =
-    still-either (leb 1 (xtalBy (t .nominal) ppm) && leb 1 (xtalBy (d .nominal) ppm)) (both (withCorrected t (xtalBy (t .nominal) ppm)) (withPpm d ppm)) (both t d) (Done 0) (Refused 4)
+    still-either (leb 1 (xtalBy (t .nominal) ppm) && leb 1 (xtalBy (d .nominal) ppm)) (both (withCorrected t (xtalBy (t .nominal) ppm)) (withPpm d ppm)) (both t d) (Done 0) (Refused CORRECTION)
 still-row (BoardPath path rs) t h = still-board-row (pathOf path) rs t
 still-row (BoardTune hz table rs d) t h = still-hop (t .kind) (t .chip .address) (planBy table hz .plan) (planFor t (planBy table hz .plan .hz)) rs
 

@@ -8,6 +8,7 @@ use mathlib.Core.Bool.{Bool, true, cond, _&&_}
 use lib.Dec.{leb, eqb}
 use lib.ListN.{length, take, drop}
 use Rattle.wire.specs.Bytes.{leBytes, leValue}
+use Rattle.refusals.specs.Table.{SECTION}
 use Rattle.transcript.specs.declared.Entry.{Entry}
 use Rattle.transcript.specs.declared.Section.{Section}
 use Rattle.transcript.specs.declared.Section.the-variants.{Read, Refused}
@@ -69,7 +70,7 @@ sectionEntries s = entriesIn (countOf s) (entriesOf s)
 -- "12 section: reader's rule broken"; 0 for what is read
 abbrev pub refusalOf : Section → ℕ
 refusalOf (Read start count) = 0
-refusalOf Refused = 12
+refusalOf Refused = SECTION
 
 abbrev pub AllFit : List Entry → Type 0
 AllFit [] = Unit {0}

@@ -28,9 +28,6 @@ pub const READ: u8 = 8;
 
 pub const WAIT: u8 = 9;
 
-// Refusal 12. It stands here and not with the other numbers in crate chip, since chip depends on this crate.
-pub const SECTION: u32 = 12;
-
 // "An entry has 16 bytes: kind, outcome (0 done, 1 failed), target, n, address (u16, low byte first), two zeros, eight data
 // bytes padded with zeros." The bytes here are the eight, with their zeros.
 pub struct Entry {
@@ -171,7 +168,7 @@ impl Section {
     {
         match self {
             Section::Read { start: _, count: _ } => 0,
-            Section::Refused => SECTION,
+            Section::Refused => refusals::SECTION as u32,
         }
     }
 }

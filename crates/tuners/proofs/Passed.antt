@@ -16,8 +16,9 @@ use Rattle.board.specs.declared.PathRead.the-variants as path-read
 use Rattle.board.specs.Numbers.{pathOf}
 use Rattle.pll.specs.declared.Kind.{Kind}
 use Rattle.pll.specs.declared.Kind.the-variants.{R820T, R828D}
-use Rattle.chip.specs.declared.Answer.{Answer}
-use Rattle.chip.specs.declared.Answer.the-variants.{Refused}
+use Rattle.refusals.specs.declared.Answer.{Answer}
+use Rattle.refusals.specs.declared.Answer.the-variants.{Refused}
+use Rattle.refusals.specs.Table.{SETUP, ROOM}
 use Rattle.chip.specs.declared.LockTries.{LockTries}
 use Rattle.chip.specs.Calls.{Called, called, lockTriesIn}
 use Rattle.chip.specs.Courses.{Course, argumentOf, askedBy, entriesBy, leftBy}
@@ -46,7 +47,7 @@ module _ (ok : Bool) (argument : ℕ) (short : Bool) where
   pub all-there : ok ≡ true → argument ≡ 0 → short ≡ false → 0 ≡ readyBy ok argument short
   all-there o z h = rw (o, eq-eqb argument 0 z, h)
 
-then-short : (b : Bool) (argument : ℕ) (short : Bool) → eqb argument 0 ≡ b → cond b (cond short 8 0) argument ≡ 0 → (short ≡ false) × (argument ≡ 0)
+then-short : (b : Bool) (argument : ℕ) (short : Bool) → eqb argument 0 ≡ b → cond b (cond short ROOM 0) argument ≡ 0 → (short ≡ false) × (argument ≡ 0)
 then-short true argument true t e = absurd (omega (arith, e))
 then-short true argument false t e = (refl, eqb-true argument 0 t)
 then-short false argument short t e = absurd (eqb-false argument 0 t e)
@@ -71,7 +72,7 @@ path-byte ok path k n next need asked said z =
     path-named (ltb 2 path) path refl (sym asked ∙ none-refused ok k (ltb next need) (sym said ∙ z) .1)
 
 -- a row by a path's number: 1 where it names none, and no other refusal
-pub path-argued : (row : PathRead → Course Tuner) → argumentOf (row path-read.Refused) ≡ 1 → ((p : Path) → argumentOf (row (path-read.Is p)) ≡ 0)
+pub path-argued : (row : PathRead → Course Tuner) → argumentOf (row path-read.Refused) ≡ SETUP → ((p : Path) → argumentOf (row (path-read.Is p)) ≡ 0)
     → (path : ℕ) → pathRefusal path ≡ argumentOf (row (pathOf path))
 path-argued row none some zero = sym (some Hf)
 path-argued row none some (suc zero) = sym (some Vhf)

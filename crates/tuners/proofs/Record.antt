@@ -5,9 +5,10 @@ use Prim.Native.Nat.{ℕ}
 use mathlib.Core.Path.{_≡_, sym, ap, _∙_}
 use mathlib.Core.Bool.{Bool, true, false}
 use mathlib.Core.List.{List, []}
-use Rattle.lending.specs.Lent.{Given, answeredTo, given}
-use Rattle.chip.specs.declared.Answer.{Answer}
-use Rattle.chip.specs.declared.Answer.the-variants.{Refused}
+use Rattle.refusals.specs.Lent.{Given, answeredTo, given}
+use Rattle.refusals.specs.declared.Answer.{Answer}
+use Rattle.refusals.specs.declared.Answer.the-variants.{Refused}
+use Rattle.refusals.specs.Table.{SETUP}
 use Rattle.chip.specs.Calls.{Called, called}
 use Rattle.tuners.specs.Still.{changedTo, ofRecord}
 
@@ -32,7 +33,7 @@ module _ {Read R : Type 0} (ok : Read → Bool) (value : Read → R) (read meant
   pub changed : (bytes : R → List ℕ) (call : R → Called R) (out : List ℕ) → ok read ≡ true
       → (r : R) (count : ℕ) (a : Answer) → called r [] count a ≡ call (value read)
       → (g : Given) → g ≡ answeredTo a (bytes r) out
-      → g ≡ ofRecord (ok meant) (value meant) (changedTo bytes call out) (given (Refused 1) out)
+      → g ≡ ofRecord (ok meant) (value meant) (changedTo bytes call out) (given (Refused SETUP) out)
   changed bytes call out h r count a e g w =
-      of-record (changedTo bytes call out) (given (Refused 1) out) h g
+      of-record (changedTo bytes call out) (given (Refused SETUP) out) h g
       (w ∙ ap (λ (x : Called R). answeredTo (x .answer) (bytes (x .next)) out) e)

@@ -7,8 +7,9 @@ use mathlib.Core.List.{List}
 use lib.Dec.{eqb, ltb}
 use lib.ListN.{length}
 use lib.Seq.{sets}
-use Rattle.chip.specs.declared.Answer.{Answer}
-use Rattle.chip.specs.declared.Answer.the-variants.{Done, Refused, Stopped}
+use Rattle.refusals.specs.declared.Answer.{Answer}
+use Rattle.refusals.specs.declared.Answer.the-variants.{Done, Refused, Stopped}
+use Rattle.refusals.specs.Table.{SETUP, ROOM}
 use Rattle.chip.specs.declared.LockTries.{LockTries}
 use Rattle.chip.specs.Calls.{Called, lockTriesIn}
 use Rattle.chip.specs.Courses.{Course, argumentOf, askedBy, entriesBy, leftBy}
@@ -31,7 +32,7 @@ after answer room next = record { answer = answer; room = room; next = next }
 
 -- "Order: arguments (1 to 7, and 2 for hz), then 8": the records, the argument, then the slices for next records; 0 where nothing refuses
 abbrev pub readyBy : Bool → ℕ → Bool → ℕ
-readyBy ok argument short = cond ok (cond (eqb argument 0) (cond short 8 0) argument) 1
+readyBy ok argument short = cond ok (cond (eqb argument 0) (cond short ROOM 0) argument) SETUP
 
 -- of one record, of which `need` bytes are written
 unfoldable pub readyOf : Bool → ℕ → ℕ → ℕ → ℕ
@@ -90,4 +91,4 @@ overTuning row os b room next = tunedBy (overTuner row os b room next) (lockTrie
 
 -- a path's number above 2 names no path
 abbrev pub pathRefusal : ℕ → ℕ
-pathRefusal path = cond (ltb 2 path) 1 0
+pathRefusal path = cond (ltb 2 path) SETUP 0

@@ -4,9 +4,10 @@ use Prim.Native.Nat.{ℕ}
 use mathlib.Core.Bool.{Bool, cond}
 use mathlib.Core.List.{List}
 use Rattle.answers.specs.Lent.{tableInto}
-use Rattle.lending.specs.Lent.{Given, answeredTo, given}
-use Rattle.chip.specs.declared.Answer.{Answer}
-use Rattle.chip.specs.declared.Answer.the-variants.{Refused}
+use Rattle.refusals.specs.Lent.{Given, answeredTo, given}
+use Rattle.refusals.specs.declared.Answer.{Answer}
+use Rattle.refusals.specs.declared.Answer.the-variants.{Refused}
+use Rattle.refusals.specs.Table.{SETUP}
 use Rattle.chip.specs.Calls.{Called}
 use Rattle.r82xx.specs.declared.Tuner.{Tuner}
 use Rattle.r82xx.specs.Orders.{Order, quietly}
@@ -30,16 +31,16 @@ changedTo bytes call out r = answeredTo (call r .answer) (bytes (call r .next)) 
 -- a row of the table without steps, on the record that the bytes are; 1 where they are not valid
 abbrev pub changedInto : Order → List ℕ → List ℕ → Given
 changedInto o b out =
-    ofRecord (tunerOf b .ok) (tunerOf b .tuner) (changedTo tunerBytes (quietly o) out) (given (Refused 1) out)
+    ofRecord (tunerOf b .ok) (tunerOf b .tuner) (changedTo tunerBytes (quietly o) out) (given (Refused SETUP) out)
 
 -- its answer alone
 abbrev pub answerOver : Order → List ℕ → Answer
-answerOver o b = ofRecord (tunerOf b .ok) (tunerOf b .tuner) (λ t. quietly o t .answer) (Refused 1)
+answerOver o b = ofRecord (tunerOf b .ok) (tunerOf b .tuner) (λ t. quietly o t .answer) (Refused SETUP)
 
 -- where the oscillator stands by the record; 20 after 1
 abbrev pub oscillatorOver : List ℕ → Answer
-oscillatorOver b = ofRecord (tunerOf b .ok) (tunerOf b .tuner) oscillatorOf (Refused 1)
+oscillatorOver b = ofRecord (tunerOf b .ok) (tunerOf b .tuner) oscillatorOf (Refused SETUP)
 
 -- the gain table's bytes
 abbrev pub tableOver : List ℕ → List ℕ → Given
-tableOver b out = ofRecord (tunerOf b .ok) (tunerOf b .tuner) (λ t. tableInto t out) (given (Refused 1) out)
+tableOver b out = ofRecord (tunerOf b .ok) (tunerOf b .tuner) (λ t. tableInto t out) (given (Refused SETUP) out)

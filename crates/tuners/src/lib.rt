@@ -5,18 +5,18 @@
 ghost use mathlib.Core.Path.{_≡_};
 ghost use Prim.Native.Nat.{_≤_};
 ghost use lib.ListN.{length};
-ghost use Rattle.lending.specs.Lent.{answeredTo, given};
+ghost use Rattle.refusals.specs.Lent.{answeredTo, given};
 ghost use Rattle.r82xx.specs.Orders.{courseOf};
 ghost use Rattle.r82xx.specs.Orders.Order.{Initialize, Reload, Bandwidth, IfFreq, Gain, GainIndex, InputPath, Tune, Notch, GainTold, IfTold};
 ghost use Rattle.records.specs.Tuners.{tunerBytes};
 ghost use Rattle.reply.specs.Replies.{replyOf};
-ghost use Rattle.chip.specs.declared.Answer.the-variants.{Refused};
+ghost use Rattle.refusals.specs.declared.Answer.the-variants.{Refused};
 ghost use Rattle.tuners.specs.Over.{after, isWritten, nextOf, overTuner, overTuning, pathRefusal, readyOf, tunedTo};
 ghost use Rattle.tuners.specs.Still.{answerOver, changedInto, freshInto, oscillatorOver, tableOver};
-use chip::Answer;
 use r82xx::Tuner;
 use r82xx::TunerResult;
 use records::TUNER;
+use refusals::Answer;
 use reply::Reply;
 use reply::TuneReply;
 
@@ -25,13 +25,13 @@ pub fn ready(ok: bool, argument: u8, next: usize, need: usize) -> u8
     ensures { λ r. ⌜ r ≡ readyOf ok argument next need ⌝ }
 {
     if !ok {
-        return chip::SETUP;
+        return refusals::SETUP;
     }
     if argument != 0 {
         return argument;
     }
     if next < need {
-        return chip::ROOM;
+        return refusals::ROOM;
     }
     0
 }
@@ -78,7 +78,7 @@ pub fn path_refusal(path: u64) -> u8
     ensures { λ r. ⌜ r ≡ pathRefusal path ⌝ }
 {
     if 2 < path {
-        return chip::SETUP;
+        return refusals::SETUP;
     }
     0
 }
@@ -236,7 +236,7 @@ fn lend(answer: Answer, tuner: Tuner, out: &mut [u8]) -> Answer
     ensures { λ r. ⌜ given r (now (out .exit)) ≡ answeredTo answer (tunerBytes tuner) (now (out .entry)) ⌝ }
 {
     let image = records::tuner_image(tuner);
-    lending::lend_answer(answer, &image, out)
+    refusals::lend_answer(answer, &image, out)
 }
 
 pub fn fresh(kind: u64, address: u8, nominal: u64, next: &mut [u8]) -> Answer
@@ -252,7 +252,7 @@ pub fn apply_notch(tuner: &mut [u8], on: bool) -> Answer
 {
     let read = records::decode_tuner(tuner);
     if !read.ok {
-        return Answer::Refused(chip::SETUP);
+        return Answer::Refused(refusals::SETUP);
     }
     let given = read.tuner;
     let told = given.with_notch(on);
@@ -265,7 +265,7 @@ pub fn get_gain(tuner: &[u8]) -> Answer
 {
     let read = records::decode_tuner(tuner);
     if !read.ok {
-        return Answer::Refused(chip::SETUP);
+        return Answer::Refused(refusals::SETUP);
     }
     let given = read.tuner;
     given.get_gain()
@@ -276,7 +276,7 @@ pub fn get_if_freq(tuner: &[u8]) -> Answer
 {
     let read = records::decode_tuner(tuner);
     if !read.ok {
-        return Answer::Refused(chip::SETUP);
+        return Answer::Refused(refusals::SETUP);
     }
     let given = read.tuner;
     given.get_if_freq()
@@ -288,7 +288,7 @@ pub fn oscillator(tuner: &[u8]) -> Answer
 {
     let held = records::decode_tuner(tuner);
     if !held.ok {
-        return Answer::Refused(chip::SETUP);
+        return Answer::Refused(refusals::SETUP);
     }
     let given = held.tuner;
     station::oscillator(given)
@@ -299,7 +299,7 @@ pub fn get_gain_table(tuner: &[u8], out: &mut [u8]) -> Answer
 {
     let read = records::decode_tuner(tuner);
     if !read.ok {
-        return Answer::Refused(chip::SETUP);
+        return Answer::Refused(refusals::SETUP);
     }
     let given = read.tuner;
     answers::gain_table(given, out)

@@ -5,8 +5,9 @@ use Prim.Native.Nat.{ℕ}
 use mathlib.Core.Bool.{Bool}
 use mathlib.Core.List.{List, [], _++_}
 use lib.ListN.{getD}
-use Rattle.chip.specs.declared.Answer.{Answer}
-use Rattle.chip.specs.declared.Answer.the-variants as answer
+use Rattle.refusals.specs.declared.Answer.{Answer}
+use Rattle.refusals.specs.declared.Answer.the-variants as answer
+use Rattle.refusals.specs.Table.{FREQUENCY}
 use Rattle.chip.specs.Steps.{Step, whileOpen, updates}
 use Rattle.pll.specs.declared.Kind.{Kind}
 use Rattle.pll.specs.declared.Pll.{Pll}
@@ -16,7 +17,7 @@ use Rattle.tuning.specs.Tries.{repairUpdates, statusSteps, triesFrom}
 
 -- a tuning's answer where no step failed: the hz asked, or 2 in the PLL
 abbrev pub tuneAnswer : Pll → ℕ → Answer
-tuneAnswer Refused hz = answer.Refused 2
+tuneAnswer Refused hz = answer.Refused FREQUENCY
 tuneAnswer (Planned p) hz = answer.Done hz
 
 -- the divider's number of a plan; at most 5, as pll shows

@@ -17,7 +17,6 @@ ghost use Rattle.tuning.specs.Mux.{laterOf, muxUpdates, pllUpdates, rang
 ghost use Rattle.tuning.specs.Tries.{afterTry, lockBy, locked, fineOf, powerOf, repairUpdates, replyBytes, statusSteps, triesFrom, tryRead};
 ghost use Rattle.tuning.specs.InCode.{fixUpdates};
 ghost use Rattle.tuning.specs.Program.{innerSteps, dividerNumber, tuneSteps, tuneAnswer};
-use chip::Answer;
 use chip::Chip;
 use chip::Flow;
 use chip::LockTries;
@@ -29,6 +28,7 @@ use chip::masked;
 use pll::Kind;
 use pll::Plan;
 use pll::Pll;
+use refusals::Answer;
 use transcript::Entry;
 
 mod ranges;
@@ -62,7 +62,7 @@ pub fn whole_answer(plan: Pll, hz: u64) -> Answer
     ensures { λ r. ⌜ r ≡ tuneAnswer plan hz ⌝ }
 {
     match plan {
-        Pll::Refused => Answer::Refused(chip::FREQUENCY),
+        Pll::Refused => Answer::Refused(refusals::FREQUENCY),
         Pll::Planned(_) => Answer::Done(hz),
     }
 }

@@ -13,9 +13,10 @@ use Rattle.wire.specs.Parts.{Sized, laid}
 use Rattle.wire.proofs.Widths.{length-leBytes}
 use Rattle.wire.proofs.Joins.{laid-joined, length-joined}
 use Rattle.transcript.specs.declared.Entry.{Entry}
-use Rattle.chip.specs.declared.Answer.the-variants.{Refused}
-use Rattle.lending.specs.Lent.{given, lentTo}
-use Rattle.lending.proofs.Giving as giving
+use Rattle.refusals.specs.declared.Answer.the-variants.{Refused}
+use Rattle.refusals.specs.Lent.{given, lentTo}
+use Rattle.refusals.proofs.Giving as giving
+use Rattle.refusals.specs.Table.{CORRECTION}
 use Rattle.attempts.specs.Attempts.{lastIn}
 use Rattle.attempts.specs.Namings.{Last, byteIn}
 use Rattle.attempts.specs.Namings.Last.{Never, Tried}
@@ -215,7 +216,7 @@ module _ (s : List ℕ) (address r xtal : ℕ) (out : List ℕ) where
       let bytes = evidenceBytes address (chainEntries s) r xtal in
       giving.refused k 0 bytes out some ∙ ap (λ (n : ℕ). lentTo n 0 bytes out) is
 
-  pub no-reference : (eqb r 0 || eqb xtal 0) ≡ true → given (Refused 4) out ≡ evidenceInto s address r xtal out
+  pub no-reference : (eqb r 0 || eqb xtal 0) ≡ true → given (Refused CORRECTION) out ≡ evidenceInto s address r xtal out
   unfolding refusalBy
   no-reference h = by-refusal 4 (rw h) (omega arith)
 

@@ -10,7 +10,8 @@ use Rattle.wire.specs.Bytes.{leBytes}
 use Rattle.wire.specs.Parts.{joined}
 use Rattle.transcript.specs.declared.Entry.{Entry}
 use Rattle.sections.specs.Chain.{chainEntries}
-use Rattle.lending.specs.Lent.{Given, lentTo}
+use Rattle.refusals.specs.Lent.{Given, lentTo}
+use Rattle.refusals.specs.Table.{CORRECTION}
 use Rattle.restore.specs.Restore.{refusedBy}
 use Rattle.evidence.specs.Demodulator.{lastAt}
 use Rattle.evidence.specs.Evidence.{bothMark, centreOf, chipByte, demodByte, ifMark, ifUnits, ifWord, loMark, loUnits, lockMark, markOf, rateIn, rateMark, ratioIn, triesOf}
@@ -82,7 +83,7 @@ evidenceBytes address es r xtal = answerBytes (marksOf address es) (numbersOf ad
 
 -- "Refusals: 4 for either reference 0, 12 for any section, then 8." The value is 0.
 unfoldable pub refusalBy : ℕ → ℕ → List ℕ → ℕ
-refusalBy r xtal s = cond (eqb r 0 || eqb xtal 0) 4 (refusedBy s)
+refusalBy r xtal s = cond (eqb r 0 || eqb xtal 0) CORRECTION (refusedBy s)
 
 unfoldable pub evidenceInto : List ℕ → ℕ → ℕ → ℕ → List ℕ → Given
 evidenceInto s address r xtal out = lentTo (refusalBy r xtal s) 0 (evidenceBytes address (chainEntries s) r xtal) out

@@ -13,7 +13,7 @@ ghost use Rattle.wire.specs.Bytes.{leBytes};
 ghost use Rattle.transcript.specs.Sections.{allFit, entriesIn};
 ghost use Rattle.attempts.specs.Attempts as attempts;
 ghost use Rattle.sections.specs.Chain.{chain, chainEntries};
-ghost use Rattle.lending.specs.Lent.{given};
+ghost use Rattle.refusals.specs.Lent.{given};
 ghost use Rattle.restore.specs.Restore.{refusedBy};
 ghost use Rattle.registers.specs.Rates.{negatedOf};
 ghost use Rattle.oscillator.specs.Registers.{five};
@@ -25,7 +25,7 @@ ghost use Rattle.evidence.specs.Evidence.{bothMark, centreOf, loUnits, planned,
 ghost use Rattle.witness.specs.Walk.{demodIn, most, placeOf, seen, seenAll, waitedBy, waiting};
 ghost use Rattle.witness.specs.Answer.{answerBytes, centreMark, evidenceInto, ifSure};
 ghost use Rattle.witness.specs.InCode.{markFrom, marksIn, numbersIn};
-use chip::Answer;
+use refusals::Answer;
 use transcript::Entry;
 use transcript::Section;
 
@@ -311,7 +311,7 @@ fn walked(
         let part = &s[0..end];
         let Section::Read { start, count } = transcript::read_section(part) else {
             return Ended {
-                refusal: 12,
+                refusal: refusals::SECTION,
                 waiting: w,
             };
         };
@@ -534,7 +534,7 @@ pub fn evidence(sections: &[u8], address: u8, r: u32, xtal: u32, out: &mut [u8])
     ensures { λ a. ⌜ given a (now (out .exit)) ≡ evidenceInto (now (sections .entry)) address r xtal (now (out .entry)) ⌝ }
 {
     if (r == 0) | (xtal == 0) {
-        return Answer::Refused(chip::CORRECTION);
+        return Answer::Refused(refusals::CORRECTION);
     }
     let mut marks = [0u8; 32];
     let mut sent = [0u8; 32];
@@ -555,5 +555,5 @@ pub fn evidence(sections: &[u8], address: u8, r: u32, xtal: u32, out: &mut [u8])
     let m = marks_in(&marks, &states, w.lock);
     let n = numbers_in(&sent, &values, w.tries, r, xtal);
     let image = answer_image(m, n);
-    lending::lend(0, 0, &image, out)
+    refusals::lend(0, 0, &image, out)
 }

@@ -5,6 +5,7 @@ use mathlib.Core.Bool.{Bool, true, false}
 use mathlib.Core.List.{[], _∷_}
 use lib.IntN.{pos, negℤ}
 use lib.Ieee.{binary32, nan, ofBits, toBits}
+use Rattle.refusals.specs.Table.{RATIO}
 use Rattle.board.specs.declared.Board.the-variants.{V4}
 use Rattle.board.specs.declared.Path.the-variants.{Hf, Vhf}
 use Rattle.board.specs.declared.Route.the-variants.{By}
@@ -75,11 +76,11 @@ pub record Worked : Type 0 where
   pub rate-wide : sentOf (ratioOf 2_048_000 28_800_000) ≡ 0x0384_0000
   pub rate-narrow : sentOf (ratioOf 225_000 28_800_000) ≡ 0
   -- Document 02, #103: that rate is refused; "At 28,800,000 that is 225,001 to 300,000, and 900,001 upward", the numbers at whose sides the answer changes
-  pub too-narrow : rateNumber 225_000 28_800_000 ≡ 13
+  pub too-narrow : rateNumber 225_000 28_800_000 ≡ RATIO
   pub narrowest : rateNumber 225_001 28_800_000 ≡ 0
   pub last-narrow : rateNumber 300_000 28_800_000 ≡ 0
-  pub first-between : rateNumber 300_001 28_800_000 ≡ 13
-  pub last-between : rateNumber 900_000 28_800_000 ≡ 13
+  pub first-between : rateNumber 300_001 28_800_000 ≡ RATIO
+  pub last-between : rateNumber 900_000 28_800_000 ≡ RATIO
   pub first-wide : rateNumber 900_001 28_800_000 ≡ 0
   -- Document 02, #104: the true rates of that line's first, of the first rate whose true one is another and of the one before it, and of the last u32, past 32 bits
   pub true-wide : trueOf 2_048_000 28_800_000 ≡ 2_048_000

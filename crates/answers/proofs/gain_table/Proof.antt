@@ -4,10 +4,10 @@ use Prim.Native.Nat.{ℕ}
 use mathlib.Core.Path.{ap, _∙_}
 use borrow.Author.Needs.{needs}
 use denote.Ref.{now}
-use Rattle.chip.specs.Calls.{numberOf}
+use Rattle.refusals.specs.Answers.{numberOf}
 use Rattle.r82xx.specs.declared.Table.{Table}
 use Rattle.answers.specs.Lent.{wordBytes}
-use Rattle.lending.specs.Lent.{lentTo}
+use Rattle.refusals.specs.Lent.{lentTo}
 use Rattle.answers.proofs.Giving.{table-given}
 use Rattle.answers.proofs.gain_table.Statement.{statement}
 use Rattle.answers.proofs.gain_table.Tie as tie

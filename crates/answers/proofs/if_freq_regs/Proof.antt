@@ -5,7 +5,7 @@ use mathlib.Core.Path.{sym, ap, subst, _∙_}
 use borrow.Author.Needs.{needs}
 use denote.Ref.{now}
 use Rattle.registers.specs.declared.IfRegs.{IfRegs}
-use Rattle.lending.specs.Lent.{lentTo}
+use Rattle.refusals.specs.Lent.{lentTo}
 use Rattle.answers.proofs.Giving.{if-small}
 use Rattle.answers.proofs.if_freq_regs.Statement.{statement}
 use Rattle.answers.proofs.if_freq_regs.Tie as tie

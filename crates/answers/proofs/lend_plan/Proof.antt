@@ -3,7 +3,7 @@
 use mathlib.Core.List.{[], _∷_}
 use mathlib.Core.Path.{_∙_}
 use denote.Ref.{now}
-use Rattle.lending.specs.Lent.{lentTo}
+use Rattle.refusals.specs.Lent.{lentTo}
 use borrow.Author.Needs.{needs}
 use Rattle.answers.proofs.lend_plan.Statement.{statement}
 use Rattle.answers.proofs.lend_plan.Tie as tie

@@ -7,9 +7,9 @@ use native.Mathlib.Omega.{arith}
 use borrow.Author.Needs.{needs}
 use denote.Ref.{now}
 use Rattle.answers.specs.Lent.{wordBytes}
-use Rattle.lending.specs.Lent.{given}
-use Rattle.chip.specs.declared.Answer.the-variants.{Done}
-use Rattle.lending.proofs.Giving.{laid, refused, too-short}
+use Rattle.refusals.specs.Lent.{given}
+use Rattle.refusals.specs.declared.Answer.the-variants.{Done}
+use Rattle.refusals.proofs.Giving.{laid, refused, too-short}
 use Rattle.answers.proofs.Words.{length-words}
 use Rattle.answers.proofs.lend_words.Statement.{statement}
 use Rattle.answers.proofs.lend_words.Tie as tie

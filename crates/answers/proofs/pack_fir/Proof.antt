@@ -6,7 +6,7 @@ use borrow.Author.Needs.{needs}
 use denote.Ref.{now}
 use Rattle.fir.specs.declared.Packed.{Packed}
 use Rattle.fir.specs.Packing.{packed}
-use Rattle.lending.specs.Lent.{lentTo}
+use Rattle.refusals.specs.Lent.{lentTo}
 use Rattle.answers.proofs.Giving.{no-packing, packing}
 use Rattle.answers.proofs.pack_fir.Statement.{statement}
 use Rattle.answers.proofs.pack_fir.Tie as tie

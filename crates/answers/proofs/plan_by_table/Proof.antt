@@ -4,7 +4,7 @@ use mathlib.Core.Path.{ap, _∙_}
 use denote.Ref.{now}
 use Rattle.bands.specs.declared.Planned.{Planned}
 use Rattle.answers.specs.Lent.{planBytes}
-use Rattle.lending.specs.Lent.{lentTo}
+use Rattle.refusals.specs.Lent.{lentTo}
 use borrow.Author.Needs.{needs}
 use Rattle.answers.proofs.plan_by_table.Statement.{statement}
 use Rattle.answers.proofs.plan_by_table.Tie as tie

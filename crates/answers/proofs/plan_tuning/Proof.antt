@@ -7,7 +7,7 @@ use Rattle.board.specs.declared.Plan.{Plan}
 use Rattle.board.specs.declared.BoardRead.{BoardRead}
 use Rattle.board.proofs.Numbers.{no-board}
 use Rattle.answers.specs.Lent.{planBytes, planInto}
-use Rattle.lending.specs.Lent.{lentTo}
+use Rattle.refusals.specs.Lent.{lentTo}
 use borrow.Author.Needs.{needs}
 use Rattle.answers.proofs.plan_tuning.Statement.{statement}
 use Rattle.answers.proofs.plan_tuning.Tie as tie

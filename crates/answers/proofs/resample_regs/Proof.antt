@@ -5,7 +5,7 @@ use mathlib.Core.Path.{sym, ap, subst, _∙_}
 use borrow.Author.Needs.{needs}
 use denote.Ref.{now}
 use Rattle.registers.specs.declared.ResampleRegs.{ResampleRegs}
-use Rattle.lending.specs.Lent.{lentTo}
+use Rattle.refusals.specs.Lent.{lentTo}
 use Rattle.answers.proofs.Giving.{resample-small}
 use Rattle.answers.proofs.resample_regs.Statement.{statement}
 use Rattle.answers.proofs.resample_regs.Tie as tie

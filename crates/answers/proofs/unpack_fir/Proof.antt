@@ -8,9 +8,9 @@ use lib.IntN.{ℤ}
 use denote.Ref.{now}
 use Rattle.fir.specs.Packing.{no-bytes, unpackOf}
 use Rattle.answers.specs.Lent.{wordBytes}
-use Rattle.lending.specs.Lent.{lentTo}
+use Rattle.refusals.specs.Lent.{lentTo}
 use Rattle.answers.proofs.Giving.{no-unpacking, unpacking}
-use Rattle.lending.proofs.Giving.{covered}
+use Rattle.refusals.proofs.Giving.{covered}
 use Rattle.answers.proofs.unpack_fir.Statement.{statement}
 use Rattle.answers.proofs.unpack_fir.Tie as tie
 

@@ -1,7 +1,7 @@
 -- `centre::by_plan` meets its contract: each case of the oscillator's answer is its definition's. Assumes nothing.
 use Prim.Native.Nat.{ℕ}
 use mathlib.Core.Path.{refl, sym, ap, _∙_}
-use Rattle.chip.specs.declared.Answer.{Answer}
+use Rattle.refusals.specs.declared.Answer.{Answer}
 use Rattle.centre.specs.Centre.{centreAt, onDone}
 use Rattle.centre.proofs.Rows.{by-told, no-table}
 use borrow.Author.Needs.{needs}

@@ -7,7 +7,7 @@ use denote.Ref.{now}
 use Rattle.driver.specs.declared.Made.{Made}
 use Rattle.driver.specs.Record.{driverOf}
 use Rattle.records.specs.Drivers.{driverBytes}
-use Rattle.lending.specs.Lent.{answeredTo}
+use Rattle.refusals.specs.Lent.{answeredTo}
 use borrow.Author.Needs.{needs}
 use Rattle.drivers.proofs.fresh.Statement.{statement}
 use Rattle.drivers.proofs.fresh.Tie as tie

@@ -4,7 +4,7 @@ use Prim.Native.Nat.{ℕ}
 use mathlib.Core.Path.{ap, _∙_}
 use mathlib.Core.List.{List}
 use denote.Ref.{now}
-use Rattle.lending.specs.Lent.{answeredTo}
+use Rattle.refusals.specs.Lent.{answeredTo}
 use borrow.Author.Needs.{needs}
 use Rattle.drivers.proofs.lend.Statement.{statement}
 use Rattle.drivers.proofs.lend.Tie as tie

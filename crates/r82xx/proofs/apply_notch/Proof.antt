@@ -43,11 +43,11 @@ use denote.Triple.Table.{entered, cited}
 use denote.Triple.Walked.{says, Stays, stay-ref, stay-none, walkOf, AllGo, goes-none, goes-ref, Walks, ends-at, walked, walk-meets}
 use denote.Triple.Clauses.{ensured, lasts}
 use denote.Exit.{yes}
-use Rattle.chip.specs.declared.Answer.{Answer}
+use Rattle.refusals.specs.declared.Answer.{Answer}
 use Rattle.chip.specs.Calls.{Called}
 use Rattle.r82xx.proofs.Tuned.{notch-left}
-use Rattle.chip.proofs.Answer as S
-use Rattle.chip.proofs.Answer.Laws as S′
+use Rattle.refusals.proofs.Answer as S
+use Rattle.refusals.proofs.Answer.Laws as S′
 use Rattle.r82xx.specs.declared.Tuner.{Tuner}
 use Rattle.r82xx.specs.Record.{withNotch}
 use Rattle.r82xx.specs.InCode.{keptNotch, soundAnswer}

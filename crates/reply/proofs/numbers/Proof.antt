@@ -2,8 +2,8 @@
 use Prim.Native.Nat.{ℕ, _%_}
 use mathlib.Core.Path.{_≡_, sym, ap, _∙_}
 use borrow.Author.Needs.{needs}
-use Rattle.chip.specs.declared.Answer.{Answer}
-use Rattle.chip.specs.Calls.{indexOf, numberOf, valueOf}
+use Rattle.refusals.specs.declared.Answer.{Answer}
+use Rattle.refusals.specs.Answers.{indexOf, numberOf, valueOf}
 use Rattle.reply.specs.declared.Reply.{Reply}
 use Rattle.reply.specs.Replies.{replyOf}
 use Rattle.reply.proofs.numbers.Statement.{statement}
@@ -30,6 +30,9 @@ cast-t8 c = search needs
 
 enum-known-answer-3 : tie.Need-enum-known-answer-3
 enum-known-answer-3 c = search needs
+
+cast-t10 : tie.Need-cast-t10
+cast-t10 c = search needs
 
 returns : tie.Need-returns
 returns c =
@@ -61,6 +64,7 @@ numbers-spec =
     enum-known-answer-2
     cast-t8
     enum-known-answer-3
+    cast-t10
     returns
     returns-2
     returns-3)

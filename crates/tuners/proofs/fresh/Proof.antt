@@ -4,7 +4,7 @@ use mathlib.Core.Path.{ap, _∙_}
 use denote.Ref.{now}
 use Rattle.r82xx.specs.declared.Made.{Made}
 use Rattle.records.specs.Tuners.{tunerBytes}
-use Rattle.lending.specs.Lent.{answeredTo}
+use Rattle.refusals.specs.Lent.{answeredTo}
 use borrow.Author.Needs.{needs}
 use Rattle.tuners.proofs.fresh.Statement.{statement}
 use Rattle.tuners.proofs.fresh.Tie as tie

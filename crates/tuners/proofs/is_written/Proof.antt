@@ -2,7 +2,7 @@
 -- Assumes nothing.
 use mathlib.Core.Path.{sym, ap, _∙_}
 use native.Mathlib.Omega.{arith}
-use Rattle.chip.specs.declared.Answer.{Answer}
+use Rattle.refusals.specs.declared.Answer.{Answer}
 use Rattle.tuners.specs.Over.{isWritten}
 use borrow.Author.Needs.{needs}
 use Rattle.tuners.proofs.is_written.Statement.{statement}

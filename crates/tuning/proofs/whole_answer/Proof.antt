@@ -13,7 +13,7 @@ enum-told-2 : tie.Need-enum-told-2
 enum-told-2 c = search needs
 
 returns : tie.Need-returns
-returns c = search needs
+returns c = sym (ap (λ (p : Pll). tuneAnswer p (c .before .before .args .hz)) (c .enum-told .given .1))
 
 returns-2 : tie.Need-returns-2
 returns-2 c = sym (ap (λ (p : Pll). tuneAnswer p (c .before .before .args .hz)) (c .enum-told2 .given .1))

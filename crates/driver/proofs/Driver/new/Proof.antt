@@ -1,7 +1,7 @@
 -- `Driver::new` meets its contract: 1 for the board, 1 for the nominal, 4, or made. Assumes nothing.
 use mathlib.Core.Path.{ap, _∙_}
 use mir.Facts.{toZ-ofZ}
-use Rattle.chip.specs.declared.Answer.the-variants.{Done}
+use Rattle.refusals.specs.declared.Answer.the-variants.{Done}
 use Rattle.driver.specs.Record.{driver, made, xtalBy}
 use Rattle.driver.proofs.Making.{new-bad, new-good, new-high, new-low, new-no-board}
 use borrow.Author.Needs.{needs}

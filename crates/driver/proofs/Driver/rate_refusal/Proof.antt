@@ -5,6 +5,7 @@ use mathlib.Core.Bool.{cond}
 use lib.Dec.{eqb}
 use mir.Facts.{toZ-ofZ}
 use mir.Syntax.{w32}
+use Rattle.refusals.specs.Table.{TABLE}
 use Rattle.registers.specs.Rates.{rateNumber}
 use Rattle.driver.specs.Record.{xtalBy}
 use borrow.Author.Needs.{needs}
@@ -27,7 +28,7 @@ returns c =
     let at-struct-told = at-xtal-by .before in
     let a = at-struct-told .before .args in
     c .rate-argument .ensures
-    ∙ ap (λ (n : ℕ). cond (eqb (a .planned .refusal) 19) 19 n)
+    ∙ ap (λ (n : ℕ). cond (eqb (a .planned .refusal) TABLE) 19 n)
     (at-rate-number .rate-number .ensures
     ∙ ap (rateNumber (a .rate))
     (at-xtal-by .xtal-by .ensures

@@ -7,7 +7,7 @@ use Rattle.writes.proofs.Lists.{bandwidth-in}
 use Rattle.r82xx.proofs.Whole.{bracket-by}
 use Rattle.r82xx.specs.Orders.{resultOf}
 use denote.Ref.{now}
-use Rattle.chip.specs.declared.Answer.the-variants.{Done}
+use Rattle.refusals.specs.declared.Answer.the-variants.{Done}
 use borrow.Author.Needs.{needs}
 use Rattle.r82xx.proofs.Tuner.set_bandwidth.Statement.{statement}
 use Rattle.r82xx.proofs.Tuner.set_bandwidth.Tie as tie

@@ -12,6 +12,9 @@ use Rattle.replay.proofs.compare.valued.Tie as tie
 one-requires : tie.Need-one-requires
 one-requires c κs = search needs
 
+cast-if1 : tie.Need-cast-if1
+cast-if1 c = search needs
+
 returns : tie.Need-returns
 returns c = λ e. let z : _≡_ {A = ℕ} 0 1 = cc in absurd (omega arith)
 
@@ -58,6 +61,7 @@ valued-spec =
     tie.close
     (tie.spec
     one-requires
+    cast-if1
     returns
     part-requires
     start-requires

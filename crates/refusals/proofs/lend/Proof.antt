@@ -1,4 +1,4 @@
--- `lending::lend` meets its contract: each return is one case of the definition.
+-- `refusals::lend` meets its contract: each return is one case of the definition.
 -- Assumes nothing.
 use Prim.Native.Nat.{ℕ}
 use mathlib.Core.Path.{ap, _∙_}
@@ -6,11 +6,11 @@ use mathlib.Core.List.{List}
 use native.Mathlib.Omega.{arith}
 use borrow.Author.Needs.{needs}
 use denote.Ref.{now}
-use Rattle.lending.specs.Lent.{given}
-use Rattle.chip.specs.declared.Answer.the-variants.{Done}
-use Rattle.lending.proofs.Giving.{laid, refused, too-short}
-use Rattle.lending.proofs.lend.Statement.{statement}
-use Rattle.lending.proofs.lend.Tie as tie
+use Rattle.refusals.specs.Lent.{given}
+use Rattle.refusals.specs.declared.Answer.the-variants.{Done}
+use Rattle.refusals.proofs.Giving.{laid, refused, too-short}
+use Rattle.refusals.proofs.lend.Statement.{statement}
+use Rattle.refusals.proofs.lend.Tie as tie
 
 returns : tie.Need-returns
 returns c =

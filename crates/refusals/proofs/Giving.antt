@@ -6,15 +6,16 @@ use native.Mathlib.Omega.{arith}
 use borrow.Author.Tests.{eq-eqb, ne-eqb, lt-ltb, le-ltb}
 use lib.ListN.{length, drop-of-length-le}
 use lib.Seq.{sets, sets-eq}
-use Rattle.chip.specs.declared.Answer.the-variants.{Done, Refused}
-use Rattle.lending.specs.Lent.{given, lentTo}
+use Rattle.refusals.specs.declared.Answer.the-variants.{Done, Refused}
+use Rattle.refusals.specs.Lent.{given, lentTo}
+use Rattle.refusals.specs.Table.{ROOM}
 
 module _ (refusal value : ℕ) (bytes out : List ℕ) where
   pub refused : 0 < refusal → given (Refused refusal) out ≡ lentTo refusal value bytes out
   unfolding lentTo
   refused h = rw (ne-eqb refusal 0 (λ e. omega arith))
 
-  pub too-short : refusal ≡ 0 → length out < length bytes → given (Refused 8) out ≡ lentTo refusal value bytes out
+  pub too-short : refusal ≡ 0 → length out < length bytes → given (Refused ROOM) out ≡ lentTo refusal value bytes out
   unfolding lentTo
   too-short z h = rw (eq-eqb refusal 0 z, lt-ltb (length out) (length bytes) h)
 

@@ -7,9 +7,10 @@ use mathlib.Core.List.{List}
 use lib.Dec.{eqb, ltb}
 use lib.ListN.{length}
 use lib.Seq.{sets}
-use Rattle.chip.specs.declared.Answer.{Answer}
-use Rattle.chip.specs.declared.Answer.the-variants.{Done, Refused}
-use Rattle.chip.specs.Calls.{numberOf, valueOf}
+use Rattle.refusals.specs.declared.Answer.{Answer}
+use Rattle.refusals.specs.declared.Answer.the-variants.{Done, Refused}
+use Rattle.refusals.specs.Answers.{numberOf, valueOf}
+use Rattle.refusals.specs.Table.{ROOM}
 
 -- an answer and what the lent slice holds afterwards
 pub record Given : Type 0 where
@@ -23,7 +24,7 @@ given answer out = record { answer = answer; out = out }
 unfoldable pub lentTo : ℕ → ℕ → List ℕ → List ℕ → Given
 lentTo refusal value bytes out =
     cond (eqb refusal 0)
-    (cond (ltb (length out) (length bytes)) (given (Refused 8) out) (given (Done value) (sets out 0 bytes)))
+    (cond (ltb (length out) (length bytes)) (given (Refused ROOM) out) (given (Done value) (sets out 0 bytes)))
     (given (Refused refusal) out)
 
 -- an answer's bytes

@@ -1,13 +1,13 @@
--- `lending::lend_answer` meets its contract: what is lent is the bytes given, behind the answer's number and value.
+-- `refusals::lend_answer` meets its contract: what is lent is the bytes given, behind the answer's number and value.
 -- Assumes nothing.
 use Prim.Native.Nat.{ℕ}
 use mathlib.Core.Path.{ap, _∙_}
 use denote.Ref.{now}
-use Rattle.lending.specs.Lent.{lentTo}
-use Rattle.chip.specs.Calls.{numberOf}
+use Rattle.refusals.specs.Lent.{lentTo}
+use Rattle.refusals.specs.Answers.{numberOf}
 use borrow.Author.Needs.{needs}
-use Rattle.lending.proofs.lend_answer.Statement.{statement}
-use Rattle.lending.proofs.lend_answer.Tie as tie
+use Rattle.refusals.proofs.lend_answer.Statement.{statement}
+use Rattle.refusals.proofs.lend_answer.Tie as tie
 
 number-of-requires : tie.Need-number-of-requires
 number-of-requires c κs = search needs
