@@ -690,12 +690,12 @@ pub extern "C" fn pasetone_restore(sections: &[u8], address: u8, out: &mut [u8])
 pub extern "C" fn pasetone_evidence(
     sections: &[u8],
     address: u8,
-    tuner: u32,
-    driver: u32,
+    reference: u32,
+    xtal: u32,
     out: &mut [u8],
 ) -> Reply
-    ensures { λ r. ⌜ outResult r (now (out .exit)) ≡ outResultOf (evidenceInto (now (sections .entry)) address tuner driver (now (out .entry))) ⌝ }
+    ensures { λ r. ⌜ outResult r (now (out .exit)) ≡ outResultOf (evidenceInto (now (sections .entry)) address reference xtal (now (out .entry))) ⌝ }
 {
-    let answer = witness::evidence(sections, address, tuner, driver, out);
+    let answer = witness::evidence(sections, address, reference, xtal, out);
     reply::numbers(answer, 0)
 }

@@ -1,10 +1,9 @@
 -- What the walk left in the arrays is what the entries tell: the answer that is laid out is the one of the definition. Assumes nothing.
-use Prim.Native.Nat.{ℕ, _+_, _-_, _*_, _/_, _^_, _≤_, _<_}
+use Prim.Native.Nat.{ℕ, _-_, _*_, _/_, _^_, _<_}
 use mathlib.Core.Path.{_≡_, refl, sym, ap, ap₂, _∙_}
 use mathlib.Core.Bool.{Bool, true, false, cond, _&&_, _||_}
 use mathlib.Core.List.{List, [], _∷_, map}
 use native.Mathlib.Omega.{arith}
-use borrow.Author.Tests.{eq-eqb, ne-eqb}
 use lib.Dec.{eqb, leb, ltb}
 use lib.ListN.{length}
 use lib.Seq.{sets}
@@ -22,8 +21,7 @@ use Rattle.attempts.specs.Namings.{Last, byteIn}
 use Rattle.attempts.specs.Namings.Last.{Never, Tried}
 use Rattle.sections.specs.Chain.{chain, chainEntries}
 use Rattle.restore.specs.Restore.{refusedBy}
-use Rattle.restoring.specs.Standing.{Known, counts, knownAll, knownAs, knownIn, knownOf, newer, none, over}
-use Rattle.restoring.proofs.Overs.{over-at, told-at}
+use Rattle.restoring.specs.Standing.{Known, counts, knownAll, knownAs, knownIn, knownOf, over}
 use Rattle.restoring.proofs.Settled.{blank, stands, stands-by}
 use Rattle.evidence.specs.Demodulator.{lastAt}
 use Rattle.registers.specs.Rates.{negatedOf}
@@ -32,7 +30,7 @@ use Rattle.witness.specs.declared.Marks.{Marks}
 use Rattle.witness.specs.declared.Numbers.{Numbers}
 use Rattle.witness.specs.declared.Waiting.{Waiting}
 use Rattle.witness.specs.Walk.{Seen, demodIn, placeOf, seen, seenAll, waitedAll, waiting}
-use Rattle.witness.specs.Answer.{answerBytes, evidenceBytes, evidenceInto, marksOf, numbersBy, numbersOf, parts, refusalBy, widths}
+use Rattle.witness.specs.Answer.{answerBytes, evidenceBytes, evidenceInto, marksOf, numbersOf, parts, refusalBy, widths}
 use Rattle.witness.specs.InCode.{allAre, at, inSlot, markFrom, marksIn, numbersIn}
 use Rattle.witness.proofs.Slots.{past-none, tidy}
 use Rattle.witness.proofs.Waits.{lock-told, tries-told}

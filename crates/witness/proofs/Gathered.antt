@@ -1,6 +1,6 @@
 -- What the walk gathers of entries one after the other, of all that it gathers together. Assumes nothing.
 use Prim.Native.Nat.{ℕ}
-use mathlib.Core.Path.{_≡_, refl}
+use mathlib.Core.Path.{_≡_}
 use mathlib.Core.List.{List, [], _∷_, _++_}
 use Rattle.transcript.specs.declared.Entry.{Entry}
 use Rattle.restoring.specs.Standing.{Known, knownIn, over}

@@ -1,9 +1,9 @@
 -- The numbers stay in 64 bits. Assumes nothing.
-use Prim.Native.Nat.{ℕ, _+_, _-_, _*_, _/_, _%_, _^_, _<_, _≤_}
+use Prim.Native.Nat.{ℕ, _+_, _-_, _*_, _%_, _^_, _<_, _≤_}
 use mathlib.Core.Path.{_≡_, _∙_}
 use mathlib.Core.Bool.{Bool, true, false, cond}
 use native.Mathlib.Omega.{arith}
-use native.Mathlib.Nat.{mul-le-mul-left, mul-le-mul-right, mod-eq-of-lt}
+use native.Mathlib.Nat.{mul-le-mul-left, mod-eq-of-lt}
 use lib.Pow.{pow-mono}
 
 -- fewer than 2^22 steps of a reference

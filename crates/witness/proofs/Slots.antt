@@ -1,20 +1,19 @@
 -- What an entry tells of the demodulator's eight registers, slot by slot; and entries one after the other. Assumes nothing.
-use Prim.Native.Nat.{ℕ, zero, suc, _+_, _≤_, _<_}
+use Prim.Native.Nat.{ℕ, _+_, _≤_, _<_}
 use mathlib.Core.Path.{_≡_, refl, sym, ap, ap₂, _∙_}
 use mathlib.Core.Bool.{Bool, true, false, cond, not, _&&_, _||_, and-false}
 use mathlib.Core.List.{List, [], _∷_, _++_}
 use native.Mathlib.Omega.{arith}
 use borrow.Author.Tests.{eq-eqb, ne-eqb, eqb-true, eqb-false, leb-true, leb-false, le-leb, lt-leb, lt-ltb, le-ltb, ltb-true, ltb-false}
 use lib.Dec.{T, eqb, leb, ltb}
-use lib.ListN.{length}
 use Rattle.below.proofs.Test.{below}
 use Rattle.transcript.specs.declared.Entry.{Entry}
 use Rattle.attempts.specs.Namings as any
 use Rattle.attempts.specs.Namings.Last.{Never, Tried}
-use Rattle.attempts.proofs.Lasts.{known, last-append, last-known}
+use Rattle.attempts.proofs.Lasts.{last-append, last-known}
 use Rattle.chip.proofs.Laws.{and-left, and-right}
-use Rattle.restoring.specs.Standing.{Known, counts, knownAll, knownAs, knownOf, markOf, newer, none, only, over}
-use Rattle.restoring.proofs.Overs.{fresh, over-over, over-quiet, over-same, quiet}
+use Rattle.restoring.specs.Standing.{Known, counts, knownAs, knownOf, markOf, newer, none, only, over}
+use Rattle.restoring.proofs.Overs.{over-over, over-quiet, over-same, quiet}
 use Rattle.restoring.proofs.Telling.{told-known}
 use Rattle.restoring.proofs.Settled.{some-told}
 use Rattle.evidence.specs.Demodulator.{Place, covers, demodNames, demodSent, demodSettles, demodulator, lastAt, place, repeats, shakes}

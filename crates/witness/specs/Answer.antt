@@ -3,7 +3,7 @@
 -- oscillator and IF in units of 2^-23 Hz, 44 the centre in whole Hz. What is not sure is 0. Numbers low byte first."
 -- Assumes nothing.
 use Prim.Native.Nat.{ℕ}
-use mathlib.Core.Bool.{Bool, true, cond, _&&_, _||_}
+use mathlib.Core.Bool.{cond, _&&_, _||_}
 use mathlib.Core.List.{List, [], _∷_}
 use lib.Dec.{eqb, ltb}
 use Rattle.wire.specs.Bytes.{leBytes}

@@ -3,7 +3,7 @@
 // slice, as crate restoring's, judges every section and gathers what is told, newest first; the answer is laid out beside it and lent last, so that what is
 // refused leaves the lent bytes as they were.
 ghost use mathlib.Core.Path.{_≡_};
-ghost use mathlib.Core.Bool.{true, cond, _||_};
+ghost use mathlib.Core.Bool.{true, cond};
 ghost use mathlib.Core.List.{[], _∷_};
 ghost use Prim.Native.Nat.{_+_, _-_, _*_, _/_, _%_, _^_, _≤_, _<_};
 ghost use lib.Dec.{eqb};
@@ -17,11 +17,10 @@ ghost use Rattle.refusals.specs.Lent.{given};
 ghost use Rattle.restore.specs.Restore.{refusedBy};
 ghost use Rattle.registers.specs.Rates.{negatedOf};
 ghost use Rattle.oscillator.specs.Registers.{five};
-ghost use Rattle.chip.specs.Entries.{lockBit};
 ghost use Rattle.status.specs.Reversal.{lockedBy};
 ghost use Rattle.restoring.specs.Standing.{knownAll, markOf, only, over};
 ghost use Rattle.evidence.specs.Demodulator as demod;
-ghost use Rattle.evidence.specs.Evidence.{bothMark, centreOf, loUnits, planned, touches, tryOf};
+ghost use Rattle.evidence.specs.Evidence.{centreOf, loUnits, planned, touches, tryOf};
 ghost use Rattle.witness.specs.Walk.{demodIn, most, placeOf, seen, seenAll, waitedBy, waiting};
 ghost use Rattle.witness.specs.Answer.{answerBytes, centreMark, evidenceInto, ifSure};
 ghost use Rattle.witness.specs.InCode.{markFrom, marksIn, numbersIn};

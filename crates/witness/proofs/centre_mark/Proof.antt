@@ -1,7 +1,7 @@
 -- `witness::centre_mark` meets its contract.
 -- Assumes nothing.
 use borrow.Author.Needs.{needs}
-use mathlib.Core.Path.{_≡_, sym, ap, _∙_}
+use mathlib.Core.Path.{sym}
 use Rattle.witness.specs.Answer.{centreMark}
 use Rattle.witness.proofs.centre_mark.Statement.{statement}
 use Rattle.witness.proofs.centre_mark.Tie as tie

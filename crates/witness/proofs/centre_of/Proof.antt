@@ -1,6 +1,6 @@
 -- `witness::centre_of` meets its contract.
 -- Assumes nothing.
-use Prim.Native.Nat.{ℕ, _-_}
+use Prim.Native.Nat.{_-_}
 use mathlib.Core.Path.{_≡_, refl}
 use native.Mathlib.Omega.{arith}
 use Rattle.evidence.specs.Evidence.{centreOf}

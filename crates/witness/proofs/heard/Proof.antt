@@ -1,7 +1,6 @@
 -- `witness::heard` meets its contract.
 -- Assumes nothing.
 use borrow.Author.Needs.{needs}
-use mathlib.Core.Path.{_≡_}
 use denote.Ref.{now}
 use Rattle.restoring.specs.Standing.{knownAll}
 use Rattle.witness.specs.Walk.{seen}

@@ -1,7 +1,7 @@
 -- `witness::offset_of` meets its contract.
 -- Assumes nothing.
 use borrow.Author.Needs.{needs}
-use Prim.Native.Nat.{ℕ, _-_, _%_}
+use Prim.Native.Nat.{_-_, _%_}
 use native.Mathlib.Omega.{arith}
 use Rattle.witness.proofs.Sizes.{steps-small}
 use Rattle.witness.proofs.offset_of.Statement.{statement}
