@@ -3,3 +3,4 @@ pub mod Slots
 pub mod Waits
 pub mod Gathered
 pub mod Answered
+pub mod Worked
