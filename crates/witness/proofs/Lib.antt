@@ -4,3 +4,4 @@ pub mod Waits
 pub mod Gathered
 pub mod Answered
 pub mod Told
+pub mod Worked
