@@ -87,6 +87,7 @@ impl Case<'_> {
         };
         let near = self.shift.and_then(|shift| self.is_near(asked, shift));
         if let (Some(false), Some(centre)) = (near, self.centre()) {
+            why.extend(self.undone());
             return (Verdict::Beside(centre - i128::from(asked)), why);
         }
         let never = self.doubts(&mut why);
@@ -107,6 +108,10 @@ impl Case<'_> {
             why.push(format!("{} without a line in the log", counted(self.unlogged, "section")));
         }
         (verdict, why)
+    }
+
+    fn undone(&self) -> Option<String> {
+        (!self.owed.is_empty()).then(|| format!("not done: {}", self.owed.join(", ")))
     }
 
     /// What is not sure; whether some of it was never sent in this file.
@@ -130,7 +135,7 @@ impl Case<'_> {
         if doubtful > never {
             why.push(format!("{} doubtful", counted(doubtful - never, "register")));
         }
-        why.extend((!self.owed.is_empty()).then(|| format!("not done: {}", self.owed.join(", "))));
+        why.extend(self.undone());
         // What was sent in vain is doubtful, whatever else was never sent.
         is_never && !is_vain
     }
