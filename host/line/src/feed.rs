@@ -37,7 +37,7 @@ pub const MORE: &[&str] = &[
     "line ends, by INT, TERM or HUP, or where nobody reads what is printed; --keep, --section, --append",
     "and --state have the commands made till then, --append and --state each when it is answered; --state",
     "is as in hop. --json prints a line for the receiver, one for each command and one at the end.",
-    "It talks to no receiver: outcomes and replies stand in for one, and each command goes on in them",
+    "Without --device outcomes and replies stand in for a receiver, and each command goes on in them",
     "where the ones before have ended. A fresh record is not initialised, so that registers which no",
     "command writes are doubtful and the station is not known: --keep of hop makes one that is.",
     "With --device the commands go to that receiver on the bus, which is brought up first where the state",

@@ -17,8 +17,8 @@ use pasetone::Error;
 pub const MORE: &[&str] = &[
     "It makes a fresh record and calls set_ppm (where --ppm is given), initialise, sample rate, gain,",
     "IF and demod IF (where another IF is given than the rate's own) and tune: the board's input,",
-    "tuner and spectrum by the plan of its table. It talks to no receiver: outcomes and replies stand",
-    "in for one. It prints each step, the answer and the registers.",
+    "tuner and spectrum by the plan of its table. Without --device outcomes and replies stand in for a",
+    "receiver. It prints each step, the answer and the registers.",
     "With --record it starts from a kept record in place of a fresh one, and calls initialise, sample",
     "rate, gain and IF only where --initialise, --rate, --gain and --if are given. A call that was cut",
     "and is not made again, or never made, is owed: the record keeps that, and while one is owed the",

@@ -352,36 +352,24 @@ impl Keeper {
         let length = self.night.as_ref().map_or(Ok(NO_NIGHT), Sink::length).map_err(|why| format!("--append {why}"))?;
         state.set_note(&noted.bytes(), length).map_err(unkept)?;
         let (night, log, synced, mut why, mut next) = (&mut self.night, &mut self.log, self.synced, None, None);
-        let ended = state.drive_to(
-            call,
-            |step| link.take(step),
-            |state, answer| {
-                let added = night.as_mut().map_or(Ok(NO_NIGHT), |night| {
-                    night.add(answer.transcript.bytes())?;
-                    night.length()
-                });
-                let length = added.map_err(|error| {
-                    why = Some(error);
-                    io::ErrorKind::Other
-                })?;
-                let (tuner, driver, _) = state.receiver().clone().parts();
-                let mut owed = records.owed.clone();
-                if let Some(job) = job(call) {
-                    owed.made(job, answer.result.map(drop), &answer.transcript, &tuner, &driver);
+        let end = |state: &mut State, answer: &Made| {
+            let added = night.as_mut().map_or(Ok(NO_NIGHT), |night| night.add(answer.transcript.bytes()).and_then(|()| night.length()));
+            let length = added.map_err(|error| {
+                why = Some(error);
+                io::ErrorKind::Other
+            })?;
+            let records = next.insert(behind(call, answer, state, &records.owed));
+            // While the call is under way yet: killed behind this, the run has its line, and killed before it the next one writes it.
+            if let (Some(night), Some(log), Some(line)) = (night, log, Line::of(call, answer, records, table, hz)) {
+                log.note(Some(line));
+                log.placed(night.placed());
+                if synced {
+                    log.write(night);
                 }
-                state.set_note(&owed.bytes(), length)?;
-                let records = next.insert(Records { tuner, driver, owed });
-                // While the call is under way yet: killed behind this, the run has its line, and killed before it the next one writes it.
-                if let (Some(night), Some(log), Some(line)) = (night, log, Line::of(call, answer, records, table, hz)) {
-                    log.note(Some(line));
-                    log.placed(night.placed());
-                    if synced {
-                        log.write(night);
-                    }
-                }
-                Ok(())
-            },
-        );
+            }
+            state.set_note(&records.owed.bytes(), length)
+        };
+        let ended = state.drive_to(call, |step| link.take(step), end);
         match (ended, why) {
             (Ok(driven), _) => {
                 *records = next.unwrap_or_else(|| records.clone());
@@ -453,6 +441,16 @@ impl Keeper {
             log.end(out);
         }
     }
+}
+
+/// The records behind a call on a receiver, with what is owed then.
+fn behind(call: Call, answer: &Made, state: &State, owed: &Owed) -> Records {
+    let (tuner, driver, _) = state.receiver().clone().parts();
+    let mut owed = owed.clone();
+    if let Some(job) = job(call) {
+        owed.made(job, answer.result.map(drop), &answer.transcript, &tuner, &driver);
+    }
+    Records { tuner, driver, owed }
 }
 
 /// A call of this program, as what is owed knows it.
