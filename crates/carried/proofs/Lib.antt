@@ -15,3 +15,4 @@ pub mod Died
 pub mod EndedDriver
 pub mod Night
 pub mod Evidence
+pub mod Answered

@@ -146,7 +146,7 @@ pub fn hop_again(given: &Given, hz: u64, run: &Run) -> String {
 /// A reload that did not end well, or that leaves a call owed: once more where a register is doubtful, then what is owed.
 pub fn reload_again(record: &OsStr, given: &Given, records: &Records) -> String {
     let owed = &records.owed;
-    if owed.words().is_some() || !records.tuner.has_lock() {
+    if owed.words().is_some() || owed.unread || !records.tuner.has_lock() {
         return over(record, &hertz(owed), records, given, false);
     }
     // Nothing is wrong but that the board's table is not at hand.

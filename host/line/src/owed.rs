@@ -52,6 +52,8 @@ pub struct Owed {
     pub plain: bool,
     /// The bring-up of a receiver on the bus: demodulator and board are not set up.
     pub setup: bool,
+    /// Every register was sent again, and no tuning has read the lock since.
+    pub unread: bool,
     /// The frequency that was last asked for; 0 where none was.
     pub hz: u64,
 }
@@ -99,17 +101,17 @@ impl Owed {
             Job::DemodIf(_) => (self.if_hz, self.tune) = (None, true),
             Job::Bandwidth(_) => self.bandwidth = None,
             Job::Tune(hz) => {
-                (self.tune, self.board, self.plain) = (false, false, false);
+                (self.tune, self.board, self.plain, self.unread) = (false, false, false, false);
                 (self.hz, self.moved) = (hz, moved(sent));
             }
             Job::TunerTune(hz) => {
-                (self.tune, self.plain) = (false, true);
+                (self.tune, self.plain, self.unread) = (false, true, false);
                 (self.hz, self.moved) = (hz, moved(sent));
             }
             // The next tuning goes by the reference.
             Job::Correction => self.tune = true,
             // It sends what was sent: what a cut call has left is as it was.
-            Job::Reload => {}
+            Job::Reload => self.unread = true,
         }
     }
 
@@ -126,7 +128,8 @@ impl Owed {
             Job::Bandwidth(hz) => self.bandwidth = Some(hz),
             Job::Tune(hz) => (self.tune, self.board, self.plain, self.hz) = (true, true, false, hz),
             Job::TunerTune(hz) => (self.tune, self.plain, self.hz) = (true, true, hz),
-            Job::Correction | Job::Reload => {}
+            Job::Correction => {}
+            Job::Reload => self.unread = true,
         }
     }
 
@@ -204,7 +207,7 @@ impl Owed {
         };
         let mut bytes = [0; Owed::SIZE];
         bytes[0] = flags.iter().enumerate().map(|(bit, flag)| u8::from(*flag) << bit).sum();
-        (bytes[1], bytes[2], bytes[3]) = (moved, kind, u8::from(self.plain) | u8::from(self.setup) << 1);
+        (bytes[1], bytes[2], bytes[3]) = (moved, kind, u8::from(self.plain) | u8::from(self.setup) << 1 | u8::from(self.unread) << 2);
         bytes[4..8].copy_from_slice(&self.rate.unwrap_or(0).to_le_bytes());
         bytes[8..12].copy_from_slice(&gain.to_le_bytes());
         bytes[12..16].copy_from_slice(&self.if_hz.unwrap_or(0).to_le_bytes());
@@ -238,6 +241,7 @@ impl Owed {
             table: has(7),
             plain: bytes[3] & 1 == 1,
             setup: bytes[3] >> 1 & 1 == 1,
+            unread: bytes[3] >> 2 & 1 == 1,
             hz: u64::from_le_bytes(std::array::from_fn(|k| bytes[20 + k])),
         };
         (owed.bytes() == *bytes).then_some(owed)
@@ -288,11 +292,12 @@ mod tests {
             Owed { gain: Some(Gain::Tenths(-30)), if_hz: Some(0), bandwidth: Some(9), ..Owed::fresh() },
             Owed { setup: true, ..Owed::default() },
             Owed { setup: true, plain: true, ..Owed::default() },
+            Owed { unread: true, ..Owed::default() },
         ] {
             assert_eq!(Owed::read(&owed.bytes()), Some(owed));
         }
         // A value without its flag, a gain or a move that is none, a byte that is used by nothing.
-        for (at, byte) in [(4, 1), (8, 1), (12, 1), (16, 1), (1, 3), (2, 1), (3, 4)] {
+        for (at, byte) in [(4, 1), (8, 1), (12, 1), (16, 1), (1, 3), (2, 1), (3, 8)] {
             let mut bytes = Owed::default().bytes();
             bytes[at] = byte;
             assert_eq!(Owed::read(&bytes), None, "{at}");
@@ -346,8 +351,9 @@ mod tests {
         owed.made(Job::Rate(2_048_000), answer.result, &answer.transcript, &tuner, &driver);
         owed.made(Job::Reload, Ok(()), &tuner.clone().reload(&done).transcript, &tuner, &driver);
         assert_eq!(owed.words().as_deref(), Some("station UNKNOWN: not done: tune"));
+        assert!(owed.unread);
         owed.made(Job::TunerTune(102_300_000), Ok(()), &Transcript::default(), &tuner, &driver);
-        assert_eq!(owed.words(), None);
+        assert_eq!((owed.words(), owed.unread), (None, false));
         let answer = driver.tune_board(&mut tuner, &table, 2_000_000_000, &done);
         owed.made(Job::Tune(2_000_000_000), answer.result.map(drop), &answer.transcript, &tuner, &driver);
         assert_eq!(answer.result, Err(Error::Frequency));

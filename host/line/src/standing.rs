@@ -27,7 +27,12 @@ impl Standing {
             lines.push((End::Doubtful, format!("DOUBTFUL: {}", doubt.join("; "))));
         }
         // Of a tuning that is owed nothing is said twice.
-        if !owed.tune && !tuner.has_lock() {
+        if !owed.tune && owed.unread {
+            lines.push((
+                End::NotLocked,
+                String::from("LOCK NOT READ: every register was sent again, and no tuning has read the lock since"),
+            ));
+        } else if !owed.tune && !tuner.has_lock() {
             lines.push((End::NotLocked, String::from("NOT LOCKED: the last tuning ended without a lock")));
         }
         Standing { lines }

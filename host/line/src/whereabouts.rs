@@ -83,6 +83,8 @@ pub fn lines(records: &Records, table: Option<&Table>, out: &mut Out) {
     out.line(&format!("station: {}", Station::of(records, table).line()));
     let lock = if owed.tune {
         "a tuning is owed"
+    } else if owed.unread {
+        "NOT READ since every register was sent again"
     } else if tuner.has_lock() {
         "locked"
     } else {
@@ -106,7 +108,7 @@ pub fn fields(records: &Records, table: Option<&Table>) -> Vec<(&'static str, St
         ("asked", owed.hz.to_string()),
         ("rate", driver.rate().to_string()),
         ("if", tuner.if_freq().to_string()),
-        ("locked", (tuner.has_lock() && !owed.tune).to_string()),
+        ("locked", (tuner.has_lock() && !owed.tune && !owed.unread).to_string()),
         ("doubtful", json::array(tuner.doubtful())),
         ("owed", json::array(owed.calls().iter().map(|call| json::string(call)))),
         ("station_known", owed.is_station_known().to_string()),
