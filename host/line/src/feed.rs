@@ -95,14 +95,11 @@ pub fn run(given: &Given, out: &mut Out) {
     let mut block = next(out);
     let head = Head::of(&start, &place, None);
     let table = place.table.clone();
-    let (records, live) = match (link, keeper.take_if(|_| given.has(Key::Device))) {
-        (Some(link), Some(keeper)) => match ready(start, given, &table, keeper, link, out) {
-            Some(live) => (Some(live.records.clone()), Some(live)),
-            None => return,
-        },
-        _ => (begun(start, given, out), None),
+    let begun = match (link, keeper.take_if(|_| given.has(Key::Device))) {
+        (Some(link), Some(keeper)) => ready(start, given, &table, keeper, link, out).map(|live| (live.records.clone(), Some(live))),
+        _ => begun(start, given, out).map(|records| (records, None)),
     };
-    let Some(records) = records.filter(|_| !out.is_mistaken()) else { return };
+    let Some((records, live)) = begun.filter(|_| !out.is_mistaken()) else { return };
     let files = given.kept_files(out);
     if out.is_mistaken() {
         return;

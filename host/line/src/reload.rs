@@ -1,6 +1,6 @@
 //! `reload`: the first half of the way back after a step that failed. It sends a kept record's shadow again, every register of it; the call that was cut is
 //! then made again.
-use crate::answer::{self, Wish};
+use crate::answer::{self, Told, Wish};
 use crate::boards::Place;
 use crate::command::{Given, Key};
 use crate::device::{self, Link};
@@ -72,33 +72,33 @@ pub fn run(given: &Given, out: &mut Out) {
     // By the words, or by the state; a kept record names none.
     let named = if given.has(Key::Table) { Some(place.table.clone()) } else { keeper.as_ref().and_then(Keeper::table).cloned() };
     let table = named.as_ref();
-    let table_or_own = table.unwrap_or(&place.table);
-    let mut run = match (link, keeper) {
-        (Some(link), Some(keeper)) => match live(records, table_or_own, keeper, link, out) {
-            Some(run) => run,
-            None => return,
-        },
-        (_, keeper) => Run::reload(records, table_or_own, outcomes, keeper),
+    let all = table.unwrap_or(&place.table);
+    let made = match (link, keeper) {
+        (Some(link), Some(keeper)) => live(records, all, keeper, link, out),
+        (_, keeper) => Some(Run::reload(records, all, outcomes, keeper)),
     };
+    let Some(mut run) = made else { return };
     let kept = given.word(Key::Keep).unwrap_or(name);
     let again = run.records.as_ref().map_or_else(String::new, |records| advice::reload_again(kept, given, records));
     let wish = Wish { hz: 0, rate: 0, table: &place.table, again: again.clone() };
     let told = answer::of(&run, &wish);
     let unreached = fail.filter(|step| run.steps <= *step);
     if given.has(Key::Json) {
-        let mut fields = vec![("receiver", receiver_json(&before))];
-        fields.extend(report::run_json(&run, &told, unreached, table));
-        fields.extend([(
-            "registers",
-            run.records.as_ref().map_or_else(|| String::from("[]"), |records| report::registers_json(&records.tuner)),
-        )]);
-        out.line(&json::document(&fields));
+        json(&before, &run, &told, unreached, table, out);
     } else if !given.has(Key::Quiet) {
         out.line(&head(&before));
         report::table(&run, &told, unreached, table, out);
     }
     report::ended(&run, &told, table, &again, given.has(Key::Quiet), out);
     run.keep(files, out);
+}
+
+fn json(before: &Tuner, run: &Run, told: &Told, unreached: Option<usize>, table: Option<&Table>, out: &mut Out) {
+    let mut fields = vec![("receiver", receiver_json(before))];
+    fields.extend(report::run_json(run, told, unreached, table));
+    let registers = run.records.as_ref().map(|records| report::registers_json(&records.tuner));
+    fields.push(("registers", registers.unwrap_or_else(|| String::from("[]"))));
+    out.line(&json::document(&fields));
 }
 
 /// The same on a receiver of the bus. `None` where it is not brought up, which has then been told.
