@@ -728,7 +728,8 @@ pasetone_reply pasetone_restore(const uint8_t *sections, size_t sections_len, ui
  * that of the tuner's side (an inverted one mirrors the spectrum around it; derived from the driver's text, never tried on a chip).
  * Value: 0. Refuses 4 (either reference 0), 12 (any section, or bytes before them that are none), 8; refused, `out` is as it was.
  */
-pasetone_reply pasetone_evidence(const uint8_t *sections, size_t sections_len, uint8_t address, uint32_t tuner_xtal, uint32_t driver_xtal, uint8_t *PASETONE_RESTRICT out, size_t out_len);
+pasetone_reply pasetone_evidence(const uint8_t *sections, size_t sections_len, uint8_t address, uint32_t tuner_xtal, uint32_t driver_xtal,
+                                 uint8_t *PASETONE_RESTRICT out, size_t out_len);
 
 /*
  * ---- Commands fed as they arrive ----
