@@ -512,7 +512,9 @@ impl Kept {
                 *sink = None;
             }
         }
-        if let (Some(night), Some(log), false) = (&self.append, &mut self.log, sections.is_empty()) {
+        if let (Some(night), Some(log)) = (&self.append, &mut self.log)
+            && log.is_waiting()
+        {
             log.placed(night.placed());
             if log.is_full() {
                 log.write(night);

@@ -348,6 +348,7 @@ impl Sink {
             return self.file.write_all(bytes).map_err(|error| unwritten(&self.name, &error));
         }
         if bytes.is_empty() {
+            self.placed = self.length()?;
             return Ok(());
         }
         self.file.lock().map_err(|error| unwritten(&self.name, &error))?;
@@ -375,6 +376,11 @@ impl Sink {
     /// Where the last bytes that were put behind it begin; `None` where it is no file.
     pub fn placed(&self) -> Option<u64> {
         self.behind.then_some(self.placed)
+    }
+
+    /// Where the next bytes will begin; `None` where it is no file.
+    pub fn end(&self) -> Option<u64> {
+        self.length().ok().filter(|_| self.behind)
     }
 
     /// How long it is now.

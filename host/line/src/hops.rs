@@ -61,6 +61,8 @@ struct Open {
     stopped: Option<Box<Hop>>,
     /// Whether a step of a section without a line failed: then its call was not done.
     has_failed: bool,
+    /// A call of it that was refused before its first step.
+    refused: Option<&'static str>,
 }
 
 /// What is taken where no log tells it.
@@ -150,12 +152,33 @@ impl<'a> Hops<'a> {
         }
     }
 
-    /// Whether a section begins a hop, or an attempt at one, and the frequency that is asked for.
-    fn begins(&self, transcript: &Transcript, line: Option<&Line>) -> Option<Option<u64>> {
+    /// A call that was refused before its first step, on the way of a hop: that hop was asked for, and is not come to.
+    pub fn refused(&mut self, line: &Line) {
+        if let Some(target) = self.leads(line) {
+            self.begin(target, line.at, Some(line.time));
+        }
+        self.references = (line.tuner_xtal, line.driver_xtal);
+        if let Some(open) = &mut self.open {
+            (open.is_running, open.refused, open.end) = (false, Some(line.call), open.end.max(line.at));
+            if line.is_tuning() {
+                open.shift = line.shift;
+            }
+        }
+    }
+
+    /// Whether a line begins a hop, or an attempt at one, and the frequency that is asked for.
+    fn leads(&self, line: &Line) -> Option<Option<u64>> {
         let is_running = |to: u64| self.open.as_ref().is_some_and(|open| open.is_running && open.asked == Some(to));
+        match line.to {
+            Some(to) => (!is_running(to)).then_some(Some(to)),
+            None => line.is_tuning().then_some(line.asked),
+        }
+    }
+
+    /// The same of a section, with its line where a log has one.
+    fn begins(&self, transcript: &Transcript, line: Option<&Line>) -> Option<Option<u64>> {
         match line {
-            Some(Line { to: Some(to), .. }) => (!is_running(*to)).then_some(Some(*to)),
-            Some(line) => line.is_tuning().then_some(line.asked),
+            Some(line) => self.leads(line),
             None => {
                 // Of a run that is on its way it is the tuning.
                 let is_due = self.open.as_ref().is_some_and(|open| open.is_running && open.tuned.is_none());
@@ -240,7 +263,8 @@ impl<'a> Hops<'a> {
         }
         let is_named = !self.unlogged.asked.is_empty();
         let shift = if is_named { open.asked.and_then(|hz| self.shift(hz)) } else { open.shift };
-        let owed: &[&str] = if is_named && open.has_failed { &["a call, by its steps"] } else { &self.owed };
+        let mut owed = if is_named && open.has_failed { vec!["a call, by its steps"] } else { self.owed.clone() };
+        owed.extend(open.refused.filter(|call| !owed.contains(call)));
         let unlogged = if is_named { 0 } else { open.unlogged };
         let mut hop = Hop {
             number: open.number,
@@ -259,7 +283,7 @@ impl<'a> Hops<'a> {
             why: Vec::new(),
         };
         let Some(told) = self.told() else { return hop };
-        let case = Case { told, places: &self.places, driver_xtal: self.references.1, asked: open.asked, shift, owed, unlogged };
+        let case = Case { told, places: &self.places, driver_xtal: self.references.1, asked: open.asked, shift, owed: &owed, unlogged };
         (hop.centre, hop.rate, hop.lock, hop.tries) = (case.centre(), told.rate.sure(), told.lock, told.tries);
         (hop.verdict, hop.why) = case.judge();
         if let Some((rate, centre)) = open.tuned.filter(|tuned| *tuned != (told.rate.sure(), told.centre.sure())) {

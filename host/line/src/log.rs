@@ -45,13 +45,15 @@ pub struct Line {
 }
 
 impl Line {
-    /// Of a call that has left these records, on the board of a table. None where no step was taken: there is no section then.
+    /// Of a call that has left these records, on the board of a table. None where no step was taken: there is no section then. But a hop that was refused on its way has a
+    /// line without a section, of no bytes: it was asked for, and what is recorded in its place is of another station.
     pub fn of(call: Call, made: &Made, records: &Records, table: &Table, to: Option<u64>) -> Option<Line> {
-        if made.transcript.is_empty() {
-            return None;
-        }
         let Records { tuner, driver, .. } = records;
         let is_tuning = matches!(call, Call::TuneBoard(_) | Call::SetFrequency(_));
+        let is_hop_refused = made.result.is_err() && (is_tuning || to.is_some());
+        if made.transcript.is_empty() && !is_hop_refused {
+            return None;
+        }
         Some(Line {
             time: clock::now(),
             call: name(call),
@@ -61,7 +63,7 @@ impl Line {
             centre: Station::of(records, Some(table)).centre(),
             doubtful: tuner.doubtful().count(),
             at: None,
-            length: made.transcript.bytes().len(),
+            length: if made.transcript.is_empty() { 0 } else { made.transcript.bytes().len() },
             address: tuner.address(),
             tuner_xtal: tuner.corrected(),
             driver_xtal: driver.corrected_xtal_hz(),
@@ -69,6 +71,10 @@ impl Line {
             // Also where it is recovered, and nobody knows the run.
             to: if let Call::TuneBoard(hz) = call { Some(hz) } else { to },
         })
+    }
+
+    pub fn has_section(&self) -> bool {
+        self.length > 0
     }
 
     fn json(&self, name: Option<&str>, command: &str, at: u64) -> String {
@@ -231,6 +237,11 @@ impl Log {
     }
 
     /// Whether it is time to write what was noted.
+    /// Whether a line has no place yet.
+    pub fn is_waiting(&self) -> bool {
+        self.lines.iter().any(|line| line.at.is_none())
+    }
+
     pub fn is_full(&self) -> bool {
         self.lines.len() >= MANY
     }

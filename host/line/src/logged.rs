@@ -92,7 +92,8 @@ impl Log {
             let first = self.address.unwrap_or(0);
             return Err(format!("{}: it is of chips at 0x{first:02x} and 0x{:02x}: give a receiver's own", called(path), other.address));
         }
-        if let Some(twice) = self.lines.windows(2).find(|two| two[0].at == two[1].at) {
+        // A hop that was refused has no section: its line stands before that of the next one.
+        if let Some(twice) = self.lines.windows(2).find(|two| two[0].at == two[1].at && two[0].length > 0) {
             return Err(format!(
                 "{}: it has two lines for byte {}: it is of more than one file; give this one's own",
                 called(path),

@@ -160,7 +160,7 @@ fn joined(log: Log, path: &OsStr, parts: &Parts, file: &str, out: &mut Out) -> O
     if let Some(why) = log.told(path) {
         out.tell(End::Refused, &why);
     }
-    if parts.has(log.lines.iter().map(|line| (line.at, line.length))) {
+    if parts.has(log.lines.iter().filter(|line| line.length > 0).map(|line| (line.at, line.length))) {
         return Some(log);
     }
     let why = "a line of it is of no section there, so that it is of another file, or of an older one by this name";
@@ -179,7 +179,13 @@ impl Receiver {
                 kept.push(hop);
             }
         });
-        parts.each(|at, section| hops.see(at, section, lines.next_if(|line| line.at == at)))?;
+        parts.each(|at, section| {
+            while let Some(line) = lines.next_if(|line| line.length == 0 && line.at <= at) {
+                hops.refused(line);
+            }
+            hops.see(at, section, lines.next_if(|line| line.at == at));
+        })?;
+        lines.for_each(|line| hops.refused(line));
         hops.end();
         Ok(())
     }

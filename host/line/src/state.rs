@@ -272,9 +272,10 @@ impl Keeper {
 
     /// The line of a section that the night has got.
     fn note(&mut self, line: Option<Line>) {
-        let (Some(night), Some(log), true) = (&self.night, &mut self.log, line.is_some()) else { return };
-        log.note(line);
-        log.placed(night.placed());
+        let (Some(night), Some(log), Some(line)) = (&self.night, &mut self.log, line) else { return };
+        let place = if line.has_section() { night.placed() } else { night.end() };
+        log.note(Some(line));
+        log.placed(place);
         if self.synced || log.is_full() {
             log.write(night);
         }
