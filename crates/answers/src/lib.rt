@@ -158,7 +158,7 @@ fn named(kind: u64) -> Kind
 }
 
 // A sheet as it is lent: the rest as value, and five bytes; or the number of its refusal.
-#[derive(Drop)]
+#[derive(Clone, Copy)]
 pub struct Laid {
     pub refusal: u8,
     pub value: u64,

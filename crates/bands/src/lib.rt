@@ -28,7 +28,7 @@ const NOTCH: usize = 26;
 const SIGN: u64 = 0x8000_0000_0000_0000;
 
 // A band's numbers as they stand in its bytes; those that no well_formed table has are refused.
-#[derive(Drop)]
+#[derive(Clone, Copy)]
 pub struct Band {
     pub first: u64,
     pub last: u64,
@@ -39,7 +39,7 @@ pub struct Band {
 }
 
 // 0 and the plan, or a refusal's number, 19 or 2, and no plan: 0 Hz, not inverted, no path, no notch.
-#[derive(Drop)]
+#[derive(Clone, Copy)]
 pub struct Planned {
     pub refusal: u8,
     pub plan: Plan,

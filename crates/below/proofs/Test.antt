@@ -3,7 +3,7 @@
 use mathlib.Core.Path.{subst, sym, ◌∙◌}
 use mathlib.Core.Bool.{Bool, true, false}
 use Prim.Native.Nat.{ℕ, zero, suc, ◌+◌, ◌<◌}
-use native.Mathlib.Nat.{add-zero, zero_add, add-suc, suc-add, le_of_suc-le-suc, not-suc-le-zero}
+use native.Mathlib.Nat.{add-zero, zero-add, add-suc, suc-add, le_of_suc-le-suc, not-suc-le-zero}
 use lib.Dec.{T}
 
 abbrev pub both : Bool → Bool → Bool
@@ -31,4 +31,4 @@ from f (suc n) i t (suc k) h =
     (from f n (suc i) (both_right (f i) (passes f (suc i) n) t) k (le_of_suc-le-suc h))
 
 pub below : (f : ℕ → Bool) (n : ℕ) → T (passes f 0 n) → (k : ℕ) → k < n → T (f k)
-below f n t k h = subst (λ (m : ℕ). T (f m)) (zero_add k) (from f n 0 t k h)
+below f n t k h = subst (λ (m : ℕ). T (f m)) (zero-add k) (from f n 0 t k h)

@@ -1,18 +1,21 @@
 // The boards and their tuning plans: src/tuner.rs, `plan_tuning` of the generic board and of the V4.
 // Document 01, "Modules": "`plan_tuning` for generic board and V4. Leave out `id` and filters."
+
+#![tactic(auto)]
+
 ghost use Rattle.std.specs.Prelude.{◌≡◌};
 ghost use Rattle.board.specs.Plans.{in_notch, path_at, board_plan, tuner_hz};
 ghost use Rattle.board.specs.Numbers.{board_number, board_of, path_number, path_of, route_number};
 
 // The Rust's `BoardConfig`.
-#[derive(Drop)]
+#[derive(Clone, Copy)]
 pub enum Board {
     Generic,
     V4,
 }
 
 // The Rust's `InputPath`.
-#[derive(Drop)]
+#[derive(Clone, Copy)]
 pub enum Path {
     Hf,
     Vhf,
@@ -20,14 +23,14 @@ pub enum Path {
 }
 
 // The Rust's `Option<InputPath>`: a board without a triplexer has no path to choose.
-#[derive(Drop)]
+#[derive(Clone, Copy)]
 pub enum Route {
     By(Path),
     Direct,
 }
 
 // The Rust's `TuningPlan`: the frequency for the tuner, whether the spectrum is turned round, the path, whether a notch holds it.
-#[derive(Drop)]
+#[derive(Clone, Copy)]
 pub struct Plan {
     pub hz: u64,
     pub inverted: bool,
@@ -36,13 +39,13 @@ pub struct Plan {
 }
 
 // What a number from a host names.
-#[derive(Drop)]
+#[derive(Clone, Copy)]
 pub enum BoardRead {
     Is(Board),
     Refused,
 }
 
-#[derive(Drop)]
+#[derive(Clone, Copy)]
 pub enum PathRead {
     Is(Path),
     Refused,

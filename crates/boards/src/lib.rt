@@ -20,7 +20,7 @@ use refusals::Answer;
 use tuning::Tuning;
 
 // What a hop hands back: both next records, its answer, how many entries it made, and of the lock what a tuning tells.
-#[derive(Drop)]
+#[derive(Clone, Copy)]
 pub struct Hopped {
     pub tuner: Tuner,
     pub driver: Driver,

@@ -18,7 +18,7 @@ use transcript::Entry;
 pub const REG_SHADOW_START: u8 = 0x05;
 
 // What the record says of the chip's registers 0x05 to 0x1f: the shadow, which is the byte last attempted (#106), and whether that is in doubt.
-#[derive(Drop)]
+#[derive(Clone, Copy)]
 pub struct Chip {
     pub address: u8,
     pub shadow: [u8; 27],
@@ -26,7 +26,7 @@ pub struct Chip {
 }
 
 // A register's partial update; under the mask 0xff it is the whole register's.
-#[derive(Drop)]
+#[derive(Clone, Copy)]
 pub struct Update {
     pub register: u8,
     pub value: u8,
@@ -41,14 +41,14 @@ pub const FILLER: Update = Update {
 };
 
 // Updates of registers, the first n of them meant; fillers stand after them.
-#[derive(Drop)]
+#[derive(Clone, Copy)]
 pub struct Updates {
     pub list: [Update; 16],
     pub n: usize,
 }
 
 // How far a call has come: no step has failed yet, or it ends with refusal 11, with the index of the failing step's entry.
-#[derive(Drop)]
+#[derive(Clone, Copy)]
 pub enum Progress {
     Going,
     Refused11(usize),
@@ -56,7 +56,7 @@ pub enum Progress {
 
 // What the done three-byte reads of the status (the tries for a lock) have said: how many there were, and whether one read the lock bit. 16 bits hold the count,
 // since a room has 4,096 entries at most; a wider one would leave padding in the log, which each copy of the log would carry.
-#[derive(Drop)]
+#[derive(Clone, Copy)]
 pub struct LockTries {
     pub tries: u16,
     pub locked: bool,
@@ -70,7 +70,7 @@ pub const NO_TRIES: LockTries = LockTries {
 
 // What is carried from step to step beside the chip: how many entries there are, how far the call has come, whether the repeater is open, and what the tries
 // have said. It is small, so that a step is cheap; a step that writes a register also takes the chip's two lists, by reference.
-#[derive(Drop)]
+#[derive(Clone, Copy)]
 pub struct Log {
     pub count: usize,
     pub progress: Progress,
@@ -87,14 +87,14 @@ pub const START: Log = Log {
 };
 
 // What one part of a call hands on to the next: the chip and the log.
-#[derive(Drop)]
+#[derive(Clone, Copy)]
 pub struct Flow {
     pub chip: Chip,
     pub log: Log,
 }
 
 // A part of the 27 bytes that is sent in one write: `size` bytes from `at`.
-#[derive(Drop)]
+#[derive(Clone, Copy)]
 pub struct Chunk {
     pub at: usize,
     pub size: usize,

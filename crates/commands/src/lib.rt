@@ -16,7 +16,7 @@ use stream::{COMMAND, Command};
 
 // A command's reply, or none; `used` bytes of the chunk were taken; `completed` is 1 where a command was, else 0; `pending` bytes wait.
 #[repr(C)]
-#[derive(Drop)]
+#[derive(Clone, Copy)]
 pub struct FeedReply {
     pub value: u64,
     pub index: u64,

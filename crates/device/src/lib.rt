@@ -20,7 +20,7 @@ use transcript::{BLOCK, BLOCK16, DEMOD16, Entry, READ, WAIT};
 
 // One access of the interface: its kind, target (page or block), address (the register) and value. A write of 8 or 16 bits, a read with the
 // reply as its value, or a wait of `address` milliseconds.
-#[derive(Drop)]
+#[derive(Clone, Copy)]
 pub struct Access {
     pub kind: u8,
     pub target: u8,
@@ -44,7 +44,7 @@ pub const NO_CHIP: Chip = Chip {
 };
 
 // What a call that touches no record hands back.
-#[derive(Drop)]
+#[derive(Clone, Copy)]
 pub struct Handed {
     pub answer: Answer,
     pub count: usize,

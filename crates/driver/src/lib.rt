@@ -21,7 +21,7 @@ use r82xx::Tuner;
 use reference::Corrected;
 use refusals::Answer;
 
-#[derive(Drop)]
+#[derive(Clone, Copy)]
 pub struct Driver {
     pub board: Board,
     pub nominal: u32,
@@ -33,14 +33,14 @@ pub struct Driver {
 }
 
 // A record that was asked for: made, or refused, and then nothing of it counts.
-#[derive(Drop)]
+#[derive(Clone, Copy)]
 pub struct Made {
     pub answer: Answer,
     pub driver: Driver,
 }
 
 // What a correction hands back: both next records and its answer. It makes no entries.
-#[derive(Drop)]
+#[derive(Clone, Copy)]
 pub struct CorrectionResult {
     pub tuner: Tuner,
     pub driver: Driver,
@@ -48,7 +48,7 @@ pub struct CorrectionResult {
 }
 
 // What `set_sample_rate` hands back: both next records, its answer, how many entries it made.
-#[derive(Drop)]
+#[derive(Clone, Copy)]
 pub struct Rated {
     pub tuner: Tuner,
     pub driver: Driver,

@@ -11,7 +11,7 @@ use refusals::Answer;
 use transcript::{Entry, Section};
 
 // A number that was found, or refusal 15.
-#[derive(Drop)]
+#[derive(Clone, Copy)]
 pub enum Found {
     Is(usize),
     Refused,

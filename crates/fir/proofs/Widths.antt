@@ -3,7 +3,7 @@
 use mathlib.Core.Path.{◌≡◌, refl, ap, ◌∙◌, subst}
 use mathlib.Core.Bool.{Bool, true, false, cond}
 use Prim.Native.Nat.{ℕ, zero, suc, ◌-◌, ◌*◌, ◌%◌, ◌^◌, ◌<◌, ◌≤◌}
-use native.Mathlib.Nat.{lt_of_lt_of_le, mod-lt, mod-eq_of_lt, zero_add}
+use native.Mathlib.Nat.{lt_of_lt_of_le, mod-lt, mod-eq_of_lt, zero-add}
 use native.Mathlib.Omega.{arith}
 use borrow.Author.Tests.{ltb-true, ltb-false, lt-ltb, le-ltb}
 use mir.Syntax.{w32}
@@ -74,7 +74,7 @@ signed_within half n h = go (ltb n half) refl
 
 pub minus : (m : ℕ) → negsuc 0 -ℤ pos m ≡ negsuc m
 minus zero = refl
-minus (suc m) = ap (λ (k : ℕ). negsuc (suc k)) (zero_add m)
+minus (suc m) = ap (λ (k : ℕ). negsuc (suc k)) (zero-add m)
 
 -- ---- as the machine holds it
 

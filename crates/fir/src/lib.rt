@@ -5,20 +5,20 @@ ghost use Rattle.std.specs.Int.Signed.{mag};
 ghost use Rattle.fir.specs.Packing.{every, fir_default, fir_fits, low_of, pack_of, packed, signed_of, unpack_of, within};
 
 // 0 and the bytes, or 7 and zeros. An enum must not hold the array.
-#[derive(Drop)]
+#[derive(Clone, Copy)]
 pub struct Packed {
     pub refusal: u8,
     pub bytes: [u8; 20],
 }
 
-#[derive(Drop)]
+#[derive(Clone, Copy)]
 pub struct Three {
     pub a: u8,
     pub b: u8,
     pub c: u8,
 }
 
-#[derive(Drop)]
+#[derive(Clone, Copy)]
 pub struct Two {
     pub a: i32,
     pub b: i32,

@@ -3,7 +3,7 @@
 use mathlib.Core.Path.{◌≡◌, refl, sym, ap, ◌∙◌, subst}
 use mathlib.Core.Bool.{Bool, true, false, not, cond, true≢false}
 use Prim.Native.Nat.{ℕ, zero, suc, ◌+◌, ◌-◌, ◌*◌, ◌/◌, ◌%◌, ◌^◌, ◌≤◌, ◌<◌, min}
-use native.Mathlib.Nat.{add_comm, div-eq_of_lt, le-div_iff_mul-le, le_trans, lt_of_lt_of_le, min-eq_left, min-eq_right, min-le_left, le_of_eq, le_of_lt, mul_assoc, mul-le-mul, zero_add}
+use native.Mathlib.Nat.{add_comm, div-eq_of_lt, le-div_iff_mul-le, le_trans, lt_of_lt_of_le, min-eq_left, min-eq_right, min-le_left, le_of_eq, le_of_lt, mul_assoc, mul-le-mul, zero-add}
 use native.Mathlib.Omega.{arith}
 use borrow.Author.Tests.{eqb-true}
 use lib.Dec.{T, eqb, leb, lit≤}
@@ -159,4 +159,4 @@ negated w n e h = less n h ∙ ap (λ (m : ℕ). neg_ℤ (pos m)) e
     less : (n : ℕ) → 0 < n → negsuc 0 -ℤ pos (n - 1) ≡ neg_ℤ (pos n)
     less zero h = absurd (omega arith)
     less (suc zero) h = refl
-    less (suc (suc n)) h = let e : suc (suc n) - 1 ≡ suc n = omega arith in ap (λ (m : ℕ). negsuc 0 -ℤ pos m) e ∙ ap (λ (m : ℕ). negsuc (suc m)) (zero_add n)
+    less (suc (suc n)) h = let e : suc (suc n) - 1 ≡ suc n = omega arith in ap (λ (m : ℕ). negsuc 0 -ℤ pos m) e ∙ ap (λ (m : ℕ). negsuc (suc m)) (zero-add n)

@@ -1,6 +1,9 @@
 // The arithmetic of gain: `set_gain`, `set_gain_by_index`, `get_gain_table` and both tables of src/tuners/r82xx.rs. The writes are not here.
 // Document 01, "Gain", and "Language forms by place": "f32 product, truncated by the program from its bits with saturation and NaN cases;
 // the answer step / 10 is exact per one rounded division."
+
+#![tactic(auto)]
+
 ghost use Rattle.std.specs.Prelude.{◌≡◌, map, ◌^◌, ◌<◌, min, pos};
 ghost use Rattle.std.specs.Float.Ieee as Ieee;
 ghost use Rattle.gain.specs.Product.{gain_of, tenths_of, whole_part};
@@ -12,7 +15,7 @@ mod tables;
 use tables::{GAIN_STEPS, GAIN_TABLE, MIDDLES};
 
 // What a step writes to the low noise amplifier, the mixer and the variable gain amplifier.
-#[derive(Drop)]
+#[derive(Clone, Copy)]
 pub struct GainEntry {
     pub lna: u8,
     pub mix: u8,

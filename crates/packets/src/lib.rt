@@ -256,7 +256,7 @@ fn sync_len(k: u8, s: &[u8], at: usize) -> usize
 }
 
 // An entry that packets begin with, and how many bytes its packets have; 0 where there are none.
-#[derive(Drop)]
+#[derive(Clone, Copy)]
 pub struct Heard {
     pub entry: Entry,
     pub size: usize,

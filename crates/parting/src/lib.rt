@@ -10,7 +10,7 @@ use transcript::Section;
 // The part that is handed back: `count` entries from byte `start` of one of the two slices, 1 the first and 2 the second; `index` entries before it are
 // alike in both. Refused, it is nobody's: 0, and no entry.
 #[repr(C)]
-#[derive(Drop)]
+#[derive(Clone, Copy)]
 pub struct Place {
     pub start: usize,
     pub count: usize,

@@ -1,6 +1,9 @@
 // The arithmetic of the PLL, from `set_pll_raw` of src/tuners/r82xx.rs: divider, N, register 0x14, F and the sum S.
 // Document 01, "PLL"; its lines stand above the definitions of specs/. Each result is one equation with such a definition. The least N is
 // document 02's, #111: the Rust takes a smaller one.
+
+#![tactic(auto)]
+
 ghost use Rattle.std.specs.Prelude.{◌≡◌, ◌^◌, ◌<◌, ◌≤◌};
 ghost use Rattle.pll.specs.Divide.{divider_of};
 ghost use Rattle.pll.specs.Setting.{quarter_of, setting_of};
@@ -14,14 +17,14 @@ pub const VCO_MAX: u64 = 3_600_000_000;
 // The least N that the byte for register 0x14 can tell.
 const LEAST: u64 = 13;
 
-#[derive(Drop)]
+#[derive(Clone, Copy)]
 pub enum Kind {
     R820T,
     R828D,
 }
 
 // A divider and its number for register 0x10, or none.
-#[derive(Drop)]
+#[derive(Clone, Copy)]
 pub enum Mixer {
     By(u64, u8),
     Missing,
@@ -84,7 +87,7 @@ fn setting(n: u64) -> u8
 }
 
 // S so far, what is left of F, and whether the turns have ended.
-#[derive(Drop)]
+#[derive(Clone, Copy)]
 pub struct Sum {
     pub sum: u64,
     pub rest: u64,
@@ -135,7 +138,7 @@ fn fraction(k: u64, f: u64) -> Sum
 }
 
 // What a tuning of the PLL sends: the divider and its number, N, the byte of 0x14, F, S and the rest of F.
-#[derive(Drop)]
+#[derive(Clone, Copy)]
 pub struct Plan {
     pub m: u64,
     pub number: u8,
@@ -146,7 +149,7 @@ pub struct Plan {
     pub rest: u64,
 }
 
-#[derive(Drop)]
+#[derive(Clone, Copy)]
 pub enum Pll {
     Planned(Plan),
     Refused,

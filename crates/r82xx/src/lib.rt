@@ -24,7 +24,7 @@ use refusals::Answer;
 use tuning::Tuning;
 use writes::{IF_FREQ_NARROW, INIT_ARRAY};
 
-#[derive(Drop)]
+#[derive(Clone, Copy)]
 pub struct Tuner {
     pub kind: Kind,
     pub chip: Chip,
@@ -37,14 +37,14 @@ pub struct Tuner {
 }
 
 // A record that was asked for: made, or refused, and then nothing of it counts.
-#[derive(Drop)]
+#[derive(Clone, Copy)]
 pub struct Made {
     pub answer: Answer,
     pub tuner: Tuner,
 }
 
 // What a call hands back: the next record, its answer, how many entries it made.
-#[derive(Drop)]
+#[derive(Clone, Copy)]
 pub struct TunerResult {
     pub tuner: Tuner,
     pub answer: Answer,
@@ -53,7 +53,7 @@ pub struct TunerResult {
 
 // What a tuning hands back. #101: "locked or not with the number of tries". `locked` is not the record's lock: it is told of this tuning alone, so that it
 // is false where the tuning was refused or cut before a try read the lock bit.
-#[derive(Drop)]
+#[derive(Clone, Copy)]
 pub struct TuneResult {
     pub told: TunerResult,
     pub tries: u16,
@@ -61,7 +61,7 @@ pub struct TuneResult {
 }
 
 // The gain table, with its answer.
-#[derive(Drop)]
+#[derive(Clone, Copy)]
 pub struct Table {
     pub answer: Answer,
     pub steps: [i32; 29],

@@ -51,13 +51,13 @@ const ACTUAL: usize = 21;
 pub const DRIVER: usize = 29;
 
 // A record that bytes were read as. Where they are not valid, `tuner` is a fresh one and counts for nothing.
-#[derive(Drop)]
+#[derive(Clone, Copy)]
 pub struct TunerRead {
     pub ok: bool,
     pub tuner: Tuner,
 }
 
-#[derive(Drop)]
+#[derive(Clone, Copy)]
 pub struct DriverRead {
     pub ok: bool,
     pub driver: Driver,

@@ -3,7 +3,7 @@ use mathlib.Core.Path.{◌≡◌, refl, ap, ◌∙◌, subst, subst⁻¹}
 use mathlib.Core.Bool.{Bool, true, false}
 use Prim.Native.Nat.{ℕ, suc, ◌<◌}
 use native.Mathlib.Omega.{arith}
-use native.Mathlib.Nat.{zero_add}
+use native.Mathlib.Nat.{zero-add}
 use lib.Dec.{T, ltb}
 use lib.IntN.{ℤ, pos, negsuc, nat_abs, ◌-ℤ◌}
 use lib.Signed.{non_neg, lt_z}
@@ -17,7 +17,7 @@ abbrev pub wide_of : ℤ → ℤ
 wide_of z = to_z w64 (of_z w64 (to_z w32 (of_z w32 z)))
 
 pub wide_is : {z : ℤ} → SFits w32 z → wide_of z ≡ z
-wide_is f = ap (λ (x : ℤ). to_z w64 (of_z w64 x)) (to_z-of_z f) ∙ to_z-of_z (sfits_widen tt f)
+wide_is f = ap (λ (x : ℤ). to_z w64 (of_z w64 x)) (to_z-of_z {w = w32} f) ∙ to_z-of_z {w = w64} (sfits_widen tt f)
 
 -- a test of the sign, of the number itself
 pub sign : {z : ℤ} {b : Bool} → SFits w32 z → lt_z (wide_of z) (pos 0) ≡ b → lt_z z (pos 0) ≡ b
@@ -29,7 +29,7 @@ not_below n t = let l : n < 0 = ltb-true n 0 t in absurd (omega arith)
 
 turned : (z : ℤ) → lt_z z (pos 0) ≡ true → pos 0 -ℤ z ≡ pos (nat_abs z)
 turned (pos n) t = not_below n t
-turned (negsuc n) t = ap pos (zero_add (suc n))
+turned (negsuc n) t = ap pos (zero-add (suc n))
 
 kept : (z : ℤ) → lt_z z (pos 0) ≡ false → z ≡ pos (nat_abs z)
 kept (pos n) t = refl

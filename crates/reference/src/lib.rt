@@ -1,9 +1,12 @@
 // The corrected reference, from `set_ppm` of src/tuners/r82xx.rs and `corrected_xtal_hz` of src/lib.rs.
 // Document 01, "The record": "nominal + nominal·ppm / 1,000,000, the quotient cut toward zero"; refusal 4 outside 1..4,294,967,295.
+
+#![tactic(auto)]
+
 ghost use Rattle.std.specs.Prelude.{◌≡◌, pos, nat_abs};
 ghost use Rattle.reference.specs.Correct.{accept_of, corrected_of};
 
-#[derive(Drop)]
+#[derive(Clone, Copy)]
 pub enum Corrected {
     Is(u32),
     Refused,

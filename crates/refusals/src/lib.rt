@@ -1,6 +1,9 @@
 // How a call ends: its answer, every refusal by name and number, and answered bytes in a slice that the host lends. Document 01, "Refusal numbers";
 // "Modules, leaves first": "callable from a C or Rust host by numbers and byte slices". Ours: the Rust answers values, arrays and texts.
 // It knows no record and no step, so that arithmetic and what works on files lean on it too.
+
+#![tactic(auto)]
+
 ghost use Rattle.std.specs.Prelude.{◌≡◌};
 ghost use Rattle.refusals.specs.Answers.{number_of, value_of};
 ghost use Rattle.refusals.specs.Lent.{answered_to, given, lent_to};
@@ -45,7 +48,7 @@ pub const TABLE: u8 = 19;
 pub const DOUBTFUL: u8 = 20;
 
 // A call's answer: its value, a refusal's number, or refusal 11 with the failing entry's index.
-#[derive(Drop)]
+#[derive(Clone, Copy)]
 pub enum Answer {
     Done(u64),
     Refused(u8),

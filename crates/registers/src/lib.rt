@@ -3,6 +3,9 @@
 // Document 01, "Modules, leaves first" ("constants, `if_freq_regs`, `resample_regs`"), "Demodulator", and "Refusal numbers" for 3 and 4;
 // document 02, #103, for 13, and #104 for the true rate.
 // The constants are all of the Rust's, under its names; some no call uses.
+
+#![tactic(auto)]
+
 ghost use Rattle.std.specs.Prelude.{◌≡◌, ◌<◌};
 ghost use Rattle.registers.specs.Rates.{
   if_ratio_of,
@@ -193,13 +196,13 @@ pub fn true_rate(rate: u32, xtal: u32) -> u64
 }
 
 // A refusal number, 0 for none, and the register bytes, zeros where it is refused.
-#[derive(Drop)]
+#[derive(Clone, Copy)]
 pub struct IfRegs {
     pub refusal: u32,
     pub bytes: [u8; 3],
 }
 
-#[derive(Drop)]
+#[derive(Clone, Copy)]
 pub struct ResampleRegs {
     pub refusal: u32,
     pub bytes: [u8; 4],

@@ -4,7 +4,7 @@ ghost use Rattle.replay.specs.Agreement.{NumbersAgree, Written, Valued, Agrees, 
 
 use crate::layout;
 
-#[derive(Drop)]
+#[derive(Clone, Copy)]
 pub enum Verdict {
     Same,
     Differ,
@@ -13,7 +13,7 @@ pub enum Verdict {
 }
 
 // The numbers that a call answers.
-#[derive(Drop)]
+#[derive(Clone, Copy)]
 pub struct Answer {
     pub refusal: u64,
     pub value: u64,

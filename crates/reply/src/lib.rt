@@ -10,7 +10,7 @@ use transcript::Section;
 
 // refusal 0 is done; index is the failing entry's where it is 11; count is how many entries were made.
 #[repr(C)]
-#[derive(Drop)]
+#[derive(Clone, Copy)]
 pub struct Reply {
     pub value: u64,
     pub index: u64,
@@ -20,7 +20,7 @@ pub struct Reply {
 
 // A tuning's, of its own. #101: how many tries there were, and 1 where one of them read the lock bit, also beside refusal 11.
 #[repr(C)]
-#[derive(Drop)]
+#[derive(Clone, Copy)]
 pub struct TuneReply {
     pub value: u64,
     pub index: u64,
@@ -32,7 +32,7 @@ pub struct TuneReply {
 
 // Where a section stands in a slice: after `start` bytes, `count` entries of 16 bytes, then its trailer.
 #[repr(C)]
-#[derive(Drop)]
+#[derive(Clone, Copy)]
 pub struct Parts {
     pub start: u64,
     pub count: u64,

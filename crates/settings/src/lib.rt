@@ -34,7 +34,7 @@ const FREQUENCY: usize = 10;
 const GAIN: usize = 18;
 
 // The record that is stored. Kind, board and gain index are any number here; those that no image has are refused.
-#[derive(Drop)]
+#[derive(Clone, Copy)]
 pub struct Settings {
     pub kind: u64,
     pub board: u64,
@@ -45,20 +45,20 @@ pub struct Settings {
 }
 
 // What was read: 0 and a record, or a refusal's number and zeros.
-#[derive(Drop)]
+#[derive(Clone, Copy)]
 pub struct Read {
     pub refusal: u8,
     pub settings: Settings,
 }
 
 // Edition 2: those of edition 1 and the IF.
-#[derive(Drop)]
+#[derive(Clone, Copy)]
 pub struct Settings2 {
     pub settings: Settings,
     pub ifreq: u32,
 }
 
-#[derive(Drop)]
+#[derive(Clone, Copy)]
 pub struct Read2 {
     pub refusal: u8,
     pub settings: Settings2,
@@ -66,7 +66,7 @@ pub struct Read2 {
 
 // The same for a C host.
 #[repr(C)]
-#[derive(Drop)]
+#[derive(Clone, Copy)]
 pub struct Reply2 {
     pub frequency: u64,
     pub kind: u64,
@@ -79,7 +79,7 @@ pub struct Reply2 {
 }
 
 #[repr(C)]
-#[derive(Drop)]
+#[derive(Clone, Copy)]
 pub struct Reply1 {
     pub frequency: u64,
     pub kind: u64,

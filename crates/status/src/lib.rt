@@ -1,5 +1,8 @@
 // The bits of a status byte in the other order: `bit_reverse` of src/tuners/r82xx.rs, from the technicians' sheet.
 // Document 01, "PLL": "Status bytes have their bits reversed." Document 02, #102: "a table of 256 reversed bytes in place of the shifting".
+
+#![tactic(auto)]
+
 ghost use Rattle.std.specs.Prelude.{◌≡◌};
 ghost use Rattle.status.specs.Reversal.{locked_by, reversed};
 

@@ -1,5 +1,8 @@
 // Commands as they arrive on a serial line: nine bytes each, chopped anywhere. What nine bytes ask for, and the bytes that wait for the rest of their
 // command between two calls. Ours: no file of the Rust has it. Document 02, #105. It knows no record and no step; crate `commands` runs what is read here.
+
+#![tactic(auto)]
+
 ghost use Rattle.std.specs.Prelude.{◌≡◌, true, cond, leb, ◌≤◌, length};
 ghost use Rattle.stream.specs.Commands.{command_of, is_known, most_for, named};
 ghost use Rattle.stream.specs.InCode.{gathered_of, pending_count, stream_after};
@@ -10,7 +13,7 @@ pub const COMMAND: usize = 9;
 pub const STREAM: usize = 9;
 
 // "A command carries either a gain in dB or a whole number."
-#[derive(Drop)]
+#[derive(Clone, Copy)]
 pub enum Command {
     Frequency(u64),
     Rate(u32),
@@ -24,7 +27,7 @@ pub enum Command {
 
 // What was taken of a chunk: nothing where the stream's bytes are not valid; else how much of it, and the bytes that there are now of the command that is waited
 // for, zeros after them. With nine it is whole.
-#[derive(Drop)]
+#[derive(Clone, Copy)]
 pub struct Gathered {
     pub ok: bool,
     pub used: usize,

@@ -6,7 +6,7 @@ use mathlib.Core.Path.{◌≡◌, refl, sym, ap, ap₂, ◌∙◌, subst}
 use mathlib.Core.List.{List, [], ◌∷◌, ◌++◌, append-nil, append_assoc}
 use mathlib.Core.Bool.{true, ◌&&◌}
 use native.Mathlib.Omega.{arith}
-use native.Mathlib.Nat.{zero_add, suc-add}
+use native.Mathlib.Nat.{zero-add, suc-add}
 use lib.Dec.{eqb}
 use lib.ListN.{length, get_or, take, drop, length-append, length-take, length-drop, take-append-drop}
 use lib.Seq.{take-nil, take_at, drop_at, take-take, drop-drop, take-add, take_all}
@@ -21,7 +21,7 @@ use Rattle.transcript.proofs.Reading.{both, Sound, sound, is_section_lem}
 use Rattle.transcript.proofs.Rows.{row_of, read_written, fits_written, written_read}
 
 drop_take : (n m : ℕ) (l : List ℕ) → drop n (take (n + m) l) ≡ take m (drop n l)
-drop_take zero m l = ap (λ (k : ℕ). take k l) (zero_add m)
+drop_take zero m l = ap (λ (k : ℕ). take k l) (zero-add m)
 drop_take (suc n) m [] = rw (suc-add n m) (sym (take-nil m))
 drop_take (suc n) m (x ∷ xs) = rw (suc-add n m) (drop_take n m xs)
 

@@ -1,5 +1,8 @@
 // Entries and sections of a transcript: the table of kinds, how entries and sections are written, and the reader that starts
 // from the end of a slice. Ours: no file of the Rust has it. Document 01, "Transcript and script".
+
+#![tactic(auto)]
+
 ghost use Rattle.std.specs.Prelude.{◌≡◌, ◌+◌, ◌*◌, ◌≤◌, ◌<◌, length, take, drop};
 ghost use Rattle.std.proofs.lemmas.List.Edits.{sets};
 ghost use Rattle.wire.specs.Bytes.{le_bytes};
@@ -28,7 +31,7 @@ pub const WAIT: u8 = 9;
 
 // "An entry has 16 bytes: kind, outcome (0 done, 1 failed), target, n, address (u16, low byte first), two zeros, eight data
 // bytes padded with zeros." The bytes here are the eight, with their zeros.
-#[derive(Drop)]
+#[derive(Clone, Copy)]
 pub struct Entry {
     pub kind: u8,
     pub outcome: u8,
@@ -156,7 +159,7 @@ fn all_fit(s: &[u8], at: usize, count: usize) -> bool
 }
 
 // What the reader finds at the end of a slice: where the section's first entry stands, and how many there are.
-#[derive(Drop)]
+#[derive(Clone, Copy)]
 pub enum Section {
     Read { start: usize, count: usize },
     Refused,

@@ -23,7 +23,7 @@ mod ranges;
 use ranges::FREQ_RANGES;
 
 // The Rust's `FreqRange`: from which hz the row holds, open_d, rf_mux_ploy and tf_c. Its xtal_cap_sel is 0 in every row, which is 0x0b.
-#[derive(Drop)]
+#[derive(Clone, Copy)]
 pub struct FreqRange {
     pub hz: u64,
     pub opendrain: u8,
@@ -32,14 +32,14 @@ pub struct FreqRange {
 }
 
 // The divider's repair: whether there is one, and the bits that it writes.
-#[derive(Drop)]
+#[derive(Clone, Copy)]
 pub struct Fix {
     pub needed: bool,
     pub bits: u8,
 }
 
 // What a tuning is given.
-#[derive(Drop)]
+#[derive(Clone, Copy)]
 pub struct Tuning {
     pub kind: Kind,
     pub notch: bool,

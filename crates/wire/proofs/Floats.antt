@@ -11,9 +11,9 @@ use lib.Ieee.Bits.{nan_bits_is, nan_bits_above, to_bits-of_bits}
 use lib.Ieee.Compare.{differs_from_itself}
 
 -- a value that differs from itself is the NaN
-pub nan_bits : (x : Float) → ne x x ≡ true → 0x7fc0_0000 ≡ to_bits binary32 x
+pub nan_bits_lem : (x : Float) → ne x x ≡ true → 0x7fc0_0000 ≡ to_bits binary32 x
 unfolding to_bits
-nan_bits x h = sym (ap (to_bits binary32) (differs_from_itself x (subst T (sym h) tt)))
+nan_bits_lem x h = sym (ap (to_bits binary32) (differs_from_itself x (subst T (sym h) tt)))
 
 -- and one that does not is not
 pub no_nan : (x : Float) → ne x x ≡ false → T (not (is_nan x))
@@ -24,20 +24,20 @@ no_nan nan h =
 no_nan (inf s) h = tt
 no_nan (fin s m e) h = tt
 
-is_nan : (x : Float) → is_nan x ≡ true → nan ≡ x
+is_nan_lem : (x : Float) → is_nan x ≡ true → nan ≡ x
 unfolding is_nan
-is_nan nan h = refl
-is_nan (inf s) h =
+is_nan_lem nan h = refl
+is_nan_lem (inf s) h =
     let z : ◌≡◌ {A = ℕ} 0 1 = cc in
     absurd (omega arith)
-is_nan (fin s m e) h =
+is_nan_lem (fin s m e) h =
     let z : ◌≡◌ {A = ℕ} 0 1 = cc in
     absurd (omega arith)
 
 -- the patterns above infinity's
 pub nan_above : (n : ℕ) → 0x7f80_0000 < n % 0x8000_0000 → div binary32 (of_bits binary32 0) (of_bits binary32 0) ≡ of_bits binary32 n
 unfolding div of_bits
-nan_above n h = is_nan (of_bits binary32 n) (sym (nan_bits_is binary32 n) ∙ nan_bits_above binary32 n ∙ lt-ltb 0x7f80_0000 (n % 0x8000_0000) h)
+nan_above n h = is_nan_lem (of_bits binary32 n) (sym (nan_bits_is binary32 n) ∙ nan_bits_above binary32 n ∙ lt-ltb 0x7f80_0000 (n % 0x8000_0000) h)
 
 pub no_nan_above : (n : ℕ) → n % 0x8000_0000 ≤ 0x7f80_0000 → T (not (nan_bits binary32 n))
 no_nan_above n h =

@@ -4,7 +4,7 @@ use Prim.Native.Nat.{ℕ, zero, suc, ◌-◌, ◌^◌, ◌<◌, ◌≤◌}
 use mathlib.Core.Path.{◌≡◌, refl, sym, ap, ◌∙◌, subst}
 use mathlib.Core.Bool.{true, false}
 use native.Mathlib.Omega.{arith}
-use native.Mathlib.Nat.{zero_add}
+use native.Mathlib.Nat.{zero-add}
 use borrow.Author.Tests.{le-ltb}
 use lib.Dec.{T}
 use lib.IntN.{ℤ, pos, negsuc, nat_abs, ◌-ℤ◌}
@@ -15,7 +15,7 @@ use mir.Facts.{to_z-of_z, to_z_pos}
 
 flip_pos : (n : ℕ) → negsuc 0 -ℤ pos n ≡ negsuc n
 flip_pos zero = refl
-flip_pos (suc n) = ap (λ (k : ℕ). negsuc (suc k)) (zero_add n)
+flip_pos (suc n) = ap (λ (k : ℕ). negsuc (suc k)) (zero-add n)
 
 flip_neg : (n : ℕ) → negsuc 0 -ℤ negsuc n ≡ pos n
 flip_neg n =

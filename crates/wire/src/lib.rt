@@ -1,6 +1,9 @@
 // Numbers as bytes, low byte first, at every width to 8; 32-bit signed numbers and binary32 by their bits; a copy into a
 // slice. Ours: no file of the Rust has it. Document 01, "Transcript and script": "u16, low byte first", "u32, low byte
 // first"; "Modules, leaves first": "Records cross there as bytes".
+
+#![tactic(auto)]
+
 ghost use Rattle.std.specs.Prelude.{◌≡◌, [], ◌∷◌, ◌+◌, ◌^◌, ◌≤◌, ◌<◌, length, take, drop};
 ghost use Rattle.std.proofs.lemmas.List.Edits.{sets};
 ghost use Rattle.std.specs.Float.Ieee.{of_bits, to_bits};

@@ -3,7 +3,7 @@ use Prim.Native.Nat.{ℕ, zero, suc, ◌+◌, ◌≤◌}
 use mathlib.Core.Path.{◌≡◌, refl, sym, ap, ◌∙◌}
 use mathlib.Core.Bool.{Bool, true, false, cond, ◌||◌}
 use mathlib.Core.List.{List, [], ◌∷◌, ◌++◌}
-use native.Mathlib.Nat.{zero_add}
+use native.Mathlib.Nat.{zero-add}
 use native.Mathlib.Omega.{arith}
 use borrow.Author.Tests.{le-ltb, ltb-false}
 use lib.Dec.{eqb, ltb}
@@ -91,16 +91,16 @@ more count tries =
     ap most same ∙ sym (most_more count (tries + 1))
 
 most_twice : (m : ℕ) → most (most m) ≡ most m
-most_twice m = ap most (sym (zero_add (most m))) ∙ most_more 0 m ∙ ap most (zero_add m)
+most_twice m = ap most (sym (zero-add (most m))) ∙ most_more 0 m ∙ ap most (zero-add m)
 
 tries_after : (stage lock tries count : ℕ) (p n t bit : Bool) → stage ≤ 2 → most tries ≡ tries
     → tries_or (cond p 0 (cond t (count + 1) count)) (waiting stage lock tries) ≡ tries_or count (after stage lock tries p n t bit)
-tries_after zero lock tries count true n t bit h m = ap most (zero_add tries) ∙ m
+tries_after zero lock tries count true n t bit h m = ap most (zero-add tries) ∙ m
 tries_after zero lock tries count false true true bit h m = more count tries
 tries_after zero lock tries count false true false bit h m = refl
 tries_after zero lock tries count false false true bit h m = more count tries
 tries_after zero lock tries count false false false bit h m = refl
-tries_after (suc zero) lock tries count true n t bit h m = ap most (zero_add tries) ∙ m
+tries_after (suc zero) lock tries count true n t bit h m = ap most (zero-add tries) ∙ m
 tries_after (suc zero) lock tries count false true true bit h m = more count tries
 tries_after (suc zero) lock tries count false true false bit h m = refl
 tries_after (suc zero) lock tries count false false true bit h m = more count tries
@@ -193,4 +193,4 @@ module _ (address : ℕ) where
     where
       go : (b : Bool) → cond b (told es).tries (most (0 + (told es).tries)) ≡ (told es).tries
       go true = refl
-      go false = ap most (zero_add (told es).tries) ∙ (proper es).tries
+      go false = ap most (zero-add (told es).tries) ∙ (proper es).tries

@@ -105,7 +105,7 @@ fn noted_demod(e: Entry, states: &mut [u8], values: &mut [u8])
 }
 
 // How the waiting for the lock ended.
-#[derive(Drop)]
+#[derive(Clone, Copy)]
 pub struct Waiting {
     pub stage: u8,
     pub lock: u8,
@@ -261,7 +261,7 @@ fn heard_all(
     w
 }
 
-#[derive(Drop)]
+#[derive(Clone, Copy)]
 pub struct Ended {
     pub refusal: u8,
     pub waiting: Waiting,
@@ -305,7 +305,7 @@ fn walked(
     }
 }
 
-#[derive(Drop)]
+#[derive(Clone, Copy)]
 pub struct Marks {
     pub oscillator: u8,
     pub offset: u8,
@@ -369,7 +369,7 @@ fn marks_in<'a>(marks: &'a [u8], states: &'a [u8], lock: u8) -> Marks
     }
 }
 
-#[derive(Drop)]
+#[derive(Clone, Copy)]
 pub struct Numbers {
     pub tries: u32,
     pub ddc: u8,

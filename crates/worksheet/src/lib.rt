@@ -8,7 +8,7 @@ ghost use Rattle.worksheet.specs.Sheet.{band_of, byte_of, divider_on, line_of, s
 use pll::{Kind, Pll};
 
 // A range of lo: its first, its last, its divider.
-#[derive(Drop)]
+#[derive(Clone, Copy)]
 pub struct Band(pub u64, pub u64, pub u64);
 
 pub const BANDS: [Band; 6] = [
@@ -21,7 +21,7 @@ pub const BANDS: [Band; 6] = [
 ];
 
 // A line of the sum: by what 2K is divided, what is added to S, and whether the sum ends where it is.
-#[derive(Drop)]
+#[derive(Clone, Copy)]
 pub struct Line(pub u64, pub u64, pub bool);
 
 pub const LINES: [Line; 16] = [
@@ -70,7 +70,7 @@ fn divider(lo: u64) -> u64
 }
 
 // The sum so far: S, what is left of F, and whether it has ended.
-#[derive(Drop)]
+#[derive(Clone, Copy)]
 pub struct Work {
     pub sum: u64,
     pub left: u64,
@@ -136,7 +136,7 @@ fn byte(n: u64) -> u8
 }
 
 // A sheet filled in: the divider, N, the byte for 0x14, S and what is left of F.
-#[derive(Drop)]
+#[derive(Clone, Copy)]
 pub struct Sheet {
     pub m: u64,
     pub n: u8,
@@ -145,7 +145,7 @@ pub struct Sheet {
     pub rest: u64,
 }
 
-#[derive(Drop)]
+#[derive(Clone, Copy)]
 pub enum Filled {
     In(Sheet),
     Refused,

@@ -1,0 +1,9 @@
+-- `gain::get_gain_table` meets its contract: the code's table is the definition's, entry for entry.
+-- Assumes nothing.
+use mathlib.Core.Path.{refl}
+use Rattle.gain.specs.Steps.{steps}
+use Rattle.gain.proofs.get_gain_table.Goals as goal
+
+pub returns : goal.returns
+unfolding steps
+returns c = refl

@@ -1,0 +1,18 @@
+-- `gain::nearest_up` meets its contract. The loop's invariant: of the first k + 1 steps, which have k middles between them, n is the index worked out.
+-- Assumes nothing.
+use mathlib.Core.Path.{◌≡◌, ap, ◌∙◌}
+use Prim.Native.Nat.{ℕ, ◌+◌, ◌-◌, ◌≤◌}
+use native.Mathlib.Omega.{arith}
+use borrow.Author.Rules.{rules}
+use lib.Dec.{ltb}
+use lib.IntN.{pos}
+use mir.Val.{bool_byte}
+use Rattle.gain.specs.Steps.{steps, nearest_in, nearest_of}
+use Rattle.gain.proofs.Steps.{middle_at, nearest_first, none_counted, counted}
+use Rattle.gain.proofs.nearest_up.Given as goal
+
+abbrev pub invariant-loop-k : goal.invariant-loop-k
+invariant-loop-k l = (l.k ≤ 28) × (l.n ≡ nearest_in (l.k + 1) (pos l.t))
+
+abbrev pub decreases-loop-k : goal.decreases-loop-k
+decreases-loop-k l = 28 - l.k

@@ -1,0 +1,38 @@
+-- `transcript::all_fit` meets its contract. The loop's invariant: whether the entries from i on fit says it for all.
+-- Assumes nothing.
+use Prim.Native.Nat.{◌≤◌, ◌+◌, ◌-◌, ◌*◌}
+use mathlib.Core.Path.{◌≡◌, ◌∙◌}
+use native.Mathlib.Omega.{arith}
+use borrow.Author.Rules.{rules}
+use borrow.Author.Tests.{not-true, not-false}
+use lib.ListN.{drop}
+use Rattle.transcript.specs.Sections.{all_fit}
+use Rattle.transcript.proofs.Reading.{fit_on, fit_stop, fit_end, fit_start}
+use Rattle.transcript.proofs.all_fit.Goals as goal
+
+pub loop-i-init : goal.loop-i-init
+loop-i-init c = (search rules, fit_start c.args.s.now c.args.at 0 c.args.count)
+
+pub returns-then-not-entry_fits : goal.returns-then-not-entry_fits
+returns-then-not-entry_fits c =
+    let entry-fits = c.entry_fits in
+    let l = c.loop-i in
+    let a = c.args in
+    fit_stop a.s.now a.at l.i a.count entry-fits.result (omega arith) entry-fits.ensures (not-true entry-fits.result c.if-not-entry_fits.true)
+    ∙ l.invariant.1
+
+pub loop-i-preserved : goal.loop-i-preserved
+loop-i-preserved c =
+    let entry-fits = c.entry_fits in
+    let l = c.loop-i in
+    let a = c.args in (
+      omega arith,
+      fit_on a.s.now a.at l.i a.count entry-fits.result (omega arith) entry-fits.ensures (not-false entry-fits.result c.if-not-entry_fits.false)
+          ∙ l.invariant.1,
+    )
+
+pub returns : goal.returns
+returns c =
+    let l = c.loop-i in
+    let a = c.args in
+    fit_end a.s.now a.at l.i a.count (omega arith) ∙ l.invariant.1

@@ -1,0 +1,17 @@
+-- `transcript::all_fit` meets its contract. The loop's invariant: whether the entries from i on fit says it for all.
+-- Assumes nothing.
+use Prim.Native.Nat.{◌≤◌, ◌+◌, ◌-◌, ◌*◌}
+use mathlib.Core.Path.{◌≡◌, ◌∙◌}
+use native.Mathlib.Omega.{arith}
+use borrow.Author.Rules.{rules}
+use borrow.Author.Tests.{not-true, not-false}
+use lib.ListN.{drop}
+use Rattle.transcript.specs.Sections.{all_fit}
+use Rattle.transcript.proofs.Reading.{fit_on, fit_stop, fit_end, fit_start}
+use Rattle.transcript.proofs.all_fit.Given as goal
+
+abbrev pub invariant-loop-i : goal.invariant-loop-i
+invariant-loop-i l = (l.i ≤ l.count) × (all_fit (l.count - l.i) (drop (l.at + 16 * l.i) l.s) ≡ all_fit l.count (drop l.at l.s))
+
+abbrev pub decreases-loop-i : goal.decreases-loop-i
+decreases-loop-i l = l.count - l.i

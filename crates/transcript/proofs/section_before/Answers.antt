@@ -1,0 +1,20 @@
+-- `transcript::section_before` meets its contract: the part lies in the slice, by what the reader found.
+-- Assumes nothing.
+use mathlib.Core.Path.{sym, ◌∙◌}
+use native.Mathlib.Omega.{arith}
+use Rattle.transcript.proofs.Reading.{lies, before_part, none_before}
+use borrow.Author.Rules.{rules}
+use Rattle.transcript.proofs.section_before.Goals as goal
+
+pub slice_bounds-result-end : goal.slice_bounds-result-end
+slice_bounds-result-end c =
+    let f = lies c.args.s.now _ _ (sym c.in-Read.is ∙ c.read_section.ensures) in
+    omega arith
+
+pub returns-in-Read : goal.returns-in-Read
+returns-in-Read c =
+    before_part c.args.s.now _ _ (sym c.in-Read.is ∙ c.read_section.ensures)
+
+pub returns-in-Refused : goal.returns-in-Refused
+returns-in-Refused c =
+    none_before c.args.s.now (sym c.in-Refused.is ∙ c.read_section.ensures)

@@ -1,0 +1,30 @@
+-- `transcript::section_entries` meets its contract: the part lies in the slice, by what the reader found.
+-- Assumes nothing.
+use mathlib.Core.Path.{sym, ◌∙◌}
+use native.Mathlib.Omega.{arith}
+use Rattle.transcript.proofs.Reading.{lies, entries_part, no_entries}
+use borrow.Author.Rules.{rules}
+use Rattle.transcript.proofs.section_entries.Goals as goal
+
+pub overflow_mul-result : goal.overflow_mul-result
+overflow_mul-result c =
+    let f = lies c.args.s.now _ _ (sym c.in-Read.is ∙ c.read_section.ensures) in
+    record { fits = omega arith }
+
+pub overflow_add-result : goal.overflow_add-result
+overflow_add-result c =
+    let f = lies c.args.s.now _ _ (sym c.in-Read.is ∙ c.read_section.ensures) in
+    record { fits = omega arith }
+
+pub slice_bounds-result-end : goal.slice_bounds-result-end
+slice_bounds-result-end c =
+    let f = lies c.args.s.now _ _ (sym c.in-Read.is ∙ c.read_section.ensures) in
+    omega arith
+
+pub returns-in-Read : goal.returns-in-Read
+returns-in-Read c =
+    entries_part c.args.s.now _ _ (sym c.in-Read.is ∙ c.read_section.ensures)
+
+pub returns-in-Refused : goal.returns-in-Refused
+returns-in-Refused c =
+    no_entries c.args.s.now (sym c.in-Refused.is ∙ c.read_section.ensures)
