@@ -3,7 +3,7 @@
 use Prim.Native.Nat.{ℕ, suc, ◌+◌, ◌-◌, ◌*◌, ◌<◌, ◌≤◌}
 use mathlib.Core.Path.{◌≡◌, refl, sym, ap₂, ◌∙◌}
 use mathlib.Core.List.{List, []}
-use mathlib.Core.Bool.{Bool, true, false, cond, ◌&&◌, and_false}
+use mathlib.Core.Bool.{Bool, true, false, cond, ◌&&◌, and-false}
 use native.Mathlib.Omega.{arith}
 use lib.Dec.{eqb, leb}
 use borrow.Author.Tests.{eq-eqb, ne_eqb, eqb-true, lt-leb, le-leb, leb-true}
@@ -116,7 +116,7 @@ module _ (s : List ℕ) (count distance : ℕ) (long : 8 ≤ length s) (c : coun
 
     pub unfit : all ≡ false → Refused ≡ section_of s
     unfolding is_section
-    unfit never = refused s (rw (← same, never, and_false))
+    unfit never = refused s (rw (← same, never, and-false))
 
     pub settled : count ≤ 4096 → distance ≤ length s - 8 → all ≡ true → Read (length s - 8 - distance) count ≡ section_of s
     unfolding section_of

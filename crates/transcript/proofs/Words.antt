@@ -3,7 +3,7 @@
 use Prim.Native.Nat.{ℕ, zero, suc, ◌+◌, ◌*◌, ◌/◌, ◌%◌, ◌-◌, ◌^◌, ◌<◌, ◌≤◌}
 use mathlib.Core.Path.{◌≡◌, refl, sym, ap, ◌∙◌}
 use mathlib.Core.List.{List, [], ◌∷◌}
-use mathlib.Core.Bool.{Bool, true, false, ◌&&◌, and_true, and_false}
+use mathlib.Core.Bool.{Bool, true, false, ◌&&◌, and-true, and-false}
 use native.Mathlib.Omega.{arith}
 use lib.Dec.{eqb, leb}
 use lib.Pow.{shr_lt, shr-shr}
@@ -21,11 +21,11 @@ use Rattle.transcript.proofs.Rows.{address_most_lem}
 -- tests that any byte passes need not be made
 pub any_byte : (x low high address : Bool) (t b : ℕ) → t < 256 → b < 256
     → x && low && high && address ≡ x && leb t 255 && low && high && address && leb b 255
-any_byte x low high address t b target first = rw (le-leb t 255 (omega arith), le-leb b 255 (omega arith), and_true x, and_true)
+any_byte x low high address t b target first = rw (le-leb t 255 (omega arith), le-leb b 255 (omega arith), and-true x, and-true)
 
 -- nor the least n of a line that has none
 pub any_least : (x high address first : Bool) (n : ℕ) → x && high && address && first ≡ x && leb 0 n && high && address && first
-any_least x high address first n = rw (le-leb 0 n (omega arith), and_true)
+any_least x high address first n = rw (le-leb 0 n (omega arith), and-true)
 
 -- a kind that is none of the lines: one test after the other
 pub beyond : (i k : ℕ) → i < k → (k ≡ suc i → ⊥) → suc i < k
@@ -84,7 +84,7 @@ some_kept d kept h fit =
 
 too_wide : (k o t n a b : ℕ) → 65535 < a → row_fits k o t n a b ≡ false
 unfolding row_fits
-too_wide k o t n a b h = rw (lt-leb a (get_or address_most k 0) (omega (arith, address_most_lem k)), and_false)
+too_wide k o t n a b h = rw (lt-leb a (get_or address_most k 0) (omega (arith, address_most_lem k)), and-false)
 
 zeros_behind : (k o t n b low x y a : ℕ) → a ≡ low + 0x10000 * (x + 256 * y) → row_fits k o t n a b ≡ eqb x 0 && eqb y 0 && row_fits k o t n low b
 zeros_behind k o t n b low zero zero a h =
@@ -107,7 +107,7 @@ spelt_fits k o t n p q x y a d bs whole long same =
       zeros_behind k o t n (get_or bs 0 0) (p + 256 * (q + 256 * 0)) x y a (omega arith),
       same,
       eq-eqb (length bs) 8 long,
-      and_true,
+      and-true,
       assoc (eqb x 0 && eqb y 0),
     )
 

@@ -52,4 +52,4 @@ returns c =
     let args = c.args in
     let t = args.t in
     c.nearest_up.ensures
-    ∙ ap nearest_of (pos-nat_abs (to_z w32 (of_z w32 t)) (at_least (c)) ∙ to_z-of_z w32 t c.ranges.t)
+    ∙ ap nearest_of (pos-nat_abs (to_z w32 (of_z w32 t)) (at_least (c.before)) ∙ to_z-of_z w32 t c.ranges.t)

@@ -10,7 +10,7 @@ pub loop-left-init : goal.loop-left-init
 loop-left-init c = (refl, omega arith, refl, omega arith)
 
 pub turn-s-requires : goal.turn-s-requires
-turn-s-requires c κs =
+turn-s-requires c =
     let l = c.loop-left in
     let b : l.n ≤ 131_072 = n_most l.left l.n 131_072 l.invariant.2 in
     (omega arith, l.invariant.1, omega (arith, l.invariant.3))

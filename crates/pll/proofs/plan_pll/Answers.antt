@@ -36,25 +36,25 @@ pub overflow_mul-vco : goal.overflow_mul-vco
 overflow_mul-vco c = omega (arith, bounded c)
 
 pub returns-then-n-lt-LEAST : goal.returns-then-n-lt-LEAST
-returns-then-n-lt-LEAST c = sym (too_slow _ _ _ _ _ (came c) c.if-n-lt-LEAST.true)
+returns-then-n-lt-LEAST c = sym (too_slow _ _ _ _ _ (came c.before) c.if-n-lt-LEAST.true)
 
 pub returns-then-cap-n : goal.returns-then-cap-n
 returns-then-cap-n c =
-    sym (too_fast _ _ _ _ _ (came (c)) c.if-n-lt-LEAST.false (omega (arith, c.if-cap-n.true, c.cap.ensures)))
+    sym (too_fast _ _ _ _ _ (came (c.before.before.before)) c.if-n-lt-LEAST.false (omega (arith, c.if-cap-n.true, c.cap.ensures)))
 
 pub overflow_mul-f-2 : goal.overflow_mul-f-2
 overflow_mul-f-2 c =
     let args = c.args in
-    omega (arith, bounded (c), mul-div-le (args.lo * c.in-By.m) (2 * args.r))
+    omega (arith, bounded (c.before.before.before), mul-div-le (args.lo * c.in-By.m) (2 * args.r))
 
 pub overflow_sub-f : goal.overflow_sub-f
 overflow_sub-f c = mul-div-le _ _
 
 pub setting-byte-requires : goal.setting-byte-requires
-setting-byte-requires c κs = within c
+setting-byte-requires c = within c
 
 pub overflow_cast-small : goal.overflow_cast-small
-overflow_cast-small c = omega (arith, within c)
+overflow_cast-small c = omega (arith, within c.before.before)
 
 pub overflow_cast-short : goal.overflow_cast-short
 overflow_cast-short c = record { fits = subst (λ (s : Sum). s.sum < 2 ^ 16) (sym c.fraction-end.ensures) (sum_fits _ _) }
@@ -63,4 +63,4 @@ pub returns : goal.returns
 returns c =
     put_together _ _ _ _ _ _ c.setting-byte.ensures c.fraction-end.ensures
     ∙ sym
-    (planned _ _ _ _ _ c.if-r-eq0.false (came (c)) c.if-n-lt-LEAST.false (omega (arith, c.if-cap-n.false, c.cap.ensures)))
+    (planned _ _ _ _ _ c.if-r-eq0.false (came (c.before.before.before.before.before)) c.if-n-lt-LEAST.false (omega (arith, c.if-cap-n.false, c.cap.ensures)))

@@ -9,7 +9,7 @@ pub returns-then-zero-ne0 : goal.returns-then-zero-ne0
 returns-then-zero-ne0 c = number_first _ _ _ c.zero_number-zero.ensures c.if-zero-ne0.true
 
 pub ratio-whole-requires : goal.ratio-whole-requires
-ratio-whole-requires c κs =
+ratio-whole-requires c =
     let args = c.args in
     (none_given args.rate args.xtal 0 (sym c.zero_number-zero.ensures ∙ c.if-zero-ne0.false)).0
 

@@ -8,7 +8,7 @@ pub returns-then-number-ne0 : goal.returns-then-number-ne0
 returns-then-number-ne0 c = no_regs _ _ _ c.zero_number-number.ensures c.if-number-ne0.true
 
 pub ratio-value-requires : goal.ratio-value-requires
-ratio-value-requires c κs =
+ratio-value-requires c =
     let args = c.args in
     (none_given args.rate args.xtal 0 (sym c.zero_number-number.ensures ∙ c.if-number-ne0.false)).0
 

@@ -7,7 +7,7 @@ use borrow.Author.Rules.{rules}
 use Rattle.registers.proofs.true_rate.Goals as goal
 
 pub ratio-full-requires : goal.ratio-full-requires
-ratio-full-requires c κs = (taken c.args.rate c.args.xtal c.requires).some
+ratio-full-requires c = (taken c.args.rate c.args.xtal c.requires).some
 
 pub nonzero_div-result : goal.nonzero_div-result
 nonzero_div-result c =

@@ -29,7 +29,7 @@ overflow_cast-argument c =
     )
 
 pub named_low-requires : goal.named_low-requires
-named_low-requires c κs =
+named_low-requires c =
     let k = sym c.is_known.ensures ∙ not-false _ c.if-not-is_known.false in
     (omega (arith, at_least_one (get_or c.args.bytes.now 0 0) c.eight-argument.result k), k)
 

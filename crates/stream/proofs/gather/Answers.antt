@@ -39,7 +39,7 @@ slice_bounds-copy-end c =
     omega arith
 
 pub copy-requires : goal.copy-requires
-copy-requires c κs =
+copy-requires c =
     let pending-count = c.pending_count-held in
     let args = c.args in
     let h : pending-count.result ≤ 8 = at-most-eight args.stream.now args.chunk.now _ pending-count.ensures c.if-held-eq-COMMAND.false in
@@ -51,7 +51,7 @@ slice_bounds-copy-end-2 c =
     (used_bounds args.stream.now args.chunk.now _ c.pending_count-held.ensures c.if-held-eq-COMMAND.false _ c.least-used.ensures).0
 
 pub copy-requires-2 : goal.copy-requires-2
-copy-requires-2 c κs =
+copy-requires-2 c =
     let copy = c.copy in
     let least = c.least-used in
     let if1 = c.if-held-eq-COMMAND in

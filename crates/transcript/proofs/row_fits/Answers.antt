@@ -75,7 +75,7 @@ pub returns-in_default : goal.returns-in_default
 returns-in_default c =
     let a = c.args in
     let k = a.k in
-    let r = c.in_default.rest in
+    let r = c.in_default.in_default-own.rest in
     let low : 0 < k → 4 < k = λ some.
     beyond 3 k (beyond 2 k (beyond 1 k (beyond 0 k some r.0.0.0.0.0.0.0.0.1) r.0.0.0.0.0.0.0.1) r.0.0.0.0.0.0.1) r.0.0.0.0.0.1 in
     let high : 4 < k → 9 < k = λ four.
