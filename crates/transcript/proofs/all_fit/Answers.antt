@@ -18,7 +18,7 @@ returns-then-not-entry_fits c =
     let entry-fits = c.entry_fits in
     let l = c.loop-i in
     let a = c.args in
-    fit_stop a.s.now a.at l.i a.count entry-fits.result (omega arith) entry-fits.ensures (not-true entry-fits.result c.if-not-entry_fits.true)
+    fit_stop a.s.now a.at l.i a.count entry-fits.result (omega arith) entry-fits.ensures c.if-not-entry_fits.true
     ∙ l.invariant.1
 
 pub loop-i-preserved : goal.loop-i-preserved
@@ -27,7 +27,7 @@ loop-i-preserved c =
     let l = c.loop-i in
     let a = c.args in (
       omega arith,
-      fit_on a.s.now a.at l.i a.count entry-fits.result (omega arith) entry-fits.ensures (not-false entry-fits.result c.if-not-entry_fits.false)
+      fit_on a.s.now a.at l.i a.count entry-fits.result (omega arith) entry-fits.ensures c.if-not-entry_fits.false
           ∙ l.invariant.1,
     )
 

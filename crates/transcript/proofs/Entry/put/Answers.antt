@@ -11,7 +11,7 @@ pub returns : goal.returns
 returns c =
     let copy = c.copy in
     let a = c.args in
-    let h : a.t1.address < 65536 = search rules in
+    let h : a.self.address < 65536 = search rules in
     c.copy-2.ensures
-    ∙ ap (λ l. sets l (a.at + 8) a.t1.bytes) copy.ensures
-    ∙ entry_laid a.s.now a.at a.t1 h
+    ∙ ap (λ l. sets l (a.at + 8) a.self.bytes) copy.ensures
+    ∙ entry_laid a.s.now a.at a.self h
