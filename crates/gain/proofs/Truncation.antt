@@ -114,25 +114,25 @@ above s x t true true e h = at_the_end s (whole_part (suc x) t) (past x t (all_o
     all_ones n e = omega arith
 above s x t true false e h = absurd h
 
-of_fields : (s : Bool) (x t : ℕ) → T (not (is_nan (of_fields binary32 s x t))) → to_signed 31 (of_fields binary32 s x t) ≡ held s (whole_part x t)
+of_fields_lem : (s : Bool) (x t : ℕ) → T (not (is_nan (of_fields binary32 s x t))) → to_signed 31 (of_fields binary32 s x t) ≡ held s (whole_part x t)
 unfolding of_fields whole_part
-of_fields s zero t h = of_value (odd 24 s t 0 149) s (t * 2 ^ 0) (2 ^ 149) (pow_pos 149) (odd_sign 24 s t 0 149)
-of_fields s (suc x) t h = above s x t (eqb (suc x) 255) (eqb t 0) refl h
+of_fields_lem s zero t h = of_value (odd 24 s t 0 149) s (t * 2 ^ 0) (2 ^ 149) (pow_pos 149) (odd_sign 24 s t 0 149)
+of_fields_lem s (suc x) t h = above s x t (eqb (suc x) 255) (eqb t 0) refl h
 
 -- the whole part of a pattern, by its two fields
 abbrev pub whole_of : ℕ → ℕ
 whole_of b = whole_part (b / 0x80_0000 % 256) (b % 0x80_0000)
 
-of_bits : (b : ℕ) → T (not (is_nan (of_bits binary32 b))) → to_signed 31 (of_bits binary32 b) ≡ held (leb 0x8000_0000 b) (whole_of b)
+of_bits_lem : (b : ℕ) → T (not (is_nan (of_bits binary32 b))) → to_signed 31 (of_bits binary32 b) ≡ held (leb 0x8000_0000 b) (whole_of b)
 unfolding of_bits
-of_bits b h =
-    of_fields (leb 0x8000_0000 b) (b % 0x8000_0000 / 0x80_0000) (b % 0x80_0000) h
+of_bits_lem b h =
+    of_fields_lem (leb 0x8000_0000 b) (b % 0x8000_0000 / 0x80_0000) (b % 0x80_0000) h
     ∙ ap (λ (x : ℕ). held (leb 0x8000_0000 b) (whole_part x (b % 0x80_0000))) (field b 8 23)
 
 pub of_float : (x : Float) → T (fits binary32 x) → T (not (is_nan x)) → to_signed 31 x ≡ held (leb 0x8000_0000 (to_bits binary32 x)) (whole_of (to_bits binary32 x))
 of_float x f h =
     let e : of_bits binary32 (to_bits binary32 x) ≡ x = of_bits-to_bits binary32 x f in
-    ap (to_signed 31) (sym e) ∙ of_bits (to_bits binary32 x) (subst (λ (y : Float). T (not (is_nan y))) (sym e) h)
+    ap (to_signed 31) (sym e) ∙ of_bits_lem (to_bits binary32 x) (subst (λ (y : Float). T (not (is_nan y))) (sym e) h)
 
 -- what passes the test `x != x` is no NaN
 pub no_nan : (x : Float) → ne x x ≡ false → T (not (is_nan x))

@@ -1,19 +1,17 @@
 -- Document 02, #105: "Feeding the stream in any cuts gives the same transcripts, answers and end record as feeding it whole"; the host's loop over single calls
 -- is that feeding; each nine bytes are one command, answered once; what waits at the end has as many bytes as the total leaves modulo nine.
 -- Assumes nothing.
-use Prim.Native.Nat.{ℕ, zero, suc, ◌+◌, ◌-◌, ◌*◌, ◌/◌, ◌%◌, ◌≤◌, ◌<◌}
-use mathlib.Core.Path.{◌≡◌, refl, sym, ap, ap₂, ◌∙◌}
+use Prim.Native.Nat.{ℕ, zero, suc, ◌+◌, ◌-◌, ◌*◌, ◌%◌, ◌≤◌}
+use mathlib.Core.Path.{◌≡◌, refl, sym, ap, ◌∙◌}
 use mathlib.Core.Bool.{Bool, true, false, cond}
 use mathlib.Core.List.{List, [], ◌∷◌, ◌++◌, append_assoc, append-nil}
-use native.Mathlib.Numerals.{unary_clauses}
 use native.Mathlib.Omega.{arith}
-use borrow.Author.Tests.{eq-eqb, eqb-true, eqb-false, le-leb, leb-true, leb-false, lt-leb, ne_eqb}
+use borrow.Author.Tests.{eq-eqb, eqb-true, eqb-false, leb-true, leb-false, ne_eqb}
 use lib.Dec.{eqb, leb}
 use lib.ListN.{length, take, drop, length-append, length-take, length-drop, take-append-drop}
-use lib.Seq.{take_all}
 use Rattle.wire.specs.Parts.{joined}
 use Rattle.stream.specs.Pending.{gathered, used_by}
-use Rattle.stream.specs.Feeding.{Fed, Ran, call_once, calls, completed, fed, feed, feed_cut, gotten, waiting}
+use Rattle.stream.specs.Feeding.{Fed, Ran, call_once, calls, completed, feed, feed_cut, gotten, waiting}
 
 module _ {S O : Type 0} (exec : ℕ → List ℕ → S → Ran S O) where
   -- one piece after the other is both at once

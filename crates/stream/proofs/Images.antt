@@ -1,16 +1,14 @@
 -- The bytes of a stream are exactly those that some pending part of at most eight bytes is kept as, and they are read back as it. Assumes nothing.
-use Prim.Native.Nat.{ℕ, zero, suc, ◌+◌, ◌-◌, ◌*◌, ◌≤◌, ◌<◌}
+use Prim.Native.Nat.{ℕ, zero, suc, ◌+◌, ◌-◌, ◌≤◌}
 use mathlib.Core.Path.{◌≡◌, refl, sym, ap, ap₂, ◌∙◌}
-use mathlib.Core.Bool.{Bool, true, false}
+use mathlib.Core.Bool.{true}
 use mathlib.Core.List.{List, [], ◌∷◌, ◌++◌}
-use native.Mathlib.Numerals.{unary_clauses}
 use native.Mathlib.Omega.{arith}
 use borrow.Author.Tests.{eq-eqb, le-leb}
-use lib.Dec.{eqb, leb}
-use lib.ListN.{length, take, drop, get_or, replicate, length-append, length-replicate, length-take, length-drop, take-append-drop}
+use lib.ListN.{length, drop, get_or, replicate, length-append, length-replicate, length-drop, take-append-drop}
 use lib.Seq.{take_at, drop_at, drop-cons, drop-drop, length-take-le}
 use Rattle.wire.specs.Bytes.{le_value}
-use Rattle.stream.specs.Pending.{is_stream, zero_padded, pending_of, stream_bytes}
+use Rattle.stream.specs.Pending.{is_stream, pending_of, stream_bytes}
 use Rattle.stream.proofs.Laws.{stream_held, stream_length, stream_rest}
 
 -- a number is 0 where all its bytes are

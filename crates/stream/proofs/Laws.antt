@@ -18,7 +18,7 @@ use Rattle.stream.specs.declared.Command.{Command}
 use Rattle.stream.specs.declared.Command.TheVariants.{Unknown}
 use Rattle.stream.specs.declared.Gathered.{Gathered}
 use Rattle.stream.specs.Commands.{argument_of, command_of, is_known, most_for, named, operation_of}
-use Rattle.stream.specs.InCode.{gathered_by, gathered_of, pending_count, stream_after, not_gathered}
+use Rattle.stream.specs.InCode.{gathered_of, pending_count, stream_after, not_gathered}
 use Rattle.stream.specs.Pending.{gathered, is_stream, zero_padded, pending_of, used_by}
 
 pub and_left : (a b : Bool) → (a && b) ≡ true → a ≡ true

@@ -1,7 +1,7 @@
 -- Commands worked out by hand, one of each operation and of each way to be unknown; and one that comes in three parts. Document 02, #105.
 -- Assumes nothing.
 use mathlib.Core.Path.{◌≡◌, refl}
-use mathlib.Core.Bool.{true, false}
+use mathlib.Core.Bool.{false}
 use mathlib.Core.List.{List, [], ◌∷◌, ◌++◌}
 use Prim.Native.Nat.{ℕ}
 use lib.Ieee.{binary32, of_bits}

@@ -2,7 +2,7 @@
 -- Document 02, #105: "Feeding the stream in any cuts gives the same transcripts, answers and end record as feeding it whole, given the same script and room
 -- per command." Script and room of a command are `exec`'s, by the command's number, so they are the same however the stream is cut.
 -- Assumes nothing.
-use Rattle.std.specs.Prelude.{ℕ, zero, suc, ◌+◌, cond, List, [], ◌∷◌, ◌++◌, eqb, leb, drop, length}
+use Rattle.std.specs.Prelude.{ℕ, zero, suc, ◌+◌, cond, List, [], ◌∷◌, ◌++◌, eqb, drop, length}
 use Rattle.stream.specs.Pending.{gathered, used_by}
 
 pub record Ran (S O : Type 0) : Type 0 where

@@ -1,7 +1,7 @@
 -- The stream as a host keeps it between two calls: nine bytes, how many wait for the rest of their command, and these, zeros after them. Document 02, #105:
 -- "we get them chopped anywhere".
 -- Assumes nothing.
-use Rattle.std.specs.Prelude.{ℕ, ◌+◌, ◌-◌, Bool, ◌&&◌, cond, List, [], ◌∷◌, ◌++◌, eqb, leb, ltb, drop, get_or, length, replicate, take}
+use Rattle.std.specs.Prelude.{ℕ, ◌+◌, ◌-◌, Bool, ◌&&◌, cond, List, ◌∷◌, ◌++◌, eqb, leb, drop, get_or, length, replicate, take}
 use Rattle.wire.specs.Bytes.{le_value}
 
 -- zeros after the bytes, n in all

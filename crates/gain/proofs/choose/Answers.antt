@@ -1,7 +1,6 @@
 -- `gain::choose` meets its contract: the tenths, then the nearest step to them.
 -- Assumes nothing.
 use mathlib.Core.Path.{ap, ◌∙◌}
-use borrow.Author.Rules.{rules}
 use mir.Syntax.{w32}
 use mir.ValLaws.{to_z-of_z}
 use Rattle.gain.specs.Steps.{chosen_of, nearest_of}

@@ -1,7 +1,6 @@
 -- `gain::gain_at` meets its contract: one division of the step that was read.
 -- Assumes nothing.
 use mathlib.Core.Path.{ap}
-use borrow.Author.Rules.{rules}
 use Rattle.gain.specs.Product.{gain_of}
 use Rattle.gain.proofs.gain_at.Goals as goal
 

@@ -1,9 +1,8 @@
 -- `gain::nearest_up` meets its contract. The loop's invariant: of the first k + 1 steps, which have k middles between them, n is the index worked out.
 -- Assumes nothing.
 use mathlib.Core.Path.{◌≡◌, ap, ◌∙◌}
-use Prim.Native.Nat.{ℕ, ◌+◌, ◌-◌, ◌≤◌}
+use Prim.Native.Nat.{ℕ, ◌+◌}
 use native.Mathlib.Omega.{arith}
-use borrow.Author.Rules.{rules}
 use lib.Dec.{ltb}
 use lib.IntN.{pos}
 use mir.Val.{bool_byte}

@@ -1,14 +1,9 @@
 -- `gain::nearest_up` meets its contract. The loop's invariant: of the first k + 1 steps, which have k middles between them, n is the index worked out.
 -- Assumes nothing.
-use mathlib.Core.Path.{◌≡◌, ap, ◌∙◌}
-use Prim.Native.Nat.{ℕ, ◌+◌, ◌-◌, ◌≤◌}
-use native.Mathlib.Omega.{arith}
-use borrow.Author.Rules.{rules}
-use lib.Dec.{ltb}
+use mathlib.Core.Path.{◌≡◌}
+use Prim.Native.Nat.{◌+◌, ◌-◌, ◌≤◌}
 use lib.IntN.{pos}
-use mir.Val.{bool_byte}
-use Rattle.gain.specs.Steps.{steps, nearest_in, nearest_of}
-use Rattle.gain.proofs.Steps.{middle_at, nearest_first, none_counted, counted}
+use Rattle.gain.specs.Steps.{nearest_in}
 use Rattle.gain.proofs.nearest_up.Given as goal
 
 abbrev pub invariant-loop-k : goal.invariant-loop-k

@@ -1,7 +1,6 @@
 -- `gain::tenths` meets its contract: the product is the code's own, and `truncated` cuts it.
 -- Assumes nothing.
 use mathlib.Core.Path.{◌∙◌}
-use borrow.Author.Rules.{rules}
 use mir.Syntax.{w32}
 use mir.ValLaws.{to_z-of_z}
 use Rattle.gain.specs.Product.{tenths_of}

@@ -1,8 +1,8 @@
 -- `pll::fraction` meets its contract. The loop's invariant: the turns that are left, from here, give what all give from the start;
 -- `n` doubles as `left` falls; and S is small enough for the next turn. Assumes nothing.
-use Rattle.std.proofs.Common.{◌≡◌, ℕ, ◌-◌, ◌*◌, ◌^◌, ◌<◌, ◌≤◌, sym, refl, ap, ◌∙◌, arith}
+use Rattle.std.proofs.Common.{ℕ, ◌-◌, ◌*◌, ◌<◌, ◌≤◌, sym, refl, ap, ◌∙◌, arith}
 use Rattle.pll.specs.declared.Sum.{Sum}
-use Rattle.pll.specs.Fraction.{turns_of, sum_of}
+use Rattle.pll.specs.Fraction.{turns_of}
 use Rattle.pll.proofs.Fractions.{turns_on, turns_done, doubled, n_most, turn_most}
 use Rattle.pll.proofs.fraction.Goals as goal
 

@@ -1,5 +1,5 @@
 -- `pll::plan_pll` meets its contract: each `return` is the law of its case, the products stay below the oscillator's upper end. Assumes nothing.
-use Rattle.std.proofs.Common.{◌≡◌, ◌*◌, ◌/◌, ◌^◌, ◌<◌, sym, ◌∙◌, subst, arith, rules}
+use Rattle.std.proofs.Common.{◌≡◌, ◌*◌, ◌/◌, ◌^◌, ◌<◌, sym, ◌∙◌, subst, arith}
 use native.Mathlib.Nat.{mul-div-le}
 use Rattle.pll.specs.declared.Mixer.TheVariants.{By}
 use Rattle.pll.specs.declared.Sum.{Sum}

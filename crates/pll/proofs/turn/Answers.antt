@@ -1,5 +1,5 @@
 -- `pll::turn` meets its contract: at each `return` the tests that led there say whether the turn takes the quotient. Assumes nothing.
-use Rattle.std.proofs.Common.{◌/◌, div-le_self, arith, rules, le-ltb, lt-ltb}
+use Rattle.std.proofs.Common.{◌/◌, div-le_self, arith, le-ltb, lt-ltb}
 use Rattle.pll.specs.Fraction.{turn_of}
 use Rattle.pll.proofs.turn.Goals as goal
 

@@ -1,11 +1,10 @@
 -- `stream::gather` meets its contract: bytes that are none of a stream, or both copies one behind the other. Assumes nothing.
-use mathlib.Core.Path.{◌≡◌, sym, ap, ◌∙◌}
+use mathlib.Core.Path.{◌≡◌, ap, ◌∙◌}
 use native.Mathlib.Omega.{arith}
-use Prim.Native.Nat.{ℕ, ◌+◌, ◌-◌, ◌≤◌}
-use lib.ListN.{drop, length, length-take, take}
-use lib.Seq.{length-sets, sets}
+use Prim.Native.Nat.{◌+◌, ◌≤◌}
+use lib.ListN.{length, length-take, take}
+use lib.Seq.{length-sets}
 use Rattle.stream.proofs.Laws.{all-gathered, at-most-eight, nine_bytes, none_gathered, part_length, used_bounds}
-use borrow.Author.Rules.{rules}
 use Rattle.stream.proofs.gather.Goals as goal
 
 pub returns-then-held-eq-COMMAND : goal.returns-then-held-eq-COMMAND
@@ -27,8 +26,8 @@ overflow_add-held c =
     let h : pending-count.result ≤ 8 = at-most-eight args.stream.now args.chunk.now _ pending-count.ensures c.if-held-eq-COMMAND.false in
     omega arith
 
-pub slice_bounds-copy-end : goal.slice_bounds-copy-end
-slice_bounds-copy-end c =
+pub slice_bounds-copy-end-2 : goal.slice_bounds-copy-end-2
+slice_bounds-copy-end-2 c =
     let if1 = c.if-held-eq-COMMAND in
     let pending-count = c.pending_count-held in
     let args = c.args in
@@ -45,11 +44,6 @@ copy-requires c =
     let h : pending-count.result ≤ 8 = at-most-eight args.stream.now args.chunk.now _ pending-count.ensures c.if-held-eq-COMMAND.false in
     simp length-take (omega arith)
 
-pub slice_bounds-copy-end-2 : goal.slice_bounds-copy-end-2
-slice_bounds-copy-end-2 c =
-    let args = c.args in
-    (used_bounds args.stream.now args.chunk.now _ c.pending_count-held.ensures c.if-held-eq-COMMAND.false _ c.least-used.ensures).0
-
 pub copy-requires-2 : goal.copy-requires-2
 copy-requires-2 c =
     let copy = c.copy in
@@ -61,7 +55,7 @@ copy-requires-2 c =
     let chunk = args.chunk.now in
     let u : pending-count.result + least.result ≤ 9 = (used_bounds b chunk _ pending-count.ensures if1.false _ least.ensures).1 in
     let k : length (take least.result chunk) ≡ least.result = part_length b chunk _ pending-count.ensures if1.false _ least.ensures in
-    let n : length copy.new.0 ≡ 9 = ap length copy.ensures ∙ simp length-sets in
+    let n : length copy.new.dst ≡ 9 = ap length copy.ensures ∙ simp length-sets in
     omega arith
 
 pub overflow_add-result : goal.overflow_add-result

@@ -5,7 +5,6 @@ use native.Mathlib.Omega.{arith}
 use Rattle.stream.specs.declared.Command.TheVariants.{Correction, GainDb}
 use Rattle.stream.specs.Commands.{named}
 use Rattle.stream.proofs.Laws.{at_most_seven, index_fits, signed_back}
-use borrow.Author.Rules.{rules}
 use Rattle.stream.proofs.named_low.Goals as goal
 
 pub overflow_cast-result : goal.overflow_cast-result

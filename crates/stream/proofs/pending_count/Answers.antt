@@ -1,11 +1,10 @@
 -- `stream::pending_count` meets its contract: one law for each test that the bytes fail, one where all hold. Assumes nothing.
-use mathlib.Core.Path.{◌≡◌, sym, ◌∙◌}
+use mathlib.Core.Path.{◌≡◌, ◌∙◌}
 use native.Mathlib.Omega.{arith}
-use Prim.Native.Nat.{ℕ, ◌+◌, ◌-◌, ◌≤◌}
+use Prim.Native.Nat.{◌+◌, ◌-◌}
 use lib.ListN.{drop, get_or, take}
 use Rattle.wire.specs.Bytes.{le_value}
 use Rattle.stream.proofs.Laws.{not_zeros, other_length, too_many, whole_rest, zeros}
-use borrow.Author.Rules.{rules}
 use Rattle.stream.proofs.pending_count.Goals as goal
 
 pub returns-then-s-ne-STREAM : goal.returns-then-s-ne-STREAM
