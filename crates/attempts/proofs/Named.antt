@@ -2,7 +2,7 @@
 -- Assumes nothing.
 use Prim.Native.Nat.{ℕ, ◌+◌, ◌-◌, ◌≤◌, ◌<◌}
 use mathlib.Core.Path.{◌≡◌, refl}
-use mathlib.Core.Bool.{Bool, true, false, ◌&&◌, and_false}
+use mathlib.Core.Bool.{Bool, true, false, ◌&&◌, and-false}
 use native.Mathlib.Omega.{arith}
 use borrow.Author.Tests.{leb-true, leb-false, eq-eqb, le-leb, lt-leb, lt-ltb, le-ltb}
 use lib.Dec.{eqb, leb}
@@ -22,12 +22,12 @@ module _ (address : ℕ) (e : Entry) (r : ℕ) where
 
   pub below_first : r < first_of e → names address e r ≡ false
   unfolding names
-  below_first h = rw (lt-leb (first_of e) r h, and_false (eqb e.kind 2 && eqb e.target address))
+  below_first h = rw (lt-leb (first_of e) r h, and-false (eqb e.kind 2 && eqb e.target address))
 
   pub past_last : first_of e + (e.n - 1) ≤ r → names address e r ≡ false
   unfolding names
   past_last h =
-      rw (le-ltb r (first_of e + (e.n - 1)) h, and_false (eqb e.kind 2 && eqb e.target address && leb (first_of e) r))
+      rw (le-ltb r (first_of e + (e.n - 1)) h, and-false (eqb e.kind 2 && eqb e.target address && leb (first_of e) r))
 
   outside : (b : Bool) → leb (first_of e) r ≡ b → first_of e + (e.n - 1) ≤ first_of e → names address e r ≡ false
   outside true t h = past_last (omega (arith, leb-true (first_of e) r t))

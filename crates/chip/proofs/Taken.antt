@@ -106,15 +106,15 @@ module _ (os : List ℕ) where
         ∙ sim ss (step in_list os s t) (and_right (eight s) (every eight ss) h) (kept_step s t (and_left (eight s) (every eight ss) h) k)
 
     -- the room's law: a program's run in the room is its trace, laid out
-    pub laid_out : (ss : List Step) (c : Chip) → every eight ss ≡ true
+    pub laid_out_lem : (ss : List Step) (c : Chip) → every eight ss ≡ true
         → run in_room os ss (line c (logged room no_tries) 0 Going false) ≡ laid_out room (trace os ss c)
     unfolding trace entries_bytes lock_tries_from
-    laid_out ss c h = sim ss (line c [] 0 Going false) h (record { counted = refl; eights = tt })
+    laid_out_lem ss c h = sim ss (line c [] 0 Going false) h (record { counted = refl; eights = tt })
 
     -- where the code stands after a program is its trace, laid out
     pub stands : (ss : List Step) (c : Chip) (f : Flow) (mid : List ℕ) → every eight ss ≡ true
         → on_room f mid ≡ run in_room os ss (line c (logged room no_tries) 0 Going false) → on_room f mid ≡ laid_out room (trace os ss c)
-    stands ss c f mid h e = e ∙ laid_out ss c h
+    stands ss c f mid h e = e ∙ laid_out_lem ss c h
 
     pub kept-trace : (ss : List Step) (c : Chip) → every eight ss ≡ true → Kept (trace os ss c)
     unfolding trace

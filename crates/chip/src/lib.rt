@@ -2,6 +2,9 @@
 // `read_status_raw`'s transfers of src/tuners/r82xx.rs and `i2c_write_tuner` of src/device.rs, over a script of outcomes and
 // a room for the entries. Document 01, "Transcript and script", "Refusal numbers", "The record", "Forms that change".
 // A step is taken only while none has failed; a closing only while the repeater is open. `run` of specs/Steps.antt says it once.
+
+#![tactic(auto)]
+
 ghost use Rattle.std.specs.Prelude.{◌≡◌, ℕ, ◌+◌, ◌-◌, ◌*◌, ◌<◌, ◌≤◌, true, not, List, [], ◌∷◌, map, length, take, drop, replicate, slice_index, slice_range};
 ghost use Rattle.std.proofs.lemmas.List.Edits.{sets};
 ghost use Rattle.chip.specs.declared.Chip.{Chip};
