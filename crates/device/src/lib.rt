@@ -1,6 +1,9 @@
 // The interface's register accesses and the GPIO calls of src/device.rs, over a script of outcomes and replies and a room for the
 // entries. Document 01, "Transcript and script" (kinds 4 to 9), "Refusal numbers" ("`set_gpio_*` touch no record").
 // Calls that touch no record are run by crate chip's steps over a chip of zeros, of which nothing is handed back.
+
+#![tactic(auto)]
+
 ghost use Rattle.std.specs.Prelude.{List, map, ◌≡◌, ℕ, ◌+◌, ◌*◌, ◌^◌, ◌≤◌, ◌<◌, length, get_or, take};
 ghost use Rattle.chip.specs.declared.Chip.{Chip};
 ghost use Rattle.chip.specs.InCode.{in_room, on_log, on_room};

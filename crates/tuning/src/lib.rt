@@ -1,6 +1,9 @@
 // A tuning's steps, from `set_mux_raw`, `set_pll_raw`, `read_status_raw` and `wait_pll_lock_raw` of src/tuners/r82xx.rs: which registers are
 // written, the status, the divider's repair and the tries for a lock, as parts that a larger call can be made of.
 // Document 01, "PLL" and "Transcript and script".
+
+#![tactic(auto)]
+
 ghost use Rattle.std.specs.Prelude.{◌≡◌, cond, [], ◌∷◌, ◌++◌, ◌+◌, ◌-◌, ◌*◌, ◌≤◌, ◌<◌, eqb, length, get_or};
 ghost use Rattle.chip.specs.declared.Chip.{Chip};
 ghost use Rattle.chip.specs.Entries.{pointer, read_entry, wait};

@@ -1,5 +1,8 @@
 // Which registers the calls of src/tuners/r82xx.rs write, other than a tuning, and the calls of several brackets over a flow: `initialize`,
 // `set_if_bandwidth`, `set_bandwidth`, `set_gain`, `set_input_path`, and our reload. Document 01, "The record", "Gain".
+
+#![tactic(auto)]
+
 ghost use Rattle.std.specs.Prelude.{cond, ◌≡◌, ◌++◌, ◌+◌, ◌*◌, ◌≤◌, ◌<◌, leb, length};
 ghost use Rattle.chip.specs.Chips.{chip_of};
 ghost use Rattle.chip.specs.InCode.{closing, in_room, listed, on_log, on_room};

@@ -1,0 +1,24 @@
+-- `device::set_gpio_output` meets its contract: a pin that is refused, or the call. Assumes nothing.
+use mathlib.Core.Path.{◌∙◌}
+use native.Mathlib.Omega.{arith}
+use borrow.Author.Tests.{lt-ltb, le-ltb}
+use Rattle.device.specs.Gpio.{output_steps}
+use Rattle.device.proofs.Programs.{rows_meant}
+use Rattle.device.proofs.Free.{argument_bad, argument_good}
+use borrow.Author.Rules.{rules}
+use Rattle.device.proofs.set_gpio_output.Reads as reads
+use Rattle.device.proofs.set_gpio_output.Lts as lts
+use Rattle.device.proofs.output_rows.Reads as output-rows-reads
+use Rattle.device.proofs.perform.Reads as perform-reads
+use Rattle.device.proofs.reply.Reads as reply-reads
+use Rattle.device.proofs.set_gpio_output.Goals as goal
+
+pub returns-then-gpio-gt7 : goal.returns-then-gpio-gt7
+returns-then-gpio-gt7 c = c.refused.ensures _ ∙ argument_bad _ _ _ _ _ _ _ 6 (rw (lt-ltb 7 _ c.if-gpio-gt7.true)) (λ e. omega arith)
+
+pub returns : goal.returns
+unfolding output_steps
+returns c =
+    argument_good _ _ _ _ _ _ _ _ _ (rw (le-ltb 7 _ c.if-gpio-gt7.false))
+    (rows_meant 4 _ _ c.output_rows-rows.ensures
+    ∙ (λ i. output_steps c.args.gpio (c.reply-a.ensures i) (c.reply-b.ensures i))) c.perform.ensures

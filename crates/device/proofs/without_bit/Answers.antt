@@ -1,0 +1,12 @@
+-- `device::without_bit` meets its contract. Assumes nothing.
+use mathlib.Core.Path.{ap}
+use Prim.Native.Nat.{ℕ, ◌-◌}
+use lib.Bits.{bit_and}
+use borrow.Author.Rules.{rules}
+use Rattle.device.proofs.without_bit.Reads as reads
+use Rattle.device.proofs.without_bit.Lts as lts
+use Rattle.device.proofs.bit_of.Reads as bit-of-reads
+use Rattle.device.proofs.without_bit.Goals as goal
+
+pub returns : goal.returns
+returns c = ap (λ (x : ℕ). bit_and c.args.byte (255 - x)) c.bit_of-bit.ensures
