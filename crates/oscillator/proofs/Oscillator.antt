@@ -1,12 +1,12 @@
 -- What the registers of a plan say of the oscillator: 2R(N + S/65,536) is lo·m but for what the rest and the quotients' cuts leave. Assumes nothing.
 use mathlib.Core.Path.{◌≡◌, refl, sym, ap, subst, ◌∙◌}
-use mathlib.Core.Bool.{Bool, true, false, cond, not, ◌&&◌, ◌||◌, false≢true}
+use mathlib.Core.Bool.{Bool, true, false, cond, false≢true}
 use Prim.Native.Nat.{ℕ, zero, suc, ◌+◌, ◌-◌, ◌*◌, ◌/◌, ◌%◌, ◌^◌, ◌≤◌, ◌<◌}
 use native.Mathlib.Omega.{arith}
-use native.Mathlib.Nat.{div-lt_iff_lt-mul, mul-div-le, mul-le-mul_left, mul-le-mul_right, pow-succ'}
+use native.Mathlib.Nat.{div-lt_iff_lt-mul, mul-div-le, mul-le-mul_left, pow-succ'}
 use borrow.Author.Tests.{eqb-true}
 use lib.Pow.{pow-add, pow_pos}
-use lib.Dec.{eqb, eqb→eq, ltb}
+use lib.Dec.{eqb, eqb→eq}
 use lib.ListN.{get_or}
 use Rattle.below.proofs.Test.{below}
 use Rattle.pll.specs.declared.Kind.{Kind}

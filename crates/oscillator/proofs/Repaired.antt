@@ -1,7 +1,7 @@
 -- Bytes that say a plan, with another divider's number than the plan's: the VCO stands where it was asked to, and what it is divided by says which multiple
 -- of lo that is. Assumes nothing.
 use mathlib.Core.Path.{◌≡◌, refl, sym, ap, subst, ◌∙◌}
-use Prim.Native.Nat.{ℕ, zero, suc, ◌+◌, ◌-◌, ◌*◌, ◌/◌, ◌^◌, ◌≤◌, ◌<◌}
+use Prim.Native.Nat.{ℕ, zero, suc, ◌+◌, ◌-◌, ◌*◌, ◌^◌, ◌≤◌, ◌<◌}
 use native.Mathlib.Omega.{arith}
 use native.Mathlib.Nat.{pow-succ'}
 use Rattle.pll.specs.declared.Kind.{Kind}
@@ -9,12 +9,11 @@ use Rattle.pll.specs.declared.Plan.{Plan}
 use Rattle.pll.specs.declared.Pll.TheVariants.{Planned}
 use Rattle.pll.specs.declared.Mixer.{Mixer}
 use Rattle.pll.specs.declared.Mixer.TheVariants.{By, Missing}
-use Rattle.pll.specs.Divide.{divider_of}
 use Rattle.pll.specs.Plan.{plan_of}
-use Rattle.pll.proofs.Dividers.{Found, by2, found, only}
+use Rattle.pll.proofs.Dividers.{by2, found, only}
 use Rattle.pll.proofs.Plans.{Known, known}
 use Rattle.oscillator.specs.Bounds.{AtHalf, ByStatus}
-use Rattle.oscillator.specs.Registers.{Bytes, Within, divider_in, five, off, vco_in}
+use Rattle.oscillator.specs.Registers.{Bytes, Within, divider_in, five, vco_in}
 use Rattle.oscillator.proofs.Oscillator.{Says, divider_power, within}
 
 abbrev number_in : Mixer → ℕ

@@ -1,12 +1,12 @@
 -- How much the sum leaves of the fraction, in thousands of Hz. Assumes nothing.
-use mathlib.Core.Path.{◌≡◌, refl, sym, ap, subst, ◌∙◌}
-use mathlib.Core.Bool.{Bool, true, false, cond, not, ◌&&◌, false≢true, true≢false}
-use Prim.Native.Nat.{ℕ, zero, suc, ◌+◌, ◌-◌, ◌*◌, ◌/◌, ◌%◌, ◌^◌, ◌≤◌, ◌<◌}
+use mathlib.Core.Path.{◌≡◌, refl, sym, ap, subst}
+use mathlib.Core.Bool.{Bool, true, false, cond}
+use Prim.Native.Nat.{ℕ, zero, suc, ◌+◌, ◌-◌, ◌*◌, ◌/◌, ◌^◌, ◌≤◌, ◌<◌}
 use native.Mathlib.Omega.{arith}
-use native.Mathlib.Nat.{div-lt_iff_lt-mul, mul-div-le, pow-succ'}
-use borrow.Author.Tests.{lt-leb, ltb-true, ltb-false}
+use native.Mathlib.Nat.{div-lt_iff_lt-mul, pow-succ'}
+use borrow.Author.Tests.{lt-leb, ltb-false}
 use lib.Dec.{leb, ltb}
-use lib.Pow.{pow-add, pow_mono, pow_pos}
+use lib.Pow.{pow_mono, pow_pos}
 use Rattle.pll.specs.declared.Sum.{Sum}
 use Rattle.pll.specs.Fraction.{sum_of, sum_start, takes_turn, turn_of, turns_of}
 

@@ -1,11 +1,11 @@
 -- At a reference of exactly 28,800,000 Hz the oscillator stands nearer: K is 28,800, of which nothing is cut, and nothing of the quotients 57,600 / n of the
 -- first eight turns, 57,600 being 225·256. They leave a rest of at most 225; what the other eight leave of each is computed. Assumes nothing.
-use mathlib.Core.Path.{◌≡◌, refl, sym, ap, subst, ◌∙◌}
+use mathlib.Core.Path.{◌≡◌, refl, ap, ◌∙◌}
 use mathlib.Core.Bool.{Bool, true, false, cond, ◌&&◌}
 use Prim.Native.Nat.{ℕ, zero, suc, ◌+◌, ◌-◌, ◌*◌, ◌/◌, ◌≤◌, ◌<◌}
 use native.Mathlib.Omega.{arith}
 use native.Mathlib.Nat.{div-lt_iff_lt-mul, mul-div-le}
-use borrow.Author.Tests.{leb-true, lt-leb, ltb-false, ltb-true}
+use borrow.Author.Tests.{lt-leb, ltb-false, ltb-true}
 use lib.Dec.{T, leb, leb→le, ltb}
 use Rattle.below.proofs.Test.{below}
 use Rattle.pll.specs.declared.Kind.{Kind}

@@ -1,6 +1,6 @@
 -- At a reference that is a multiple of 1,000 Hz nothing is cut of K, and below 32,768,000 Hz at most 17 kHz are left of the fraction: the VCO is then at most
 -- 17,999 Hz below what was asked, and at most 16,000 above. Assumes nothing.
-use mathlib.Core.Path.{◌≡◌, refl, sym, ap, subst, ◌∙◌}
+use mathlib.Core.Path.{◌≡◌, refl, sym, ap, subst}
 use Prim.Native.Nat.{ℕ, ◌+◌, ◌-◌, ◌*◌, ◌/◌, ◌%◌, ◌≤◌, ◌<◌}
 use native.Mathlib.Omega.{arith}
 use native.Mathlib.Nat.{mul-div-le}

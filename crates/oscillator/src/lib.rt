@@ -1,5 +1,8 @@
 // Where the oscillator stands, by the bytes of registers 0x10, 0x12, 0x14, 0x15 and 0x16: the PLL's arithmetic read backwards.
 // Of no file of the Rust, which never asks.
+
+#![tactic(auto)]
+
 ghost use Rattle.std.specs.Prelude.{◌≡◌, cond, ◌+◌, ◌*◌};
 ghost use Rattle.oscillator.specs.Registers.{five, hz_in, off};
 

@@ -1,16 +1,15 @@
 -- Edition 1, both ways: every settings record is read back from its image, whatever stands before it, and every slice that is taken is what stood before it
 -- and the image of the record that was read. So a record has one image and an image one record. Assumes nothing.
-use Prim.Native.Nat.{ℕ, ◌+◌, ◌-◌, ◌^◌, ◌<◌, ◌≤◌}
-use mathlib.Core.Path.{◌≡◌, refl, sym, ap, ap₂, subst, ◌∙◌}
+use Prim.Native.Nat.{ℕ, ◌-◌, ◌^◌, ◌<◌, ◌≤◌}
+use mathlib.Core.Path.{◌≡◌, refl, sym, ap, subst, ◌∙◌}
 use mathlib.Core.Bool.{Bool, true, false, cond, ◌&&◌}
 use mathlib.Core.List.{List, [], ◌∷◌, ◌++◌}
 use native.Mathlib.Omega.{arith}
 use borrow.Author.Tests.{eq-eqb, eqb-false, eqb-true, le-leb, le-ltb, leb-true, ne_eqb}
-use lib.Dec.{eqb, leb, ltb}
-use lib.IntN.{ℤ}
+use lib.Dec.{eqb, leb}
 use lib.ListN.{length, get_or, take}
 use mir.Syntax.{w32}
-use mir.Val.{Fits, SFits, of_z, to_z}
+use mir.Val.{Fits, of_z, to_z}
 use mir.Facts.{Fits-of_z, of_z-to_z, sfits_to_z, to_z-of_z}
 use Rattle.wire.specs.Bytes.{Bytes}
 use Rattle.wire.specs.Parts.{sum}

@@ -1,10 +1,10 @@
 -- Images of any edition: numbers of any widths and their trailer, at the end of any bytes. What is written is read, and what is not refused was written.
 -- Assumes nothing.
-use Prim.Native.Nat.{ℕ, suc, ◌+◌, ◌-◌, ◌^◌, ◌<◌, ◌≤◌}
+use Prim.Native.Nat.{ℕ, suc, ◌+◌, ◌-◌, ◌<◌, ◌≤◌}
 use mathlib.Core.Path.{◌≡◌, refl, sym, ap, ap₂, ◌∙◌}
 use mathlib.Core.List.{List, [], ◌∷◌, ◌++◌, map, append_assoc}
 use native.Mathlib.Omega.{arith}
-use lib.ListN.{length, get_or, take, drop, length-append, length-take, length-drop, take-append-drop}
+use lib.ListN.{length, get_or, take, drop, length-append, length-drop, take-append-drop}
 use lib.Seq.{sets, drop-append-le, drop_at, drop-cons, drop-drop, get_or-drop, take_all, take-append-le}
 use Rattle.wire.specs.Bytes.{Bytes, le_bytes, le_value}
 use Rattle.wire.specs.Parts.{Sized, joined, parts_from, sum}

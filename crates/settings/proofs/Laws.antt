@@ -2,7 +2,7 @@
 use Prim.Native.Nat.{ℕ, ◌+◌, ◌-◌, ◌*◌, ◌/◌, ◌%◌, ◌<◌, ◌≤◌}
 use mathlib.Core.Path.{◌≡◌, refl, sym, ap, ap₂, ◌∙◌}
 use mathlib.Core.Bool.{Bool, true, false, cond, ◌&&◌}
-use mathlib.Core.List.{List, [], ◌∷◌, map}
+use mathlib.Core.List.{List, map}
 use native.Mathlib.Omega.{arith}
 use borrow.Author.Tests.{eq-eqb, eqb-true, leb-false, leb-true, le-ltb, lt-ltb, ltb-false, ne_eqb}
 use lib.Dec.{eqb, leb, ltb}
@@ -18,7 +18,6 @@ use Rattle.wire.proofs.Joins.{laid_joined}
 use Rattle.refusals.specs.Lent.{Given, lent_to}
 use Rattle.gain.specs.Steps.{clamped}
 use Rattle.settings.specs.declared.Settings.{Settings}
-use Rattle.settings.specs.declared.Read.{Read}
 use Rattle.settings.specs.Image.{fits_of, numbers1, parts_of, trailer, widths1}
 use Rattle.settings.specs.Reading.{distance_of, edition_of, field_refusal, filler_of, found1, judged, read, read_of1, refused, settings, settings_from, trailer_refusal, written_to}
 use Rattle.settings.proofs.Images.{sized}

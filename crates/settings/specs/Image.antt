@@ -1,7 +1,7 @@
 -- Receiver settings and their image on file. Document 02, #108: "Store 19 bytes: kind (0 R820T, 1 R828D), board (0 generic, 1 V4), correction i32, rate
 -- u32, frequency u64, gain index 0..28, numbers low byte first; then a 4-byte trailer: edition 1, a zero, and the distance back as u16, here 19."
 -- Assumes nothing.
-use Rattle.std.specs.Prelude.{ℕ, ◌^◌, ◌<◌, ◌≡◌, Bool, true, cond, ◌&&◌, List, [], ◌∷◌, ◌++◌, eqb, leb}
+use Rattle.std.specs.Prelude.{ℕ, ◌^◌, ◌<◌, ◌≡◌, Bool, true, ◌&&◌, List, [], ◌∷◌, ◌++◌, eqb, leb}
 use Rattle.std.specs.Int.{w32}
 use Rattle.std.proofs.Common.{SFits, of_z}
 use Rattle.wire.specs.Bytes.{le_bytes}

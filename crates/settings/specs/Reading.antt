@@ -2,7 +2,7 @@
 -- edition is never half read. Refusals: new 16 edition, then 17 settings (short slice, wrong distance, nonzero filler, kind, board or gain out of range); a
 -- slice under 4 bytes is 17. Writing refuses 17, then 8."
 -- Assumes nothing.
-use Rattle.std.specs.Prelude.{ℕ, ◌-◌, Bool, cond, ◌&&◌, List, [], ◌∷◌, map, eqb, leb, ltb, ℤ, pos, length, get_or, take, drop}
+use Rattle.std.specs.Prelude.{ℕ, ◌-◌, cond, ◌&&◌, List, map, eqb, leb, ltb, ℤ, pos, length, get_or, take, drop}
 use Rattle.std.specs.Int.{w32}
 use Rattle.std.proofs.Common.{to_z}
 use Rattle.wire.specs.Bytes.{le_value}

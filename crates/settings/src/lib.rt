@@ -1,5 +1,8 @@
 // Receiver settings on file: an image of fixed widths with a trailer, read from the end of a slice, in two editions. Ours: no file of the Rust has it.
 // Document 02, #108, "Receiver settings on file", and #112, "Settings edition 2". It leans on no record and on no call of the tuner: a kind, a board and a gain index are numbers here.
+
+#![tactic(auto)]
+
 ghost use Rattle.std.specs.Prelude.{◌≡◌, ◌+◌, ◌≤◌, ◌<◌, length, take, drop, map};
 ghost use Rattle.std.proofs.lemmas.List.Edits.{sets};
 ghost use Rattle.refusals.specs.Lent.{given};

@@ -1,7 +1,7 @@
 -- The two engines agree. Document 02, #111: "prove that both give the same divider, N, S, rest and refusal for every lo and every reference 1 to
 -- 4,294,967,295", and "over both, N also comes back from 0x14 for every tuning accepted". Assumes nothing.
 use mathlib.Core.Path.{◌≡◌, refl, sym, ap, subst, ◌∙◌}
-use mathlib.Core.Bool.{Bool, true, false, cond, ◌&&◌}
+use mathlib.Core.Bool.{Bool, true, false, cond}
 use Prim.Native.Nat.{ℕ, ◌+◌, ◌*◌, ◌/◌, ◌%◌, ◌≤◌, ◌<◌}
 use native.Mathlib.Omega.{arith}
 use lib.Dec.{leb, eqb}
@@ -9,18 +9,15 @@ use borrow.Author.Tests.{leb-true, ne_eqb}
 use Rattle.pll.specs.declared.Kind.{Kind}
 use Rattle.pll.specs.declared.Mixer.{Mixer}
 use Rattle.pll.specs.declared.Mixer.TheVariants.{By, Missing}
-use Rattle.pll.specs.declared.Plan.{Plan}
 use Rattle.pll.specs.declared.Pll.{Pll}
 use Rattle.pll.specs.declared.Pll.TheVariants as pll
 use Rattle.pll.specs.Divide.{divider_of}
 use Rattle.pll.specs.Plan.{cap_of, made_of, plan_of, plan_with, taken, whole_of}
 use Rattle.pll.proofs.Dividers.{both, found}
 use Rattle.pll.proofs.Plans.{cap_most, comes_back}
-use Rattle.worksheet.specs.declared.Filled.{Filled}
 use Rattle.worksheet.specs.declared.Filled.TheVariants.{In, Refused}
 use Rattle.worksheet.specs.declared.Sheet.{Sheet}
-use Rattle.worksheet.specs.declared.Work.{Work}
-use Rattle.worksheet.specs.Sheet.{byte_of, divider_on, filled_of, sheet_of, sheet_with, sum_on, filled_by}
+use Rattle.worksheet.specs.Sheet.{divider_on, filled_of, sheet_of, sheet_with, sum_on, filled_by}
 use Rattle.worksheet.proofs.Parts.{m_of, same_byte, same_divider, same_fraction, same_sum}
 
 -- a sheet and a plan of the same lo·m, where N is taken

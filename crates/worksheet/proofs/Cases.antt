@@ -6,7 +6,6 @@ use lib.Dec.{eqb}
 use borrow.Author.Tests.{le-leb, lt-leb, eq-eqb, ne_eqb}
 use Rattle.pll.specs.declared.Kind.{Kind}
 use Rattle.pll.specs.Plan.{cap_of}
-use Rattle.worksheet.specs.declared.Filled.{Filled}
 use Rattle.worksheet.specs.declared.Filled.TheVariants.{In, Refused}
 use Rattle.worksheet.specs.declared.Work.{Work}
 use Rattle.worksheet.specs.Sheet.{byte_of, divider_on, filled_of, sheet_of, sheet_with, sum_on}

@@ -1,11 +1,11 @@
 -- The two tables, row by row: what one more row does, where the rows end, and bounds that every row keeps. Assumes nothing.
-use mathlib.Core.Path.{◌≡◌, refl, sym}
+use mathlib.Core.Path.{◌≡◌, refl}
 use mathlib.Core.Bool.{Bool, true, false, cond, not, ◌&&◌}
-use Prim.Native.Nat.{ℕ, ◌+◌, ◌-◌, ◌*◌, ◌/◌, ◌≤◌, ◌<◌}
+use Prim.Native.Nat.{ℕ, ◌+◌, ◌*◌, ◌/◌, ◌≤◌, ◌<◌}
 use native.Mathlib.Omega.{arith}
 use native.Mathlib.Numerals.{add-one}
 use lib.Dec.{T, leb, ltb}
-use lib.ListN.{length, get_or, drop, drop_of_length-le}
+use lib.ListN.{get_or, drop, drop_of_length-le}
 use lib.Seq.{drop-cons}
 use mir.Facts.{and_yes, leb_yes}
 use borrow.Author.Tests.{lt-leb, le-leb}
@@ -13,7 +13,7 @@ use Rattle.below.proofs.Test.{below}
 use Rattle.worksheet.specs.declared.Band.{Band}
 use Rattle.worksheet.specs.declared.Line.{Line}
 use Rattle.worksheet.specs.declared.Work.{Work}
-use Rattle.worksheet.specs.Sheet.{adds, bands, band_of, bands_of, lines, line_of, lines_of}
+use Rattle.worksheet.specs.Sheet.{bands, band_of, bands_of, lines, line_of, lines_of}
 
 -- ---- the ranges
 

@@ -1,6 +1,9 @@
 // The technicians' worksheet: the plan of the PLL worked out by two tables, row by row. Ours: the Rust has no such engine. Document 02, #111: "a
 // table of six lo ranges for the divider, and the fractional sum written out step by step. Add it as a second engine". It calls nothing of
 // crate pll; proofs/Agree.antt shows that both give the same.
+
+#![tactic(auto)]
+
 ghost use Rattle.std.specs.Prelude.{◌≡◌, ◌<◌, ◌≤◌, ◌^◌};
 ghost use Rattle.pll.specs.Plan.{cap_of};
 ghost use Rattle.worksheet.specs.Sheet.{band_of, byte_of, divider_on, line_of, sheet_of, sum_on, filled_by};
