@@ -2,8 +2,8 @@
 -- shown once." The plan changes at seven edges; a band with no edge inside it has the plan of its first frequency, and a band is right if it says that plan.
 -- The eight bands are tested, not proved one by one. Assumes nothing.
 use Prim.Native.Nat.{ℕ, zero, suc, ◌+◌, ◌<◌, ◌≤◌}
-use mathlib.Core.Path.{◌≡◌, refl, sym, ap, ap₂, ◌∙◌}
-use mathlib.Core.Bool.{Bool, true, false, cond, ◌&&◌, ◌||◌, and_false}
+use mathlib.Core.Path.{◌≡◌, refl, sym, ap, ◌∙◌}
+use mathlib.Core.Bool.{Bool, true, false, cond, ◌&&◌, ◌||◌, and-false}
 use mathlib.Core.List.{List, [], ◌∷◌}
 use native.Mathlib.Omega.{arith}
 use borrow.Author.Tests.{eqb-true, le-leb, leb-false, leb-true, lt-leb, ltb-false, ltb-true, lt-ltb, le-ltb}
@@ -54,7 +54,7 @@ everywhere f (b ∷ bs) least c h hz l m = go (leb hz b.last) refl (everywhere f
     go : (t : Bool) → leb hz b.last ≡ t → (suc b.last ≤ hz → hz < 18446744073709551616 → plan_in bs hz ≡ planned 0 (f hz))
         → plan_in (b ∷ bs) hz ≡ planned 0 (f hz)
     go true e next = rw (le-leb b.first hz from, e) (h.0 hz from (leb-true hz b.last e) m)
-    go false e next = rw (e, and_false) (next (leb-false hz b.last e) m)
+    go false e next = rw (e, and-false) (next (leb-false hz b.last e) m)
 
 -- ---- an edge: something changes from c - 1 to c
 

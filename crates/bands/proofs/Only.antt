@@ -1,7 +1,7 @@
 -- At most one band of a well_formed table holds a frequency: the plan is that band's, whichever way the table is searched. Assumes nothing.
 use Prim.Native.Nat.{ℕ, zero, suc, ◌%◌, ◌<◌, ◌≤◌}
-use mathlib.Core.Path.{◌≡◌, refl, ap, ◌∙◌}
-use mathlib.Core.Bool.{Bool, true, false, ◌&&◌, and_false}
+use mathlib.Core.Path.{◌≡◌, refl, ap}
+use mathlib.Core.Bool.{Bool, true, false, ◌&&◌, and-false}
 use mathlib.Core.List.{List, [], ◌∷◌}
 use native.Mathlib.Omega.{arith}
 use borrow.Author.Tests.{leb-true, lt-leb}
@@ -86,7 +86,7 @@ module _ (hz : ℕ) where
   chosen least (b ∷ bs) h (suc i) l t =
       let g = begins least b bs h in
       let next : suc b.last ≤ hz = above (suc b.last) bs g.rest i (omega (arith, l)) t in
-      rw (lt-leb hz b.last next, and_false) (chosen (suc b.last) bs g.rest i (omega (arith, l)) t)
+      rw (lt-leb hz b.last next, and-false) (chosen (suc b.last) bs g.rest i (omega (arith, l)) t)
 
   pub nowhere : (bs : List Band) → ((i : ℕ) → i < length bs → holds (nth bs i) hz ≡ false) → plan_in bs hz ≡ refused FREQUENCY
   unfolding plan_in

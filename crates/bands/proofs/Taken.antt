@@ -1,7 +1,7 @@
 -- The tables that are taken are the well_formed ones, exactly. Assumes nothing.
 use Prim.Native.Nat.{ℕ, zero, suc, ◌*◌, ◌/◌, ◌%◌, ◌<◌, ◌≤◌}
 use mathlib.Core.Path.{◌≡◌, refl, sym, ap, ◌∙◌}
-use mathlib.Core.Bool.{Bool, true, ◌&&◌}
+use mathlib.Core.Bool.{true, ◌&&◌}
 use mathlib.Core.List.{List, [], ◌∷◌}
 use native.Mathlib.Omega.{arith}
 use borrow.Author.Tests.{eq-eqb, eqb-true, le-leb, leb-true}
@@ -11,7 +11,7 @@ use Rattle.wire.specs.Bytes.{Bytes}
 use Rattle.wire.proofs.Widths.{bytes_drop, one_below}
 use Rattle.bands.specs.declared.Band.{Band}
 use Rattle.bands.specs.Formed.{Formed, Good, nth}
-use Rattle.bands.specs.Tables.{ascending, band_of, bands_in, bands_of, fits_of, table_bytes, table_ok}
+use Rattle.bands.specs.Tables.{ascending, band_of, bands_in, bands_of, fits_of, table_ok}
 use Rattle.bands.proofs.Exact.{bands_read, length-bands_in, length-table_bytes, table_written}
 use Rattle.bands.proofs.Only.{Fitting, begins, both}
 

@@ -1,7 +1,7 @@
 -- Boards from a table. Document 02, #113: "A board is up to 16 bands: first and last Hz, an i64 shift, inverted or not, input path or none, notch or
 -- not. Bands ascend and don't overlap." A table is its bands' bytes end to end, 27 each.
 -- Assumes nothing.
-use Rattle.std.specs.Prelude.{ℕ, zero, suc, ◌/◌, ◌%◌, ◌^◌, ◌≤◌, ◌<◌, ◌≡◌, Bool, true, false, cond, ◌&&◌, List, [], ◌∷◌, ◌++◌, eqb, leb, ltb, ℤ, pos, negsuc, ◌+ℤ◌, length, get_or, take, drop}
+use Rattle.std.specs.Prelude.{ℕ, zero, suc, ◌/◌, ◌%◌, ◌^◌, Bool, true, false, cond, ◌&&◌, List, [], ◌∷◌, ◌++◌, eqb, leb, ltb, ℤ, pos, negsuc, ◌+ℤ◌, length, get_or, take, drop}
 use Rattle.std.specs.Int.{w64}
 use Rattle.std.proofs.Common.{to_z}
 use Rattle.wire.specs.Bytes.{le_bytes, le_value}

@@ -1,5 +1,8 @@
 // Boards from a table: which tables are taken, the plan for a frequency by one, and the boards that are built in as tables. Ours: no file of the Rust has
 // it. Document 02, #113, "Boards from a table". It knows no record and no step; the calls that plan by a table lean on it.
+
+#![tactic(auto)]
+
 ghost use Rattle.std.specs.Prelude.{◌≡◌, ◌+◌, ◌≤◌, length, drop};
 ghost use Rattle.board.specs.Numbers.{board_of};
 ghost use Rattle.board.specs.declared.Board.TheVariants.{Generic, V4};

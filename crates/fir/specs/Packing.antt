@@ -2,7 +2,7 @@
 -- Document 01, "Demodulator": "FIR: eight 8-bit, then eight 12-bit signed values, two in three bytes. Our packer takes any sixteen in range;
 -- our unpacker is its inverse." A width is said by half the numbers that it has: 128 for eight bits, 2048 for twelve.
 -- Assumes nothing.
-use Rattle.std.specs.Prelude.{Bool, true, false, cond, ◌&&◌, List, [], ◌∷◌, ◌++◌, map, ℕ, ◌+◌, ◌-◌, ◌*◌, ◌/◌, ◌%◌, ltb, ℤ, pos, negsuc, take, drop}
+use Rattle.std.specs.Prelude.{Bool, true, cond, ◌&&◌, List, [], ◌∷◌, ◌++◌, map, ℕ, ◌+◌, ◌-◌, ◌*◌, ◌/◌, ◌%◌, ltb, ℤ, pos, negsuc, take, drop}
 use Rattle.std.specs.Int.Signed.{mag}
 use Rattle.refusals.specs.Table.{COEFFICIENT}
 use Rattle.fir.specs.declared.Packed.{Packed}

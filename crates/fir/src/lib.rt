@@ -1,5 +1,8 @@
 // The FIR coefficients of the demodulator as its twenty register bytes, and back: `pack_fir` of src/demod.rs, for any sixteen coefficients.
 // Document 01, "Demodulator": "Our packer takes any sixteen in range; our unpacker is its inverse." Refusal 7: "a FIR value past its width".
+
+#![tactic(auto)]
+
 ghost use Rattle.std.specs.Prelude.{◌≡◌, ◌+◌, ◌-◌, ◌*◌, ◌/◌, ◌%◌, ◌<◌, ◌≤◌, take, drop};
 ghost use Rattle.std.specs.Int.Signed.{mag};
 ghost use Rattle.fir.specs.Packing.{every, fir_default, fir_fits, low_of, pack_of, packed, signed_of, unpack_of, within};

@@ -1,7 +1,7 @@
 -- From which reference on an N can be below 13: with 68,076,923 Hz or less none is, whatever the lo. At 68,076,924 one is (`below_least` of Proved).
 -- Assumes nothing.
 use mathlib.Core.Path.{◌≡◌}
-use Prim.Native.Nat.{ℕ, ◌*◌, ◌/◌, ◌≤◌, ◌<◌}
+use Prim.Native.Nat.{ℕ, ◌*◌, ◌≤◌, ◌<◌}
 use native.Mathlib.Omega.{arith}
 use native.Mathlib.Nat.{le-div_iff_mul-le}
 use Rattle.pll.specs.declared.Mixer.TheVariants.{By}

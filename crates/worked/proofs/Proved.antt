@@ -1,6 +1,5 @@
 -- Every starred number holds: antt computes each side, here or in the crate of the definition, whose theorem is cited. Assumes nothing.
 use mathlib.Core.Path.{◌≡◌, refl}
-use Prim.Native.Nat.{ℕ}
 use Rattle.board.proofs.Worked.{last_below, first_above}
 use Rattle.fir.proofs.Worked.{default-packed}
 use Rattle.gain.proofs.Worked.{three_two_index, three_two_answer, nan_index, far_below_tenths, far_below_index}
