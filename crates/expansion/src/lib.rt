@@ -1,5 +1,8 @@
 // A section of a transcript as setup packets for the replay box, and packets as a section again. Ours: the Rust sends them and keeps none. Document 02, #107.
 // Both ways judge and measure first, then test the room, then write, so that what is refused leaves the lent bytes as they were. Crate packets knows one entry.
+
+#![tactic(auto)]
+
 ghost use Rattle.std.specs.Prelude.{◌≡◌, true, map, ◌+◌, ◌*◌, ◌≤◌, length, drop};
 ghost use Rattle.std.proofs.lemmas.List.Edits.{sets};
 ghost use Rattle.transcript.specs.Entries.{bare};

@@ -3,7 +3,7 @@
 use Prim.Native.Nat.{ℕ, zero, suc, ◌+◌, ◌-◌, ◌/◌, ◌%◌, ◌<◌, ◌≤◌}
 use mathlib.Core.Path.{◌≡◌, refl, sym, ap, ap₂, ◌∙◌, subst}
 use mathlib.Core.List.{List}
-use mathlib.Core.Bool.{Bool, true, false, cond, not, ◌&&◌, and_false}
+use mathlib.Core.Bool.{Bool, true, false, cond, not, ◌&&◌, and-false}
 use native.Mathlib.Omega.{arith}
 use lib.Dec.{eqb, leb}
 use borrow.Author.Tests.{eq-eqb, ne_eqb, le-leb, lt-leb, leb-true}
@@ -143,11 +143,11 @@ module _ (b : List ℕ) where
 
     pub heard-other : (x : Bool) (v : ℕ) → x ≡ in_table e.kind e.n → v ≡ le_value (setup e) → x && eqb v w ≡ false → nothing ≡ heard_in b
     unfolding heard_in packets_stand
-    heard-other x v p q h = rw (tested false x v p q h, and_false)
+    heard-other x v p q h = rw (tested false x v p q h, and-false)
 
     pub heard-cut : length b < 8 + k → nothing ≡ heard_in b
     unfolding heard_in packets_stand
-    heard-cut h = rw (lt-leb (8 + sent) (length b) (omega (arith, sent-same)), and_false)
+    heard-cut h = rw (lt-leb (8 + sent) (length b) (omega (arith, sent-same)), and-false)
 
     pub heard-told : (x : Bool) (v : ℕ) → x ≡ in_table e.kind e.n → v ≡ le_value (setup e) → x && eqb v w ≡ true → 8 ≤ length b → 8 + k ≤ length b
         → heard_with e k b ≡ heard_in b

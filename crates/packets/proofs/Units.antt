@@ -3,7 +3,7 @@
 use Prim.Native.Nat.{ℕ, zero, suc, ◌+◌, ◌-◌, ◌*◌, ◌/◌, ◌%◌, ◌<◌, ◌≤◌}
 use mathlib.Core.Path.{◌≡◌, refl, sym, ap, ap₂, ◌∙◌}
 use mathlib.Core.List.{List, [], ◌∷◌, ◌++◌, append_assoc}
-use mathlib.Core.Bool.{Bool, true, false, cond, not, ◌&&◌, and_false}
+use mathlib.Core.Bool.{Bool, true, false, cond, not, ◌&&◌, and-false}
 use native.Mathlib.Omega.{arith}
 use lib.Dec.{eqb, leb, ltb}
 use borrow.Author.Tests.{eq-eqb, ne_eqb, le-leb, leb-true, eqb-true, eqb-false}
@@ -289,7 +289,7 @@ module _ (e : Entry) (fit : entry_fits e ≡ true) (low : 2 ≤ e.kind) (high : 
 
     pub no_stray : sync_in all ≡ false
     unfolding sync_in
-    no_stray = rw (worded, ne_eqb (le_value (setup e)) (le_value sync) (λ same. told_of.other (ap le_value setup_same ∙ same)), and_false)
+    no_stray = rw (worded, ne_eqb (le_value (setup e)) (le_value sync) (λ same. told_of.other (ap le_value setup_same ∙ same)), and-false)
 
     pub unit-stands : packets_stand all ≡ true
     unfolding packets_stand in_table

@@ -1,5 +1,8 @@
 // Setup packets of USB 2.0: what an entry of a transcript becomes on the bus, and the entry that some bytes begin with. The values and indices are those of
 // src/device.rs. Document 02, #107. One entry at a time; crate expansion has the loops.
+
+#![tactic(auto)]
+
 ghost use Rattle.std.specs.Prelude.{◌≡◌, ◌+◌, ◌≤◌, ◌<◌, cond, ◌&&◌, not, eqb, length, drop};
 ghost use Rattle.std.proofs.lemmas.List.Edits.{sets};
 ghost use Rattle.wire.specs.Bytes.{le_value};

@@ -1,5 +1,8 @@
 // Where two sections part: the first step that differs, and the entries from there. Ours: no file of the Rust has it. Document 02, #114, "Where two
 // nights part". It leans on the reader of sections alone, and so can be asked of any two transcripts.
+
+#![tactic(auto)]
+
 ghost use Rattle.std.specs.Prelude.{◌≡◌, [], ◌+◌, ◌*◌, ◌≤◌, length, take, drop};
 ghost use Rattle.transcript.specs.Entries.{entry_of};
 ghost use Rattle.transcript.specs.Sections.{entries_in};

@@ -1,0 +1,75 @@
+-- `expansion::measured` meets its contract. The loop's invariant: the size so far and that of the entries left make the whole, and all expand if those left do.
+-- Assumes nothing.
+use Prim.Native.Nat.{◌+◌, ◌-◌, ◌*◌, ◌≤◌}
+use mathlib.Core.Path.{◌≡◌, ap, ◌∙◌}
+use mathlib.Core.List.{List}
+use native.Mathlib.Omega.{arith}
+use borrow.Author.Tests.{not-true, not-false}
+use lib.ListN.{length, drop}
+use Rattle.transcript.specs.declared.Entry.{Entry}
+use Rattle.transcript.specs.Sections.{entries_in}
+use Rattle.expansion.specs.Expansion.{all_expand, expanded}
+use Rattle.expansion.proofs.Turns.{left, left_all, few, stops, goes, grows, within, refused, ended}
+use borrow.Author.Rules.{rules}
+use Rattle.expansion.proofs.measured.Goals as goal
+
+pub loop-i-init : goal.loop-i-init
+loop-i-init c =
+    let args = c.args in
+    let the-left-all = left_all args.s.now args.start args.count in
+    (omega arith, (omega arith, (ap all_expand the-left-all, ap (λ (es : List Entry). 0 + length (expanded es)) the-left-all ∙ omega arith)))
+
+pub returns-then-not-expands : goal.returns-then-not-expands
+returns-then-not-expands c =
+    let expands = c.expands in
+    let get = c.get-e in
+    let l = c.loop-i in
+    let args = c.args in
+    refused args.s.now args.start args.count l.i l.invariant.1.1.0
+    (stops args.s.now args.start args.count l.i (omega arith) get.result get.ensures expands.result expands.ensures
+    (c.if-not-expands.true))
+
+pub size-size-requires : goal.size-size-requires
+size-size-requires c =
+    let get = c.get-e in
+    let args = c.args in
+    few args.s.now args.start args.count c.loop-i.i (omega arith) get.result get.ensures (search rules)
+
+pub overflow_add-size : goal.overflow_add-size
+overflow_add-size c =
+    let expands = c.expands in
+    let get = c.get-e in
+    let loop = c.loop-i in
+    let args = c.args in
+    let w =
+    within args.s.now args.start args.count loop.i (omega arith) get.result get.ensures expands.result c.size-size.result (search rules)
+    expands.ensures (c.if-not-expands.false) c.size-size.ensures in
+    record { fits = omega (arith, w, loop.invariant.1.0) }
+
+pub loop-i-preserved : goal.loop-i-preserved
+loop-i-preserved c =
+    let expands = c.expands in
+    let e = c.get-e in
+    let l = c.loop-i in
+    let args = c.args in
+    let yes = c.if-not-expands.false in
+    let w =
+    within args.s.now args.start args.count l.i (omega arith) e.result e.ensures expands.result c.size-size.result (search rules)
+    expands.ensures yes c.size-size.ensures in
+    let g = grows args.s.now args.start args.count l.i (omega arith) e.result e.ensures c.size-size.result c.size-size.ensures in (
+      omega arith,
+      (
+        omega (arith, w, l.invariant.1.0),
+        (
+          goes args.s.now args.start args.count l.i (omega arith) e.result e.ensures expands.result expands.ensures yes
+              ∙ l.invariant.1.1.0,
+          omega (arith, g, l.invariant.1.1.1),
+        ),
+      ),
+    )
+
+pub returns : goal.returns
+returns c =
+    let l = c.loop-i in
+    let args = c.args in
+    ended args.s.now args.start args.count l.i l.size (omega arith) l.invariant.1.1.0 l.invariant.1.1.1

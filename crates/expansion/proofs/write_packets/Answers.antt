@@ -1,0 +1,91 @@
+-- `expansion::write_packets` meets its contract. The loop's invariant: the packets of the entries left, stored after what was stored, leave what all packets leave.
+-- Assumes nothing.
+use Prim.Native.Nat.{◌+◌, ◌-◌, ◌≤◌}
+use mathlib.Core.Path.{◌≡◌, refl, ap, ◌∙◌}
+use mathlib.Core.List.{List}
+use native.Mathlib.Omega.{arith}
+use lib.ListN.{length, drop}
+use lib.Seq.{sets, length-sets}
+use Rattle.transcript.specs.declared.Entry.{Entry}
+use Rattle.transcript.specs.Sections.{entries_in}
+use Rattle.packets.specs.Packets.{packets_of}
+use Rattle.expansion.specs.Expansion.{expanded}
+use Rattle.expansion.proofs.Turns.{left, left_all, few, grows, stores, stored}
+use borrow.Author.Rules.{rules}
+use Rattle.expansion.proofs.write_packets.Goals as goal
+
+pub loop-i-init : goal.loop-i-init
+loop-i-init c =
+    let args = c.args in
+    let the-left-all = left_all args.s.now args.start args.count in (
+      omega arith,
+      (
+        refl,
+        (
+          ap (λ (es : List Entry). 0 + length (expanded es)) the-left-all ∙ omega arith,
+          ap (λ (es : List Entry). sets args.out.now 0 (expanded es)) the-left-all,
+        ),
+      ),
+    )
+
+pub put-requires : goal.put-requires
+put-requires c =
+    let e = c.get-e in
+    let l = c.loop-i in
+    let args = c.args in (
+      few args.s.now args.start args.count l.i (omega arith) e.result e.ensures (search rules),
+      omega (
+        arith,
+        grows args.s.now args.start args.count l.i (omega arith) e.result e.ensures (length (packets_of e.result)) refl,
+        l.invariant.1.0,
+        l.invariant.1.1.0,
+      ),
+    )
+
+pub size-at-requires : goal.size-at-requires
+size-at-requires c =
+    let get = c.get-e in
+    let args = c.args in
+    few args.s.now args.start args.count c.loop-i.i (omega arith) get.result get.ensures (search rules)
+
+pub overflow_add-at : goal.overflow_add-at
+overflow_add-at c =
+    let e = c.get-e in
+    let l = c.loop-i in
+    let args = c.args in
+    record {
+      fits = omega (
+        arith,
+        grows args.s.now args.start args.count l.i (omega arith) e.result e.ensures c.size-at.result c.size-at.ensures,
+        l.invariant.1.0,
+        l.invariant.1.1.0,
+      );
+    }
+
+pub loop-i-preserved : goal.loop-i-preserved
+loop-i-preserved c =
+    let put = c.put in
+    let e = c.get-e in
+    let l = c.loop-i in
+    let args = c.args in (
+      omega arith,
+      (
+        ap length put.ensures ∙ length-sets l.out l.at (packets_of e.result) ∙ l.invariant.1.0,
+        (
+          omega (
+            arith,
+            grows args.s.now args.start args.count l.i (omega arith) e.result e.ensures c.size-at.result c.size-at.ensures,
+            l.invariant.1.1.0,
+          ),
+          stores args.s.now args.start args.count l.i (omega arith) e.result e.ensures l.out _ l.at c.size-at.result put.ensures
+              c.size-at.ensures
+              ∙ l.invariant.1.1.1,
+        ),
+      ),
+    )
+
+pub returns : goal.returns
+returns c =
+    let l = c.loop-i in
+    let args = c.args in
+    stored args.s.now args.start args.count l.i l.at l.out (omega arith) ∙ l.invariant.1.1.1

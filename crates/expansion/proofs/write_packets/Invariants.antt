@@ -1,0 +1,24 @@
+-- `expansion::write_packets` meets its contract. The loop's invariant: the packets of the entries left, stored after what was stored, leave what all packets leave.
+-- Assumes nothing.
+use Prim.Native.Nat.{◌+◌, ◌-◌, ◌≤◌}
+use mathlib.Core.Path.{◌≡◌, refl, ap, ◌∙◌}
+use mathlib.Core.List.{List}
+use native.Mathlib.Omega.{arith}
+use lib.ListN.{length, drop}
+use lib.Seq.{sets, length-sets}
+use Rattle.transcript.specs.declared.Entry.{Entry}
+use Rattle.transcript.specs.Sections.{entries_in}
+use Rattle.packets.specs.Packets.{packets_of}
+use Rattle.expansion.specs.Expansion.{expanded}
+use Rattle.expansion.proofs.Turns.{left, left_all, few, grows, stores, stored}
+use borrow.Author.Rules.{rules}
+use Rattle.expansion.proofs.write_packets.Given as goal
+
+abbrev pub invariant-loop-i : goal.invariant-loop-i
+invariant-loop-i l = (l.i ≤ l.count)
+    × ((length l.out ≡ length l.initial.out)
+    × ((l.at + length (expanded (left l.s l.start l.count l.i)) ≡ length (expanded (entries_in l.count (drop l.start l.s))))
+    × (sets l.out l.at (expanded (left l.s l.start l.count l.i)) ≡ sets l.initial.out 0 (expanded (entries_in l.count (drop l.start l.s))))))
+
+abbrev pub decreases-loop-i : goal.decreases-loop-i
+decreases-loop-i l = l.count - l.i

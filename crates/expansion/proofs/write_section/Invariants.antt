@@ -1,0 +1,27 @@
+-- `expansion::write_section` meets its contract. The loop's invariant: the entries of the bytes left, stored after what was stored, leave what all entries leave; then the trailer.
+-- Assumes nothing.
+use Prim.Native.Nat.{◌+◌, ◌-◌, ◌*◌, ◌≤◌}
+use mathlib.Core.Path.{◌≡◌, refl, ap, ◌∙◌}
+use mathlib.Core.List.{map}
+use mathlib.Core.Bool.{true}
+use native.Mathlib.Omega.{arith}
+use lib.ListN.{length, drop}
+use lib.Seq.{sets, length-sets}
+use Rattle.transcript.specs.Entries.{bare, entry_bytes}
+use Rattle.transcript.specs.Sections.{entries_bytes}
+use Rattle.packets.specs.declared.Heard.{Heard}
+use Rattle.expansion.specs.Expansion.{all_heard, heard_entries}
+use Rattle.expansion.proofs.Hearing.{heard_so, not_full, stands-there, inside, heard-on, count-on, entry-stored, sealed}
+use borrow.Author.Rules.{rules}
+use Rattle.expansion.proofs.write_section.Given as goal
+
+abbrev pub invariant-loop-at : goal.invariant-loop-at
+invariant-loop-at l = (l.i ≤ 4096)
+    × ((l.at ≤ length l.b)
+    × ((length l.out ≡ length l.initial.out)
+    × ((all_heard (4096 - l.i) (drop l.at l.b) ≡ true)
+    × ((l.i + length (heard_entries (4096 - l.i) (drop l.at l.b)) ≡ length (heard_entries 4096 l.b))
+    × (sets l.out (16 * l.i) (entries_bytes (map bare (heard_entries (4096 - l.i) (drop l.at l.b)))) ≡ sets l.initial.out 0 (entries_bytes (map bare (heard_entries 4096 l.b))))))))
+
+abbrev pub decreases-loop-at : goal.decreases-loop-at
+decreases-loop-at l = length l.b - l.at

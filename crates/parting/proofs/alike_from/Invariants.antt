@@ -1,0 +1,18 @@
+-- `parting::alike_from` meets its contract. The loop's invariant: k, and how many of the entries from k on are alike, are how many of all are.
+-- Assumes nothing.
+use Prim.Native.Nat.{◌≤◌, ◌+◌, ◌-◌, ◌*◌}
+use mathlib.Core.Path.{◌≡◌, sym, ap₂, ◌∙◌}
+use native.Mathlib.Omega.{arith}
+use lib.ListN.{drop}
+use borrow.Author.Rules.{rules}
+use borrow.Author.Tests.{not-true, not-false}
+use Rattle.transcript.specs.Sections.{entries_in}
+use Rattle.parting.specs.Parting.{agree, alike}
+use Rattle.parting.proofs.Laws.{agree_end, agree_on, agree_start, agree_stop, both_below, entry_cut, left}
+use Rattle.parting.proofs.alike_from.Given as goal
+
+abbrev pub invariant-loop-k : goal.invariant-loop-k
+invariant-loop-k l = (l.k ≤ l.m) × ((l.k ≤ l.n) × (l.k + agree (left l.a l.m l.x l.k) (left l.b l.n l.y l.k) ≡ agree (entries_in l.m (drop l.a l.x)) (entries_in l.n (drop l.b l.y))))
+
+abbrev pub decreases-loop-k : goal.decreases-loop-k
+decreases-loop-k l = l.m - l.k
