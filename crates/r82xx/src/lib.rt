@@ -1,6 +1,9 @@
 // The tuner's record and its calls: src/tuners/r82xx.rs but for logging, clocks and `get_filters`, with our reload.
 // Document 01, "The record": "Each operation hands the record back with its answer"; a method takes the record by value and returns the next one,
 // the answer and how many entries were made. A record out of its ranges is refused 1 first, by every call.
+
+#![tactic(auto)]
+
 ghost use Rattle.std.specs.Prelude.{◌≡◌, true, cond, List, [], ℕ, ◌+◌, ◌≤◌, ◌<◌, length};
 ghost use Rattle.std.specs.Float.{binary32};
 ghost use Rattle.std.specs.Float.Ieee.{to_bits};

@@ -2,7 +2,7 @@
 -- Assumes nothing.
 use Prim.Native.Nat.{ℕ, ◌+◌, ◌-◌, ◌*◌, ◌≤◌, ◌<◌}
 use mathlib.Core.Path.{◌≡◌, refl, sym, ap, ap₂, ◌∙◌}
-use mathlib.Core.Bool.{Bool, true, false, cond, not, ◌&&◌, and_false, false≢true}
+use mathlib.Core.Bool.{Bool, true, false, cond, not, ◌&&◌, and-false, false≢true}
 use mathlib.Core.List.{List}
 use native.Mathlib.Omega.{arith}
 use borrow.Author.Tests.{ltb-true, ltb-false, le-ltb}
@@ -43,7 +43,7 @@ tells_alone address es r = go (counts r) refl
 
 tells_past : (address : ℕ) (es : List Entry) (r : ℕ) → 32 ≤ r → known_in address es r ≡ none
 unfolding known_in counts
-tells_past address es r h = rw (le-ltb r 32 h, and_false (leb 5 r))
+tells_past address es r h = rw (le-ltb r 32 h, and-false (leb 5 r))
 
 -- what two arrays hold after a walk from nothing is what is told of each register
 module _ (f : ℕ → Known) (alone : (r : ℕ) → newer none (f r) ≡ f r) (far : (r : ℕ) → 32 ≤ r → f r ≡ none)

@@ -2,7 +2,7 @@
 -- Assumes nothing.
 use Prim.Native.Nat.{ℕ, zero, suc, ◌+◌, ◌-◌, ◌*◌, ◌≤◌, ◌<◌}
 use mathlib.Core.Path.{◌≡◌, refl, sym, ap, ap₂, ◌∙◌}
-use mathlib.Core.Bool.{Bool, true, false, cond, ◌&&◌, and_false}
+use mathlib.Core.Bool.{Bool, true, false, cond, ◌&&◌, and-false}
 use mathlib.Core.List.{List, [], ◌∷◌, ◌++◌}
 use native.Mathlib.Omega.{arith}
 use borrow.Author.Tests.{eq-eqb, ne_eqb, eqb-true, eqb-false, leb-true, leb-false, le-leb, lt-leb, lt-ltb, le-ltb}
@@ -30,7 +30,7 @@ module _ (ms bs : List ℕ) (r mark byte : ℕ) where
     where
       go : (q : ℕ) (x : Bool) → eqb q r ≡ x → (only r (known_as mark byte) q).mark ≡ 0
       go q true e = rw (ap counts (eqb-true q r e) ∙ h)
-      go q false e = rw (e, and_false (counts q))
+      go q false e = rw (e, and-false (counts q))
 
   -- "bytes for registers outside 0x05..0x1f count for nothing"
   pub under : r < 5 → known_all ms bs ≡ over (only r (known_as mark byte)) 0 (known_all ms bs)
@@ -39,7 +39,7 @@ module _ (ms bs : List ℕ) (r mark byte : ℕ) where
 
   pub past : 31 < r → known_all ms bs ≡ over (only r (known_as mark byte)) 0 (known_all ms bs)
   unfolding counts
-  past h = outside (rw (le-ltb r 32 (omega arith), and_false (leb 5 r)))
+  past h = outside (rw (le-ltb r 32 (omega arith), and-false (leb 5 r)))
 
   module _ (low : 5 ≤ r) (high : r ≤ 31) (same : length ms ≡ length bs) where
     here : over (only r (known_as mark byte)) 0 (known_all ms bs) ≡ set (known_all ms bs) r (newer (known_as (get_or ms r 0) (get_or bs r 0)) (known_as mark byte))
@@ -47,7 +47,7 @@ module _ (ms bs : List ℕ) (r mark byte : ℕ) where
     here =
         let at : 0 + r ≡ r = omega arith in
         let said : only r (known_as mark byte) (0 + r) ≡ known_as mark byte = rw (at, le-leb 5 r low, lt-ltb r 32 (omega arith), eq-eqb r r refl) in
-        over_one (only r (known_as mark byte)) 0 r (known_all ms bs) (λ q a. rw (ne_eqb q r (λ z. a (omega arith)), and_false (counts q)))
+        over_one (only r (known_as mark byte)) 0 r (known_all ms bs) (λ q a. rw (ne_eqb q r (λ z. a (omega arith)), and-false (counts q)))
         ∙ ap₂ (λ (t u : Known). set (known_all ms bs) r (newer t u)) (told_at ms bs r same) said
 
     -- what is told already stays
@@ -75,7 +75,7 @@ unnamed : (address : ℕ) (e : Entry) (l : List Known) → ((q : ℕ) → names 
 unnamed address e l h = sym (over_quiet (known_in address (e ∷ [])) 0 l (λ q a b. ap (λ (t : Known). t.mark) (nothing q)))
   where
     nothing : (q : ℕ) → known_in address (e ∷ []) q ≡ none
-    nothing q = tells_one address e q ∙ rw (h q, and_false (counts q))
+    nothing q = tells_one address e q ∙ rw (h q, and-false (counts q))
 
 -- "Writes to other chips .. count for nothing"
 pub other_kind : (address : ℕ) (e : Entry) (l : List Known) → (e.kind ≡ 2 → ⊥) → l ≡ over (known_in address (e ∷ [])) 0 l
@@ -84,7 +84,7 @@ other_kind address e l h = unnamed address e l (λ q. rw (ne_eqb e.kind 2 h))
 
 pub other_chip : (address : ℕ) (e : Entry) (l : List Known) → (e.target ≡ address → ⊥) → l ≡ over (known_in address (e ∷ [])) 0 l
 unfolding names
-other_chip address e l h = unnamed address e l (λ q. rw (ne_eqb e.target address h, and_false (eqb e.kind 2)))
+other_chip address e l h = unnamed address e l (λ q. rw (ne_eqb e.target address h, and-false (eqb e.kind 2)))
 
 pub mark_some : (mark : ℕ) (ok : Bool) → mark ≡ mark_of ok → 0 < mark
 mark_some mark true h = omega arith
@@ -111,8 +111,8 @@ module _ (first n mark : ℕ) (bytes : List ℕ) (l : List Known) (j : ℕ) wher
   rest_end h = sym (over_quiet (rest first n mark bytes j) 0 l (λ q a b. go q (leb (first + j) q) refl))
     where
       go : (q : ℕ) (x : Bool) → leb (first + j) q ≡ x → (rest first n mark bytes j q).mark ≡ 0
-      go q true e = rw (e, le-ltb q (first + (n - 1)) (omega (arith, leb-true (first + j) q e)), and_false (counts q))
-      go q false e = rw (e, and_false (counts q))
+      go q true e = rw (e, le-ltb q (first + (n - 1)) (omega (arith, leb-true (first + j) q e)), and-false (counts q))
+      go q false e = rw (e, and-false (counts q))
 
   pub rest_turn : (next : List Known) (byte : ℕ) → j + 1 < n → 0 < mark → byte ≡ get_or bytes (j + 1) 0 → next ≡ over (only (first + j) (known_as mark byte)) 0 l
       → over (rest first n mark bytes (j + 1)) 0 next ≡ over (rest first n mark bytes j) 0 l

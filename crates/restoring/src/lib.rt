@@ -1,6 +1,9 @@
 // The restore list of sections end to end: where they left a chip's registers, as the fewest writes that say it. Ours: no file of the Rust has it.
 // Document 02, #110. What the list is, and what is true of it, stands in crate restore. One walk from the end of the slice judges every section and
 // gathers what is told of each register, newest first; the list is laid out beside it and lent last, so that what is refused leaves the lent bytes as they were.
+
+#![tactic(auto)]
+
 ghost use Rattle.std.specs.Prelude.{◌≡◌, true, [], ◌∷◌, ◌+◌, ◌-◌, ◌*◌, ◌≤◌, ◌<◌, length, drop};
 ghost use Rattle.std.proofs.lemmas.List.Edits.{sets};
 ghost use Rattle.transcript.specs.Sections.{all_fit, entries_in, section_bytes};

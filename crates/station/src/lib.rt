@@ -1,4 +1,7 @@
 // Which frequency a tuner's record stands for: the oscillator by the bytes last attempted, refused where one of them is in doubt.
+
+#![tactic(auto)]
+
 ghost use Rattle.std.specs.Prelude.{◌≡◌};
 ghost use Rattle.station.specs.Station.{oscillator_of, unsure};
 

@@ -1,0 +1,27 @@
+-- `r82xx::Tuner::set_bandwidth` meets its contract. Each return is one law of the definition, with what the calls before it ensure. Assumes nothing.
+use mathlib.Core.Path.{refl}
+use native.Mathlib.Omega.{arith}
+use Rattle.chip.proofs.Lists.{meant_count, meant_in}
+use Rattle.writes.specs.Lists.{bandwidth_updates}
+use Rattle.writes.proofs.Lists.{bandwidth_in}
+use Rattle.r82xx.proofs.Whole.{bracket_by}
+use Rattle.r82xx.specs.Orders.{result_of}
+use Rattle.refusals.specs.declared.Answer.TheVariants.{Done}
+use borrow.Author.Rules.{rules}
+use Rattle.r82xx.proofs.Tuner.set_bandwidth.Goals as goal
+
+pub operate-told-requires : goal.operate-told-requires
+operate-told-requires c =
+    let bandwidth-updates = c.bandwidth_updates-us in
+    let args = c.args in
+    let the-bandwidth-updates = bandwidth_updates args.hz in (
+      omega (arith, meant_count the-bandwidth-updates _ bandwidth-updates.ensures),
+      meant_in the-bandwidth-updates _ bandwidth-updates.ensures (bandwidth_in args.hz),
+    )
+
+pub returns : goal.returns
+unfolding result_of
+returns c =
+    let a = c.args in
+    bracket_by a.self a.self (Done 0) _ (bandwidth_updates a.hz) 1 a.outcomes.now a.self a.room.now _
+    c.bandwidth_updates-us.ensures refl c.operate-told.ensures

@@ -1,0 +1,30 @@
+-- `r82xx::Tuner::set_input_path` meets its contract. Each return is one law of the definition, with what the calls before it ensure. Assumes nothing.
+use mathlib.Core.Path.{sym, ◌∙◌}
+use native.Mathlib.Omega.{arith}
+use Rattle.writes.proofs.Lists.{path_meant_in, path_meant_two}
+use Rattle.r82xx.proofs.Tuned.{path_by, path_none, path_still}
+use Rattle.r82xx.specs.Orders.{result_of}
+use borrow.Author.Rules.{rules}
+use Rattle.r82xx.proofs.Tuner.set_input_path.Goals as goal
+
+pub returns-in_default : goal.returns-in_default
+unfolding result_of
+returns-in_default c =
+    c.refused.ensures _ ∙ path_none _ _ _ _ _ (sym c.path_of.ensures ∙ c.in_default.is)
+
+pub operate-told-requires : goal.operate-told-requires
+operate-told-requires c =
+    let path-updates = c.path_updates in
+    (omega (arith, path_meant_two c.in-Is.by _ path-updates.ensures), path_meant_in c.in-Is.by _ path-updates.ensures)
+
+pub returns-in-R820T : goal.returns-in-R820T
+unfolding result_of
+returns-in-R820T c =
+    path_still _ _ _ _ _ _ _ (sym c.path_of.ensures ∙ c.in-Is.is) c.in-R820T.is c.sound_answer.ensures
+
+pub returns-in-R828D : goal.returns-in-R828D
+unfolding result_of
+returns-in-R828D c =
+    let a = c.args in
+    path_by _ _ _ _ a.outcomes.now a.self a.room.now _ (sym c.path_of.ensures ∙ c.in-Is.is)
+    c.in-R828D.is c.path_updates.ensures c.operate-told.ensures

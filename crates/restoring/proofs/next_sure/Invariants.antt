@@ -1,0 +1,15 @@
+-- `restoring::next_sure` meets its contract. The loop's invariant: the next from here is the next from the start.
+-- Assumes nothing.
+use Prim.Native.Nat.{◌-◌}
+use mathlib.Core.Path.{◌≡◌, refl, sym, ◌∙◌}
+use native.Mathlib.Omega.{arith}
+use borrow.Author.Rules.{rules}
+use Rattle.restoring.specs.Standing.{next_sure, sure_of}
+use Rattle.restoring.proofs.Laying.{sure_found, sure_none, sure_on}
+use Rattle.restoring.proofs.next_sure.Given as goal
+
+abbrev pub invariant-loop-r : goal.invariant-loop-r
+invariant-loop-r l = next_sure (sure_of l.marks) (32 - l.r) l.r ≡ next_sure (sure_of l.marks) (32 - l.i) l.i
+
+abbrev pub decreases-loop-r : goal.decreases-loop-r
+decreases-loop-r l = 32 - l.r

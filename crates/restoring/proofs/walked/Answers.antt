@@ -1,0 +1,83 @@
+-- `restoring::walked` meets its contract. The loop's invariant: what stands before `end` is sections end to end exactly where the slice is, and its entries, over what is told by then, are all entries over what was told.
+-- Assumes nothing.
+use Prim.Native.Nat.{◌≤◌, ◌-◌}
+use mathlib.Core.Path.{◌≡◌, refl, sym, ap, ◌∙◌}
+use mathlib.Core.List.{List}
+use native.Mathlib.Omega.{arith}
+use borrow.Author.Rules.{rules}
+use Prim.Native.Nat.{ℕ}
+use lib.ListN.{length, take}
+use Rattle.sections.specs.Chain.{chain, chain_entries}
+use Rattle.restoring.specs.Standing.{over, known_in, known_all}
+use Rattle.restoring.proofs.Backward.{all_sections, all_told, begin, chain-on, few, fit, lower, not_both, refused, stopped, told-on, within}
+use Rattle.restoring.proofs.walked.Goals as goal
+
+pub loop-end-init : goal.loop-end-init
+loop-end-init c =
+    let a = c.args in
+    let all = begin a.s.now in (
+      omega arith,
+      (
+        omega arith,
+        (omega arith, (ap chain all, ap (λ (l : List ℕ). over (known_in a.address (chain_entries l)) 0 (known_all a.marks.now a.sent.now)) all)),
+      ),
+    )
+
+pub returns-in_default : goal.returns-in_default
+returns-in_default c =
+    let l = c.loop-end in
+    let s = c.args.s.now in
+    let bad =
+    stopped s (take (l.end - 0) s) l.end refl (omega arith) l.invariant.0 l.invariant.1.1.1.0
+    (sym c.in_default.is ∙ c.read_section.ensures) in
+    (refused s bad, not_both s bad)
+
+pub noted_all-requires : goal.noted_all-requires
+noted_all-requires c =
+    let l = c.loop-end in
+    let s = c.args.s.now in
+    let p = take (l.end - 0) s in
+    let read = sym c.in-Read.is ∙ c.read_section.ensures in (
+      few s p l.end refl (omega arith) l.invariant.0 _ _ read,
+      within s p l.end refl (omega arith) l.invariant.0 _ _ read,
+      fit s p l.end refl (omega arith) l.invariant.0 _ _ read,
+      (search rules, search rules),
+    )
+
+pub loop-end-smaller : goal.loop-end-smaller
+loop-end-smaller c =
+    let l = c.loop-end in
+    let s = c.args.s.now in
+    let p = take (l.end - 0) s in
+    lower s p l.end refl (omega arith) l.invariant.0 _ _ (sym c.in-Read.is ∙ c.read_section.ensures)
+
+pub loop-end-preserved : goal.loop-end-preserved
+loop-end-preserved c =
+    let l = c.loop-end in
+    let a = c.args in
+    let s = a.s.now in
+    let p = take (l.end - 0) s in
+    let read = sym c.in-Read.is ∙ c.read_section.ensures in
+    let less = lower s p l.end refl (omega arith) l.invariant.0 _ _ read in (
+      omega (arith, less),
+      (
+        search rules,
+        (
+          search rules,
+          (
+            chain-on s p l.end refl (omega arith) l.invariant.0 _ _ read ∙ l.invariant.1.1.1.0,
+            told-on s p l.end refl (omega arith) l.invariant.0 _ _ read a.address (known_all l.marks l.sent) _ c.noted_all.ensures
+                ∙ l.invariant.1.1.1.1,
+          ),
+        ),
+      ),
+    )
+
+pub returns : goal.returns
+returns c =
+    let l = c.loop-end in
+    let a = c.args in
+    let s = a.s.now in (
+      all_sections s l.end (omega arith) l.invariant.1.1.1.0,
+      λ h. all_told s l.end (omega arith) l.invariant.1.1.1.0 a.address (known_all l.marks l.sent) ∙ l.invariant.1.1.1.1,
+    )

@@ -1,0 +1,23 @@
+-- `restoring::walked` meets its contract. The loop's invariant: what stands before `end` is sections end to end exactly where the slice is, and its entries, over what is told by then, are all entries over what was told.
+-- Assumes nothing.
+use Prim.Native.Nat.{◌≤◌, ◌-◌}
+use mathlib.Core.Path.{◌≡◌, refl, sym, ap, ◌∙◌}
+use mathlib.Core.List.{List}
+use native.Mathlib.Omega.{arith}
+use borrow.Author.Rules.{rules}
+use Prim.Native.Nat.{ℕ}
+use lib.ListN.{length, take}
+use Rattle.sections.specs.Chain.{chain, chain_entries}
+use Rattle.restoring.specs.Standing.{over, known_in, known_all}
+use Rattle.restoring.proofs.Backward.{all_sections, all_told, begin, chain-on, few, fit, lower, not_both, refused, stopped, told-on, within}
+use Rattle.restoring.proofs.walked.Given as goal
+
+abbrev pub invariant-loop-end : goal.invariant-loop-end
+invariant-loop-end l = (l.end ≤ length l.s)
+    × ((length l.marks ≡ 32)
+    × ((length l.sent ≡ 32)
+    × ((chain (take l.end l.s) ≡ chain l.s)
+    × (over (known_in l.address (chain_entries (take l.end l.s))) 0 (known_all l.marks l.sent) ≡ over (known_in l.address (chain_entries l.s)) 0 (known_all l.initial.marks l.initial.sent)))))
+
+abbrev pub decreases-loop-end : goal.decreases-loop-end
+decreases-loop-end l = l.end

@@ -1,0 +1,25 @@
+-- `restoring::write_list` meets its contract. The loop's invariant: the writes of the runs that are left, stored after those that are stored, leave what all of them leave; then the trailer.
+-- Assumes nothing.
+use Prim.Native.Nat.{◌<◌, ◌+◌, ◌-◌, ◌*◌}
+use mathlib.Core.Path.{◌≡◌, refl, sym, ap, ◌∙◌}
+use mathlib.Core.Bool.{true}
+use mathlib.Core.List.{List, map}
+use native.Mathlib.Omega.{arith}
+use borrow.Author.Rules.{rules}
+use lib.ListN.{length}
+use lib.Seq.{sets}
+use Rattle.transcript.specs.Sections.{entries_bytes}
+use Rattle.restore.specs.Restore.{Run, run_of, runs, write_of}
+use Rattle.restoring.specs.Standing.{held_of, sure_of}
+use Rattle.restoring.proofs.Laying.{few_runs, laid_all, laid_on, later, left, none_above, none_left, one-run, run-size, skipped, stands_sure}
+use Rattle.restoring.proofs.write_list.Given as goal
+
+abbrev pub invariant-loop-i : goal.invariant-loop-i
+invariant-loop-i l = (length l.room ≡ length l.initial.room)
+    × ((l.i < 32 → sure_of l.marks l.i ≡ true)
+    × ((l.k + length (left (sure_of l.marks) l.i) ≡ length (runs (sure_of l.marks) 32 0))
+    × (sets l.room (16 * l.k) (entries_bytes (map (write_of l.address (held_of l.marks l.sent)) (left (sure_of l.marks) l.i)))
+    ≡ sets l.initial.room 0 (entries_bytes (map (write_of l.address (held_of l.marks l.sent)) (runs (sure_of l.marks) 32 0))))))
+
+abbrev pub decreases-loop-i : goal.decreases-loop-i
+decreases-loop-i l = 32 - l.i

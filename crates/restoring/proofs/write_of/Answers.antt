@@ -1,0 +1,12 @@
+-- `restoring::write_of` meets its contract: the entry is the definition's, byte by byte.
+-- Assumes nothing.
+use borrow.Author.Rules.{rules}
+use Rattle.restoring.specs.Standing.{held_of}
+use Rattle.restoring.proofs.Laying.{write_told}
+use Rattle.restoring.proofs.write_of.Goals as goal
+
+pub returns : goal.returns
+returns c =
+    let a = c.args in
+    write_told a.address (held_of a.marks.now a.sent.now) a.i a.m c.byte_at.ensures c.byte_at-2.ensures
+    c.byte_at-3.ensures c.byte_at-4.ensures c.byte_at-5.ensures c.byte_at-6.ensures c.byte_at-7.ensures
