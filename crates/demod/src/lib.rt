@@ -1,6 +1,9 @@
 // The demodulator's calls, from src/demod.rs, over a script of outcomes and a room for the entries. Document 01, "Demodulator",
 // and "Refusal numbers" for 3 and 4; document 02, #103, for 13. They touch no record and read nothing; a call is a list of accesses, and the definitions of
 // specs/Programs.antt have the same lists. `X_steps` and `ddc` are parts that a larger call is made of.
+
+#![tactic(auto)]
+
 ghost use Rattle.std.specs.Prelude.{◌++◌, ◌≡◌, ◌+◌, ◌*◌, ◌≤◌, ◌<◌, length, replicate, take};
 ghost use Rattle.chip.specs.declared.Chip.{Chip};
 ghost use Rattle.chip.specs.InCode.{in_room, on_log, on_room};

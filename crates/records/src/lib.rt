@@ -1,6 +1,9 @@
 // The tuner's and the driver's records as bytes. Ours: no file of the Rust has it. Document 01, "Modules, leaves first": "Records cross there as
 // bytes. A given record out of its ranges .., or bytes that no record is written to, is refused 1 first". Fields in document 01's order, numbers low
 // byte first; a record is read from exactly the bytes that one is written to (proofs/Exact.antt).
+
+#![tactic(auto)]
+
 ghost use Rattle.std.specs.Prelude.{◌≡◌, map, ◌+◌, ◌≤◌, ◌<◌, length, take, drop};
 ghost use Rattle.std.proofs.lemmas.List.Edits.{sets};
 ghost use Rattle.wire.specs.Bytes.{le_bytes};

@@ -1,6 +1,9 @@
 // What a C host is told: an answer and an entry count as plain numbers in a struct. Ours: the Rust answers `Result`s.
 // Document 01, "Modules, leaves first": "callable from a C or Rust host by numbers and byte slices"; "Language forms by place": "When an answer is an
 // enum, the promises use a definition that gives this paper's number and values for each case of the enum."
+
+#![tactic(auto)]
+
 ghost use Rattle.std.specs.Prelude.{◌≡◌, ◌%◌};
 ghost use Rattle.chip.specs.Entries.{lock_tries};
 ghost use Rattle.reply.specs.Replies.{parts_of, reply_of, tuned_of};

@@ -4,21 +4,11 @@ use Rattle.demod.specs.Programs.{zero_if_steps}
 use Rattle.chip.specs.Courses.{left_by}
 use Rattle.device.specs.Calls.{free_result}
 use borrow.Author.Rules.{rules}
-use Rattle.demod.proofs.set_tuner_zero_if.Statement.{statement}
-use Rattle.demod.proofs.set_tuner_zero_if.Tie as tie
 use Rattle.demod.proofs.set_tuner_zero_if.Reads as reads
 use Rattle.demod.proofs.set_tuner_zero_if.Lts as lts
 use Rattle.device.proofs.perform.Reads as perform-reads
+use Rattle.demod.proofs.set_tuner_zero_if.Goals as goal
 
-perform-requires : tie.Need-perform-requires
-perform-requires c κs = search rules
-
-same_length : tie.Need-same-length
-same_length c = search rules
-
-returns : tie.Need-returns
+pub returns : goal.returns
 unfolding free_result left_by access_step zero_if_steps
-returns c = c.before.before.perform.ensures
-
-pub set-tuner-zero-if-spec : {M : Type 1} → statement M
-set-tuner-zero-if-spec = tie.close (tie.spec perform-requires same_length returns)
+returns c = c.perform.ensures

@@ -1,0 +1,19 @@
+-- `demod::power_steps` meets its contract. Assumes nothing.
+use native.Mathlib.Omega.{arith}
+use lib.ListN.{replicate}
+use Rattle.chip.specs.InCode.{in_room}
+use Rattle.device.specs.Accesses.{access_step}
+use Rattle.demod.specs.Programs.{power_steps, upward}
+use Rattle.chip.proofs.Laws.{then}
+use borrow.Author.Rules.{rules}
+use Rattle.demod.proofs.power_steps.Reads as reads
+use Rattle.demod.proofs.power_steps.Lts as lts
+use Rattle.demod.proofs.write_upward.Reads as write-upward-reads
+use Rattle.device.proofs.access_all.Reads as access-all-reads
+use Rattle.demod.proofs.power_steps.Goals as goal
+
+pub returns : goal.returns
+unfolding access_step power_steps
+returns c =
+    let write-upward = c.write_upward in
+    let access-all = c.access_all-on in record { room_after = then in_room _ power_steps (upward 0x16 (replicate 6 0)) _ _ _ access-all.ensures.room_after write-upward.ensures.room_after; bounds = omega (arith, write-upward.ensures.bounds, access-all.ensures.bounds) }

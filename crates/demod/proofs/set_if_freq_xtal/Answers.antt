@@ -1,0 +1,21 @@
+-- `demod::set_if_freq_xtal` meets its contract: refused for reference 0, or the call. Assumes nothing.
+use native.Mathlib.Omega.{arith}
+use borrow.Author.Tests.{eq-eqb, ne_eqb}
+use Rattle.demod.specs.Programs.{if_steps}
+use Rattle.device.proofs.Programs.{rows_meant}
+use Rattle.device.proofs.Free.{argument_bad, argument_good}
+use mathlib.Core.Path.{◌∙◌}
+use borrow.Author.Rules.{rules}
+use Rattle.demod.proofs.set_if_freq_xtal.Reads as reads
+use Rattle.demod.proofs.set_if_freq_xtal.Lts as lts
+use Rattle.demod.proofs.if_rows.Reads as if-rows-reads
+use Rattle.device.proofs.perform.Reads as perform-reads
+use Rattle.demod.proofs.set_if_freq_xtal.Goals as goal
+
+pub returns-then-xtal-eq0 : goal.returns-then-xtal-eq0
+returns-then-xtal-eq0 c = c.refused.ensures _ ∙ argument_bad _ _ _ _ _ _ _ 4 (rw (eq-eqb _ 0 c.if-xtal-eq0.true)) (λ e. omega arith)
+
+pub returns : goal.returns
+unfolding if_steps
+returns c =
+    argument_good _ _ _ _ _ _ _ _ _ (rw (ne_eqb _ 0 c.if-xtal-eq0.false)) (rows_meant 3 _ _ c.if_rows-rows.ensures) c.perform.ensures
