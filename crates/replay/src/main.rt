@@ -3,6 +3,8 @@
 // To add a call: one function in its group's file, which reads the arguments and the given parts off the case (layout), calls the port, and ends in
 // `compare::agrees` (memory is lent: arrays of 0xa5, of the case's lengths) or `compare::valued` (answers by value); and one arm of `judge`.
 // What has no arm is not there yet. Beside that each case's section is parted from itself and from an empty one (parted). Same is proved to mean that all that came back agrees with the case: specs/Agreement, Agrees and Valued.
+#![tactic(auto)]
+
 mod compare;
 mod drivers;
 mod filter;
@@ -15,6 +17,8 @@ mod steps;
 mod tuners;
 
 use compare::Verdict;
+use std::io;
+use std::io::{ErrorKind, Read};
 
 // The function that judges a call, by its number.
 fn judge(c: &[u8]) -> Verdict {
@@ -53,72 +57,101 @@ fn case_of(b: &[u8; 2048], n: usize) -> &[u8] {
     layout::cut(b, 0, n)
 }
 
+// Fills `b` from the input. False where the input ends before that.
+fn filled<R: Read>(input: &mut R, b: &mut [u8]) -> io::Result<bool> {
+    match input.read_exact(b) {
+        Ok(()) => Ok(true),
+        Err(e) => {
+            if e.kind() == ErrorKind::UnexpectedEof {
+                return Ok(false);
+            }
+            Err(e)
+        }
+    }
+}
+
 // One case: read, judged, counted. False where the input is no list of cases any more. No loop, and fresh arrays: so it has no proof file.
-fn step(list: u64, i: u64, tally: &mut [u64; 192]) -> bool {
+fn step<R: Read>(
+    rt: &impl Print,
+    input: &mut R,
+    list: u64,
+    i: u64,
+    tally: &mut [u64; 192],
+) -> io::Result<bool> {
     let mut head = [0u8; 4];
-    if io::read_full(0, &mut head) != 4 {
-        return false;
+    if !filled(input, &mut head)? {
+        return Ok(false);
     }
     let n = layout::four(&head, 0) as usize;
     if n < 72 || 2048 < n {
-        return false;
+        return Ok(false);
     }
     let mut b = [0u8; 2048];
-    if io::read_full(0, &mut b[4..n]) != n - 4 {
-        return false;
+    if !filled(input, &mut b[4..n])? {
+        return Ok(false);
     }
     let c = case_of(&b, n);
     if !layout::whole(c) {
-        return false;
+        return Ok(false);
     }
     let call = layout::one(c, layout::CALL);
     let v = parted::also(c, judge(c));
-    report::count(list, i, call, v, tally);
-    true
+    report::count(rt, list, i, call, v, tally)?;
+    Ok(true)
 }
 
-fn starts() -> bool {
+fn starts<R: Read>(input: &mut R) -> io::Result<bool> {
     let mut mark = [0u8; 8];
-    io::read_full(0, &mut mark);
-    check::same(&mark, b"PASEVEC1")
+    if !filled(input, &mut mark)? {
+        return Ok(false);
+    }
+    Ok(check::same(&mark, b"PASEVEC1"))
 }
 
 // How many cases a list has. Where the input ends, one: which `step` then does not find.
-fn cases() -> u64 {
+fn cases<R: Read>(input: &mut R) -> io::Result<u64> {
     let mut head = [0u8; 4];
-    if io::read_full(0, &mut head) != 4 {
-        return 1;
+    if !filled(input, &mut head)? {
+        return Ok(1);
     }
-    layout::four(&head, 0)
+    Ok(layout::four(&head, 0))
 }
 
 // One of the three lists.
-fn walk(list: u64, tally: &mut [u64; 192]) -> bool {
-    if !starts() {
-        return false;
+fn walk<R: Read>(
+    rt: &impl Print,
+    input: &mut R,
+    list: u64,
+    tally: &mut [u64; 192],
+) -> io::Result<bool> {
+    if !starts(input)? {
+        return Ok(false);
     }
-    let n = cases();
-    let mut i = 0;
-    while i < n {
-        if !step(list, i, tally) {
-            return false;
+    let n = cases(input)?;
+    for i in 0..n {
+        if !step(rt, input, list, i, tally)? {
+            return Ok(false);
         }
-        i += 1;
     }
-    true
+    Ok(true)
 }
 
-fn ended() -> bool {
+fn ended<R: Read>(input: &mut R) -> io::Result<bool> {
     let mut more = [0u8; 1];
-    io::read_full(0, &mut more) == 0
+    Ok(!filled(input, &mut more)?)
 }
 
-fn main() {
+fn main(rt: HostRuntime) -> io::Result<()> {
     let mut tally = [0u64; 192];
-    let whole = walk(1, &mut tally) && walk(2, &mut tally) && walk(3, &mut tally) && ended();
-    report::rows(&tally);
-    report::totals(&tally);
+    let mut input = rt.reader();
+    let whole = walk(&rt, &mut input, 1, &mut tally)?
+        && walk(&rt, &mut input, 2, &mut tally)?
+        && walk(&rt, &mut input, 3, &mut tally)?
+        && ended(&mut input)?;
+    report::rows(&rt, &tally)?;
+    report::totals(&rt, &tally)?;
     if !whole {
-        io::write_all(1, b"the input is not three whole lists\n");
+        println!(rt; "the input is not three whole lists")?;
     }
+    Ok(())
 }

@@ -3,78 +3,78 @@ ghost use Rattle.std.specs.Prelude.{◌<◌};
 
 use crate::compare;
 use compare::Verdict;
+use std::io;
 
-fn text(s: &[u8]) {
-    io::write_all(1, s);
+fn text(rt: &impl Print, s: &str) -> io::Result<()> {
+    rt.print(s)
 }
 
-fn decimal(n: u64) {
-    io::print_decimal(1, n);
+fn decimal(rt: &impl Print, n: u64) -> io::Result<()> {
+    rt.print(n)
 }
 
 // Calls 1 to 20: over the tuner's and the driver's records.
-fn record_name(call: u64) {
+fn record_name(rt: &impl Print, call: u64) -> io::Result<()> {
     match call {
-        1 => text(b"fresh tuner"),
-        2 => text(b"initialise"),
-        3 => text(b"tune"),
-        4 => text(b"gain in dB"),
-        5 => text(b"gain by index"),
-        6 => text(b"bandwidth"),
-        7 => text(b"IF"),
-        8 => text(b"input path"),
-        9 => text(b"reload"),
-        11 => text(b"notch"),
-        13 => text(b"get gain"),
-        14 => text(b"get IF"),
-        15 => text(b"gain table"),
-        16 => text(b"fresh driver"),
-        18 => text(b"corrected reference"),
-        19 => text(b"sample rate"),
-        20 => text(b"board path"),
-        _ => text(b"no such call"),
+        1 => text(rt, "fresh tuner"),
+        2 => text(rt, "initialise"),
+        3 => text(rt, "tune"),
+        4 => text(rt, "gain in dB"),
+        5 => text(rt, "gain by index"),
+        6 => text(rt, "bandwidth"),
+        7 => text(rt, "IF"),
+        8 => text(rt, "input path"),
+        9 => text(rt, "reload"),
+        11 => text(rt, "notch"),
+        13 => text(rt, "get gain"),
+        14 => text(rt, "get IF"),
+        15 => text(rt, "gain table"),
+        16 => text(rt, "fresh driver"),
+        18 => text(rt, "corrected reference"),
+        19 => text(rt, "sample rate"),
+        20 => text(rt, "board path"),
+        _ => text(rt, "no such call"),
     }
 }
 
 // Calls 21 to 40: the demodulator, GPIO, and what takes no record. 41 and 42: what document 02 added. From 43 on: which station a receiver stands on, ours.
-fn other_name(call: u64) {
+fn other_name(rt: &impl Print, call: u64) -> io::Result<()> {
     match call {
-        21 => text(b"init_baseband"),
-        22 => text(b"power_on"),
-        23 => text(b"set_tuner_low_if"),
-        24 => text(b"set_tuner_zero_if"),
-        25 => text(b"reset_demod"),
-        26 => text(b"write_reg_direct"),
-        27 => text(b"set_if_freq_xtal"),
-        28 => text(b"set_sample_rate_xtal"),
-        29 => text(b"start_streaming"),
-        30 => text(b"stop_streaming"),
-        31 => text(b"set_gpio_output"),
-        32 => text(b"set_gpio_bit"),
-        33 => text(b"plan_tuning"),
-        34 => text(b"if_freq_regs"),
-        35 => text(b"resample_regs"),
-        36 => text(b"FIR packer"),
-        37 => text(b"FIR unpacker"),
-        38 => text(b"section reader"),
-        39 => text(b"plan_pll"),
-        40 => text(b"plan_pll_by_worksheet"),
-        41 => text(b"set_ppm of both"),
-        42 => text(b"board-level tune"),
-        43 => text(b"oscillator"),
-        44 => text(b"centre"),
-        _ => text(b"no such call"),
+        21 => text(rt, "init_baseband"),
+        22 => text(rt, "power_on"),
+        23 => text(rt, "set_tuner_low_if"),
+        24 => text(rt, "set_tuner_zero_if"),
+        25 => text(rt, "reset_demod"),
+        26 => text(rt, "write_reg_direct"),
+        27 => text(rt, "set_if_freq_xtal"),
+        28 => text(rt, "set_sample_rate_xtal"),
+        29 => text(rt, "start_streaming"),
+        30 => text(rt, "stop_streaming"),
+        31 => text(rt, "set_gpio_output"),
+        32 => text(rt, "set_gpio_bit"),
+        33 => text(rt, "plan_tuning"),
+        34 => text(rt, "if_freq_regs"),
+        35 => text(rt, "resample_regs"),
+        36 => text(rt, "FIR packer"),
+        37 => text(rt, "FIR unpacker"),
+        38 => text(rt, "section reader"),
+        39 => text(rt, "plan_pll"),
+        40 => text(rt, "plan_pll_by_worksheet"),
+        41 => text(rt, "set_ppm of both"),
+        42 => text(rt, "board-level tune"),
+        43 => text(rt, "oscillator"),
+        44 => text(rt, "centre"),
+        _ => text(rt, "no such call"),
     }
 }
 
-fn name(call: u64) {
-    decimal(call);
-    text(b" ");
+fn name(rt: &impl Print, call: u64) -> io::Result<()> {
+    decimal(rt, call)?;
+    text(rt, " ")?;
     if call <= 20 {
-        record_name(call);
-        return;
+        return record_name(rt, call);
     }
-    other_name(call);
+    other_name(rt, call)
 }
 
 fn place(v: Verdict) -> usize
@@ -101,14 +101,14 @@ fn column(tally: &[u64; 192], k: usize) -> u64
 }
 
 // A case that differs, so that a person finds it: its list and its number there, both from docs/VECTORS.md.
-fn differs(list: u64, i: u64, call: u64) {
-    text(b"differs: list ");
-    decimal(list);
-    text(b" case ");
-    decimal(i);
-    text(b" call ");
-    name(call);
-    text(b"\n");
+fn differs(rt: &impl Print, list: u64, i: u64, call: u64) -> io::Result<()> {
+    text(rt, "differs: list ")?;
+    decimal(rt, list)?;
+    text(rt, " case ")?;
+    decimal(rt, i)?;
+    text(rt, " call ")?;
+    name(rt, call)?;
+    text(rt, "\n")
 }
 
 // A call number past the table counts as 0, which is no call.
@@ -122,46 +122,58 @@ fn row_of(call: u64) -> usize
 }
 
 // Counts a verdict, and names the first cases that differ.
-pub fn count(list: u64, i: u64, call: u64, v: Verdict, tally: &mut [u64; 192]) {
+pub fn count(
+    rt: &impl Print,
+    list: u64,
+    i: u64,
+    call: u64,
+    v: Verdict,
+    tally: &mut [u64; 192],
+) -> io::Result<()> {
     let k = place(v);
     let at = 3 * row_of(call) + k;
     tally[at] = std::num::wrapping_add_u64(tally[at], 1);
     if k == 1 && column(tally, 1) <= 10 {
-        differs(list, i, call);
+        differs(rt, list, i, call)?;
     }
+    Ok(())
 }
 
-fn counts(same: u64, differ: u64, later: u64) {
-    decimal(same);
-    text(b" same, ");
-    decimal(differ);
-    text(b" differ, ");
-    decimal(later);
-    text(b" not there yet\n");
+fn counts(rt: &impl Print, same: u64, differ: u64, later: u64) -> io::Result<()> {
+    decimal(rt, same)?;
+    text(rt, " same, ")?;
+    decimal(rt, differ)?;
+    text(rt, " differ, ")?;
+    decimal(rt, later)?;
+    text(rt, " not there yet\n")
 }
 
-fn row(tally: &[u64; 192], call: usize)
+fn row(rt: &impl Print, tally: &[u64; 192], call: usize) -> io::Result<()>
     requires { call < 64 }
 {
-    name(call as u64);
-    text(b": ");
-    counts(tally[3 * call], tally[3 * call + 1], tally[3 * call + 2]);
+    name(rt, call as u64)?;
+    text(rt, ": ")?;
+    counts(
+        rt,
+        tally[3 * call],
+        tally[3 * call + 1],
+        tally[3 * call + 2],
+    )
 }
 
-pub fn rows(tally: &[u64; 192]) {
-    let mut call = 1;
-    while call < 45 {
-        row(tally, call);
-        call += 1;
+pub fn rows(rt: &impl Print, tally: &[u64; 192]) -> io::Result<()> {
+    for call in 1..45 {
+        row(rt, tally, call)?;
     }
+    Ok(())
 }
 
-pub fn totals(tally: &[u64; 192]) {
+pub fn totals(rt: &impl Print, tally: &[u64; 192]) -> io::Result<()> {
     let same = column(tally, 0);
     let differ = column(tally, 1);
     let later = column(tally, 2);
     let cases = std::num::wrapping_add_u64(std::num::wrapping_add_u64(same, differ), later);
-    decimal(cases);
-    text(b" cases: ");
-    counts(same, differ, later);
+    decimal(rt, cases)?;
+    text(rt, " cases: ")?;
+    counts(rt, same, differ, later)
 }
