@@ -6,4 +6,3 @@ pub mod Rates
 pub mod Trues
 pub mod Lengths
 pub mod Corrections
-pub mod Lent

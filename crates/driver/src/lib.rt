@@ -1,6 +1,9 @@
 // The driver's record and its calls: `corrected_xtal_hz`, `set_sample_rate` and `apply_input_path` of src/lib.rs, with our making and the one correction.
 // Document 01, "The record": "The driver's record holds board, nominal .., ppm, frequency and rate, all given at its making"; "`set_sample_rate` takes
 // both records". Document 02, #104: the true rate beside the rate asked; #109: one correction of both records. `sample_rate_steps` and `path_steps` are what a larger call holds: they look at no board.
+
+#![tactic(auto)]
+
 ghost use Rattle.std.specs.Prelude.{◌≡◌, cond, eqb, [], ◌+◌, ◌*◌, ◌≤◌, ◌<◌, length};
 ghost use Rattle.bands.specs.Tables.{plan_by};
 ghost use Rattle.board.specs.Numbers.{board_of};

@@ -5,36 +5,25 @@ use mir.Facts.{to_z-of_z}
 use Rattle.driver.specs.InCode.{correction_refusal}
 use Rattle.driver.proofs.Corrections.{ppm-changes, ppm-stays}
 use borrow.Author.Rules.{rules}
-use Rattle.driver.proofs.kept_ppm.Statement.{statement}
-use Rattle.driver.proofs.kept_ppm.Tie as tie
 use Rattle.driver.proofs.kept_ppm.Reads as reads
 use Rattle.driver.proofs.kept_ppm.Lts as lts
 use Rattle.driver.proofs.correction_refusal.Reads as correction-refusal-reads
+use Rattle.driver.proofs.kept_ppm.Goals as goal
 
-correction-refusal-requires : tie.Need-correction-refusal-requires
-correction-refusal-requires c κs = search rules
-
-returns : tie.Need-returns
-returns c =
-    let at-correction-refusal = c.before in
-    let start = at-correction-refusal.before in
-    let a = start.args in
-    let f = start.ranges in
+pub returns-then-correction_refusal-ne0 : goal.returns-then-correction_refusal-ne0
+returns-then-correction_refusal-ne0 c =
+    let a = c.args in
+    let f = c.ranges in
     to_z-of_z f.had
     ∙ ppm-stays a.nominal a.corrected a.other a.had a.ppm _
-    (at-correction-refusal.correction-refusal.ensures
+    (c.correction_refusal.ensures
     ∙ (λ i. correction_refusal a.nominal a.corrected a.other (to_z-of_z f.had i) (to_z-of_z f.ppm i))) (λ z. omega arith)
 
-returns-2 : tie.Need-returns-2
-returns-2 c =
-    let at-correction-refusal = c.before in
-    let start = at-correction-refusal.before in
-    let a = start.args in
-    let f = start.ranges in
+pub returns : goal.returns
+returns c =
+    let a = c.args in
+    let f = c.ranges in
     to_z-of_z f.ppm
     ∙ ppm-changes a.nominal a.corrected a.other a.had a.ppm _
-    (at-correction-refusal.correction-refusal.ensures
+    (c.correction_refusal.ensures
     ∙ (λ i. correction_refusal a.nominal a.corrected a.other (to_z-of_z f.had i) (to_z-of_z f.ppm i))) (omega arith)
-
-pub kept-ppm-spec : {M : Type 1} → statement M
-kept-ppm-spec = tie.close (tie.spec correction-refusal-requires returns returns-2)
