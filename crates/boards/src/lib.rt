@@ -1,5 +1,8 @@
 // The board-level tune: a board's table gives the plan, then the notch, the board's input path, the tuning and the DDC sync byte. Ours, in place of
 // `Driver::set_frequency` of src/lib.rs, whose order is another. Document 02, #113.
+
+#![tactic(auto)]
+
 ghost use Rattle.std.specs.Prelude.{◌≡◌, cond, ◌+◌, ◌*◌, ◌≤◌, ◌<◌, length};
 ghost use Rattle.chip.specs.Calls.{called, performed, lock_tries_in};
 ghost use Rattle.chip.specs.Entries.{lock_tries};

@@ -1,5 +1,8 @@
 // What frequency the middle of a recording is: the oscillator less the tuner's IF, with the shift of the band that holds the driver's frequency taken back.
 // Of no file of the Rust, which never asks. It reads the two records and a table; what the demodulator was told stands in neither.
+
+#![tactic(auto)]
+
 ghost use Rattle.std.specs.Prelude.{◌≡◌, ◌+◌};
 ghost use Rattle.centre.specs.Centre.{centre_at, centre_by, centre_of, less};
 

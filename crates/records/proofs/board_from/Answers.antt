@@ -1,0 +1,12 @@
+-- `records::board_from` meets its contract: 1 is V4.
+-- Assumes nothing.
+use borrow.Author.Tests.{eq-eqb, ne_eqb}
+use Rattle.records.proofs.board_from.Goals as goal
+
+pub returns-then-n-eq1 : goal.returns-then-n-eq1
+returns-then-n-eq1 c =
+    simp (eq-eqb _ _ c.if-n-eq1.true)
+
+pub returns : goal.returns
+returns c =
+    simp (ne_eqb _ _ c.if-n-eq1.false)

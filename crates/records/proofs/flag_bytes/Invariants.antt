@@ -1,0 +1,19 @@
+-- `records::flag_bytes` meets its contract. The loop's invariant: storing the bytes that are left gives all of them.
+-- Assumes nothing.
+use Prim.Native.Nat.{◌+◌, ◌-◌}
+use mathlib.Core.Path.{◌≡◌, refl, ap, ◌∙◌}
+use native.Mathlib.Omega.{arith}
+use mathlib.Core.Bool.{false}
+use lib.ListN.{length, drop, replicate, set}
+use borrow.Author.Rules.{rules}
+use mathlib.Core.List.{map}
+use lib.Seq.{sets}
+use Rattle.records.specs.Fields.{flag_byte}
+use Rattle.records.proofs.Turns.{store_turn, store_start, store_end}
+use Rattle.records.proofs.flag_bytes.Given as goal
+
+abbrev pub invariant-loop-i : goal.invariant-loop-i
+invariant-loop-i l = (length l.flags ≡ 27) × ((length l.image ≡ 27) × (sets l.image l.i (map flag_byte (drop l.i l.flags)) ≡ map flag_byte l.flags))
+
+abbrev pub decreases-loop-i : goal.decreases-loop-i
+decreases-loop-i l = 27 - l.i
