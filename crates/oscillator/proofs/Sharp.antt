@@ -37,18 +37,10 @@ turn_exact f n q w s quotient weight worth early some e = go (ltb 1 s.rest) refl
     go true x false y = rw (e.going, x, quotient, y) (record { said = e.said; small = ltb-false q s.rest y; going = refl })
     go false x b y = rw (e.going, x) (record { said = e.said; small = omega (arith, ltb-false 1 s.rest x); going = refl })
 
-eight : (f : ℕ) → f ≤ 57_600 → Exact f 225 (turns_of 8 28_800 2 (sum_start f))
+eight_turns : (s : Sum) → turns_of 8 28_800 2 s
+    ≡ turn_of 28_800 256 (turn_of 28_800 128 (turn_of 28_800 64 (turn_of 28_800 32 (turn_of 28_800 16 (turn_of 28_800 8 (turn_of 28_800 4 (turn_of 28_800 2 s)))))))
 unfolding turns_of
-eight f h =
-    let s0 : Exact f 57_600 (sum_start f) = record { said = omega arith; small = h; going = refl } in
-    let s1 = turn_exact f 2 28_800 32_768 _ refl refl refl (omega arith) (omega arith) s0 in
-    let s2 = turn_exact f 4 14_400 16_384 _ refl refl refl (omega arith) (omega arith) s1 in
-    let s3 = turn_exact f 8 7_200 8_192 _ refl refl refl (omega arith) (omega arith) s2 in
-    let s4 = turn_exact f 16 3_600 4_096 _ refl refl refl (omega arith) (omega arith) s3 in
-    let s5 = turn_exact f 32 1_800 2_048 _ refl refl refl (omega arith) (omega arith) s4 in
-    let s6 = turn_exact f 64 900 1_024 _ refl refl refl (omega arith) (omega arith) s5 in
-    let s7 = turn_exact f 128 450 512 _ refl refl refl (omega arith) (omega arith) s6 in
-    turn_exact f 256 225 256 _ refl refl refl (omega arith) (omega arith) s7
+eight_turns s = refl
 
 -- what is added to a sum does not hang on the sum
 abbrev state : ℕ → ℕ → Bool → Sum
@@ -91,13 +83,12 @@ both true true h = (tt, tt)
 both true false h = absurd h
 both false b h = absurd h
 
--- all sixteen, of every fraction
-sharp : (f : ℕ) → f ≤ 57_600
+-- all sixteen, of every fraction whose first eight cut nothing
+sharp : (f : ℕ) → Exact f 225 (turns_of 8 28_800 2 (sum_start f))
     → (65_536 * f ≤ 57_600 * (sum_of 28_800 f).sum + 115_200) × (57_600 * (sum_of 28_800 f).sum ≤ 65_536 * f + 81_408)
 unfolding turns_of fits
-sharp f h =
+sharp f e =
     let s : Sum = turns_of 8 28_800 2 (sum_start f) in
-    let e : Exact f 225 s = eight f h in
     let halves : (sum_of 28_800 f).sum ≡ (turns_of 8 28_800 512 s).sum = refl in
     let going : (turns_of 8 28_800 512 s).sum ≡ (turns_of 8 28_800 512 (state (s.sum + 0) s.rest false)).sum =
     (λ i. (turns_of 8 28_800 512 (state (plain s.sum i) s.rest (e.going i))).sum) in
@@ -122,10 +113,22 @@ module _ (kind : Kind) (lo : ℕ) (p : Plan) (is : plan_of kind lo 28_800_000 �
       let part : 57_600_000 * whole_of vco 28_800_000 ≤ vco = mul-div-le vco 57_600_000 in
       let cut : vco < (whole_of vco 28_800_000 + 1) * 57_600_000 = (div-lt_iff_lt-mul {k = 57_600_000} (omega arith)).0 (omega arith) in
       let most : f ≤ 57_600 = omega (arith, cut) in
-      let near = sharp f most in
+      let near = sharp f (eight f most) in
       let m : 65_536 * (lo * divider_in reg) ≡ 65_536 * vco = ap (λ (x : ℕ). 65_536 * (lo * x)) (divider_says kind lo 28_800_000 p is reg says) in
       let v : vco_in 28_800_000 reg ≡ 57_600_000 * (65_536 * p.n + p.sum) = vco_says kind lo 28_800_000 p is reg says in
       record {
         below = omega (arith, m, v, n, S, near.0, part, cut);
         above = omega (arith, m, v, n, S, near.1, part, cut);
       }
+    where
+      eight : (f : ℕ) → f ≤ 57_600 → Exact f 225 (turns_of 8 28_800 2 (sum_start f))
+      eight f h =
+          let s0 : Exact f 57_600 (sum_start f) = record { said = omega arith; small = h; going = refl } in
+          let s1 = turn_exact f 2 28_800 32_768 _ refl refl refl (omega arith) (omega arith) s0 in
+          let s2 = turn_exact f 4 14_400 16_384 _ refl refl refl (omega arith) (omega arith) s1 in
+          let s3 = turn_exact f 8 7_200 8_192 _ refl refl refl (omega arith) (omega arith) s2 in
+          let s4 = turn_exact f 16 3_600 4_096 _ refl refl refl (omega arith) (omega arith) s3 in
+          let s5 = turn_exact f 32 1_800 2_048 _ refl refl refl (omega arith) (omega arith) s4 in
+          let s6 = turn_exact f 64 900 1_024 _ refl refl refl (omega arith) (omega arith) s5 in
+          let s7 = turn_exact f 128 450 512 _ refl refl refl (omega arith) (omega arith) s6 in
+          rw (eight_turns (sum_start f)) (turn_exact f 256 225 256 _ refl refl refl (omega arith) (omega arith) s7)
