@@ -1,15 +1,14 @@
 -- The two cases of the FIR calls' bytes, the gain table; the refusals of the register calls are bytes.
 -- Assumes nothing.
-use Prim.Native.Nat.{ℕ, ◌+◌, ◌<◌, ◌≤◌}
-use mathlib.Core.Path.{◌≡◌, refl, sym, ap, ◌∙◌}
+use Prim.Native.Nat.{ℕ, ◌<◌}
+use mathlib.Core.Path.{◌≡◌, refl, sym}
 use mathlib.Core.Bool.{Bool, true, false, cond}
 use mathlib.Core.List.{List, [], map}
 use native.Mathlib.Omega.{arith}
-use borrow.Author.Tests.{eq-eqb, ne_eqb, lt-ltb, le-ltb}
+use borrow.Author.Tests.{eq-eqb, ne_eqb}
 use lib.Dec.{eqb}
 use lib.IntN.{ℤ, pos}
-use lib.ListN.{length, replicate, drop_of_length-le}
-use lib.Seq.{sets, sets-eq}
+use lib.ListN.{length, replicate}
 use Rattle.refusals.specs.Lent.{Given, given, lent_to}
 use Rattle.refusals.proofs.Giving.{refused}
 use Rattle.answers.specs.Lent.{pack_into, table_into, unpack_into, word_bytes, words_in}

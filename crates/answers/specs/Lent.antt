@@ -7,7 +7,7 @@ use Rattle.bands.specs.Tables.{plan_by}
 use Rattle.board.specs.declared.BoardRead.{BoardRead}
 use Rattle.board.specs.declared.BoardRead.TheVariants as board_read
 use Rattle.board.specs.declared.Plan.{Plan}
-use Rattle.board.specs.Numbers.{board_of, route_number}
+use Rattle.board.specs.Numbers.{route_number}
 use Rattle.board.specs.Plans.{board_plan}
 use Rattle.refusals.specs.declared.Answer.TheVariants.{Refused}
 use Rattle.fir.specs.Packing.{packed, unpack_of}

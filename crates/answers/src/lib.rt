@@ -1,5 +1,8 @@
 // Answers of fixed size as bytes in a slice that the host lends: what the C boundary hands out of the leaves. Ours: the Rust answers arrays.
 // Document 01, "Modules, leaves first": "callable from a C or Rust host by numbers and byte slices"; "Refusal numbers", 8: "lent slice too short".
+
+#![tactic(auto)]
+
 ghost use Rattle.std.specs.Prelude.{[], ◌∷◌, ◌≡◌, ◌+◌, ◌*◌, ◌<◌, ◌≤◌, length, take, drop};
 ghost use Rattle.std.proofs.lemmas.List.Edits.{sets};
 ghost use Rattle.answers.specs.Lent.{bit_of, if_into, pack_into, plan_bytes, plan_by_into, plan_into, resample_into, table_into, unpack_into, word_bytes, words_in};
