@@ -1,5 +1,5 @@
 -- Lent memory of which a front part is the bytes and every byte of the other part 0xa5 is written as it should be. Assumes nothing.
-use Rattle.std.proofs.Common.{◌≡◌, ℕ, ◌+◌, ◌-◌, ◌<◌, ◌≤◌, List, length, get_or, take, drop, sym, ap, ◌∙◌, subst, arith, length-drop, length-take, length-take-le, get_or-drop, get_or-take}
+use Rattle.std.proofs.Common.{◌≡◌, ℕ, ◌-◌, ◌<◌, ◌≤◌, List, length, get_or, take, drop, sym, ap, ◌∙◌, subst, arith, length-drop, length-take-le, get_or-drop, get_or-take}
 use native.Mathlib.Nat.{sub-zero}
 use Rattle.replay.specs.Agreement.{Written}
 

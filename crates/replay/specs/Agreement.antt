@@ -1,5 +1,5 @@
 -- Where everything stands in a case (docs/VECTORS.md, "Layout"), and what it is for what came back to agree with it. Assumes nothing.
-use Rattle.std.specs.Prelude.{◌≡◌, ℕ, zero, suc, ◌+◌, ◌-◌, ◌*◌, ◌/◌, ◌%◌, ◌<◌, ◌≤◌, cond, ◌&&◌, List, [], length, take, drop, ◌==◌, nat_le, slice_index, slice_range}
+use Rattle.std.specs.Prelude.{◌≡◌, ℕ, zero, suc, ◌+◌, ◌*◌, ◌/◌, ◌%◌, ◌<◌, ◌≤◌, cond, ◌&&◌, List, [], length, take, drop, ◌==◌, nat_le, slice_index, slice_range}
 use Rattle.wire.specs.Bytes.{le_value}
 use Rattle.replay.specs.declared.compare.Answer.{Answer}
 

@@ -1,5 +1,5 @@
 -- `compare::agrees` says Same only where the case's numbers came back and all lent memory is as the case has it. Assumes nothing.
-use Rattle.std.proofs.Common.{subst, rules}
+use Rattle.std.proofs.Common.{subst}
 use Rattle.replay.specs.Agreement.{Written}
 use Rattle.replay.proofs.Truth.{both}
 use Rattle.replay.proofs.compare.agrees.Goals as goal

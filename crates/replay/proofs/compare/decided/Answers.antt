@@ -1,5 +1,4 @@
 -- `compare::decided` says Same only where it was told so. Assumes nothing.
-use Rattle.std.proofs.Common.{◌≡◌, rules}
 use Rattle.replay.proofs.compare.decided.Goals as goal
 
 pub returns : goal.returns

@@ -1,5 +1,4 @@
 -- `compare::numbers` says true only where all four numbers are the case's. Assumes nothing.
-use Rattle.std.proofs.Common.{rules}
 use Rattle.replay.proofs.Truth.{never}
 use Rattle.replay.proofs.compare.numbers.Goals as goal
 

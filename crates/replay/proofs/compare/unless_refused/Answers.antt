@@ -1,5 +1,5 @@
 -- `compare::unless_refused` meets its contract. Assumes nothing.
-use Rattle.std.proofs.Common.{rules, eq-eqb, ne_eqb}
+use Rattle.std.proofs.Common.{eq-eqb, ne_eqb}
 use Rattle.replay.proofs.compare.unless_refused.Goals as goal
 
 pub returns-then-refusal-eq0 : goal.returns-then-refusal-eq0

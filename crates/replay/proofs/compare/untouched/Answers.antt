@@ -1,8 +1,6 @@
 -- `compare::untouched` says true only of a slice that is 0xa5 throughout. The loop's invariant: it is up to i. Assumes nothing.
-use Rattle.std.proofs.Common.{◌≡◌, ℕ, ◌-◌, ◌<◌, ◌≤◌, length, get_or, rules, below_more}
+use Rattle.std.proofs.Common.{rules, below_more}
 use Rattle.replay.proofs.Truth.{never}
-use Rattle.replay.proofs.compare.untouched.Reads as reads
-use Rattle.replay.proofs.compare.untouched.Lts as lts
 use Rattle.replay.proofs.compare.untouched.Goals as goal
 
 pub returns-then-s-i : goal.returns-then-s-i

@@ -1,8 +1,5 @@
 -- `compare::untouched` says true only of a slice that is 0xa5 throughout. The loop's invariant: it is up to i. Assumes nothing.
-use Rattle.std.proofs.Common.{◌≡◌, ℕ, ◌-◌, ◌<◌, ◌≤◌, length, get_or, rules, below_more}
-use Rattle.replay.proofs.Truth.{never}
-use Rattle.replay.proofs.compare.untouched.Reads as reads
-use Rattle.replay.proofs.compare.untouched.Lts as lts
+use Rattle.std.proofs.Common.{◌≡◌, ℕ, ◌-◌, ◌<◌, ◌≤◌, length, get_or}
 use Rattle.replay.proofs.compare.untouched.Given as goal
 
 abbrev pub invariant-loop-i : goal.invariant-loop-i

@@ -1,5 +1,5 @@
 -- `compare::valued` says Same only where the case's numbers and bytes are the answer's. Assumes nothing.
-use Rattle.std.proofs.Common.{◌≡◌, ℕ, sym, ◌∙◌, arith, rules, eqb-true}
+use Rattle.std.proofs.Common.{◌≡◌, ℕ, sym, ◌∙◌, arith, eqb-true}
 use Rattle.replay.proofs.Truth.{both}
 use Rattle.replay.proofs.compare.valued.Goals as goal
 

@@ -1,11 +1,6 @@
 -- `compare::written` says true only where the bytes stand at the start and the rest is 0xa5. Assumes nothing.
-use Rattle.std.proofs.Common.{rules}
 use Rattle.replay.proofs.Truth.{never}
 use Rattle.replay.proofs.Lent.{written_by}
-use Rattle.replay.proofs.compare.written.Reads as reads
-use Rattle.replay.proofs.compare.written.Lts as lts
-use Rattle.check.proofs.same.Reads as same_Reads
-use Rattle.replay.proofs.compare.untouched.Reads as untouched-reads
 use Rattle.replay.proofs.compare.written.Goals as goal
 
 pub returns-then-lent-n : goal.returns-then-lent-n

@@ -1,6 +1,5 @@
 -- `layout::cut` meets its contract. Assumes nothing.
 use Rattle.replay.proofs.Parts.{cut_back, cut_past, cut_in}
-use Rattle.std.proofs.Common.{rules}
 use Rattle.replay.proofs.layout.cut.Goals as goal
 
 pub returns-then-to-from : goal.returns-then-to-from

@@ -1,11 +1,8 @@
 -- `layout::number` meets its contract: the bytes are there, or it answers 0. Assumes nothing.
-use Rattle.std.proofs.Common.{◌≡◌, ◌+◌, ◌^◌, ◌<◌, sym, ◌∙◌, arith, rules, le-leb}
+use Rattle.std.proofs.Common.{rules, le-leb}
 use borrow.Author.Tests.{lt-leb}
 use native.Mathlib.Nat.{one-le-pow}
 use Rattle.replay.specs.Agreement.{number_at}
-use Rattle.replay.proofs.layout.number.Reads as reads
-use Rattle.replay.proofs.layout.number.Lts as lts
-use Rattle.wire.proofs.get.Reads as get-reads
 use Rattle.replay.proofs.layout.number.Goals as goal
 
 pub returns-then-at-k : goal.returns-then-at-k

@@ -1,5 +1,5 @@
 -- `layout::part` meets its contract. Assumes nothing.
-use Rattle.std.proofs.Common.{◌∙◌, ap₂, rules}
+use Rattle.std.proofs.Common.{◌∙◌, ap₂}
 use Rattle.replay.specs.Agreement.{cut_of}
 use Rattle.replay.proofs.layout.part.Goals as goal
 

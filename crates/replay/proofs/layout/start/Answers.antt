@@ -1,5 +1,5 @@
 -- `layout::start` meets its contract. The loop's invariant: `at` is where part i starts, at most 2 MiB a part. Assumes nothing.
-use Rattle.std.proofs.Common.{◌≡◌, ◌+◌, ◌-◌, ◌*◌, ◌≤◌, ap, ◌∙◌, arith, rules}
+use Rattle.std.proofs.Common.{ap, ◌∙◌, arith, rules}
 use Rattle.replay.specs.Agreement.{start_at}
 use Rattle.replay.proofs.Parts.{start_none, start_more}
 use Rattle.replay.proofs.layout.start.Goals as goal

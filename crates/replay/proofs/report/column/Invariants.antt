@@ -1,5 +1,5 @@
 -- `report::column` is safe and ends: the measure is the rows that are left. Assumes nothing.
-use Rattle.std.proofs.Common.{◌-◌, ◌≤◌, rules}
+use Rattle.std.proofs.Common.{◌-◌, ◌≤◌}
 use Rattle.replay.proofs.report.column.Given as goal
 
 abbrev pub invariant-loop-i : goal.invariant-loop-i
