@@ -1,5 +1,8 @@
 // Commands of a serial line, run on both records: what crate `stream` reads is called here. Ours: no file of the Rust has it. Document 02, #105.
 // The stream's nine bytes and both records are changed where they lie, so that a host keeps three arrays and hands them to each call.
+
+#![tactic(auto)]
+
 ghost use Rattle.std.specs.Prelude.{◌≡◌, ◌&&◌, true, length};
 ghost use Rattle.refusals.specs.declared.Answer.TheVariants.{Done, Refused};
 ghost use Rattle.chip.specs.Entries.{no_tries};

@@ -1,5 +1,8 @@
 // The driver's calls over bytes: as crate tuners, with the driver's record. Ours: src/lib.rs has them over its own fields.
 // Document 01, "The record": "`set_sample_rate` takes both records; the rate is recorded only when all steps are done." Document 02, #109: one correction of both.
+
+#![tactic(auto)]
+
 ghost use Rattle.std.specs.Prelude.{◌≡◌, ◌≤◌, length};
 ghost use Rattle.refusals.specs.Lent.{answered_to, given};
 ghost use Rattle.board.specs.Numbers.{path_of};

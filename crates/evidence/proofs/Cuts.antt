@@ -2,7 +2,7 @@
 -- call that was cut says so itself, whatever was before. Assumes nothing.
 use Prim.Native.Nat.{ℕ}
 use mathlib.Core.Path.{◌≡◌, refl, sym, ap, subst, ◌∙◌}
-use mathlib.Core.Bool.{Bool, true, false, not, ◌&&◌, ◌||◌, and_false, or-true, false≢true}
+use mathlib.Core.Bool.{Bool, true, false, not, ◌&&◌, ◌||◌, and-false, or-true, false≢true}
 use mathlib.Core.List.{List, [], ◌∷◌, ◌++◌, append_assoc}
 use borrow.Author.Tests.{eqb-true, not-true}
 use lib.Dec.{eqb}
@@ -47,7 +47,7 @@ module _ (f : ℕ → Last) (r byte : ℕ) (vain : f r ≡ Tried byte false) whe
       go true e ih =
           let is : eqb (mark_of (f q)) mark ≡ false = ap (λ (x : ℕ). eqb (mark_of (f x)) mark) (eqb-true q r e) ∙ ap (λ (l : Last). eqb (mark_of l) mark) vain ∙ other in
           rw is
-      go false e ih = rw (ih (rw e at h)) (and_false (eqb (mark_of (f q)) mark))
+      go false e ih = rw (ih (rw e at h)) (and-false (eqb (mark_of (f q)) mark))
 
   -- "1 doubtful"
   pub vain_mark : (rs : List ℕ) → among r rs ≡ true → mark_all (lasts f rs) ≡ 1
@@ -160,7 +160,7 @@ module _ (i : ℕ) (cut whole : List Entry) (c : Cut i cut whole) (address : ℕ
         ddc = (λ named. sym (one_mark (last_at (es ++ cut) 0x15)) ∙ demod_vain (0x15 ∷ []) ddc_spared 0x15 refl named);
         lo_centre = (λ r h named ref xtal. rw (lo_vain r h named));
         if_centre = (λ r h named ref xtal.
-            rw (demod_vain if_places if_spared r h named, and_false (eqb (lo_mark address (es ++ cut)) 2), and_false (eqb (lo_mark address (es ++ cut)) 0)));
+            rw (demod_vain if_places if_spared r h named, and-false (eqb (lo_mark address (es ++ cut)) 2), and-false (eqb (lo_mark address (es ++ cut)) 0)));
       }
 
 -- ---- a reset or a power-off, done or not, and no write of register r since
@@ -170,4 +170,4 @@ pub shaken : (xs ys : List Entry) (e : Entry) → shakes e ≡ true → (rs : Li
 unfolding demod_names demod_settles
 shaken xs ys e shake rs r h since =
     vain_mark (last_at (xs ++ (e ∷ ys))) r _
-    (vain_since demodulator (place 1 r) xs ys e (rw (shake, or-true (covers 4 e (place 1 r)))) (rw (shake, and_false (done e))) since) rs h
+    (vain_since demodulator (place 1 r) xs ys e (rw (shake, or-true (covers 4 e (place 1 r)))) (rw (shake, and-false (done e))) since) rs h

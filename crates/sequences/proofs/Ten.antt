@@ -2,7 +2,7 @@
 -- Assumes nothing.
 use Prim.Native.Nat.{ℕ, zero, suc, ◌+◌, ◌*◌, ◌≤◌}
 use mathlib.Core.Path.{◌≡◌, refl, sym, ap, subst, ◌∙◌}
-use mathlib.Core.Bool.{Bool, true, false, cond, not, ◌&&◌, ◌||◌, and_assoc, and_true, or_assoc, or-false}
+use mathlib.Core.Bool.{Bool, true, false, cond, not, ◌&&◌, ◌||◌, and_assoc, and-true, or_assoc, or-false}
 use mathlib.Core.List.{List, [], ◌∷◌, ◌++◌}
 use native.Mathlib.Omega.{arith}
 use lib.Dec.{eqb}
@@ -57,7 +57,7 @@ waited n es w = record { few = w.few; last = w.last }
 -- one entry more
 bit_next : (seen : Bool) (es : List Entry) (e : Entry) → bit_last seen (es ++ (e ∷ [])) ≡ (bit_last seen es && not (is_try e && (seen || locked_in es)))
 unfolding bit_last locked_in
-bit_next seen [] e = and_true (not (is_try e && seen)) ∙ ap (λ (s : Bool). not (is_try e && s)) (sym (or-false seen))
+bit_next seen [] e = and-true (not (is_try e && seen)) ∙ ap (λ (s : Bool). not (is_try e && s)) (sym (or-false seen))
 bit_next seen (x ∷ es) e =
     let bit : Bool = is_try x && lock_bit x in
     ap (λ (b : Bool). not (is_try x && seen) && b) (bit_next (seen || bit) es e)
@@ -76,7 +76,7 @@ module _ (es : List Entry) (e : Entry) (h : is_try e ≡ false) where
   locked_past = locked_next es e ∙ ap (λ (b : Bool). locked_in es || (b && lock_bit e)) h ∙ or-false (locked_in es)
 
   bit_past : bit_last false (es ++ (e ∷ [])) ≡ bit_last false es
-  bit_past = bit_next false es e ∙ ap (λ (b : Bool). bit_last false es && not (b && locked_in es)) h ∙ and_true (bit_last false es)
+  bit_past = bit_next false es e ∙ ap (λ (b : Bool). bit_last false es && not (b && locked_in es)) h ∙ and-true (bit_last false es)
 
   waiting_past : (n : ℕ) → Waiting n es → Waiting n (es ++ (e ∷ []))
   waiting_past n w = record { few = omega (arith, w.few, tries_past); none = locked_past ∙ w.none; last = bit_past ∙ w.last }

@@ -2,6 +2,9 @@
 // Document 01, "Modules, leaves first": "Records cross there as bytes. A given record out of its ranges .., or bytes that no record is written to, is
 // refused 1 first, all unchanged"; "The record": "Each operation hands the record back with its answer; only `set_ppm` and `apply_notch` change the
 // caller's record where it lies." The former is crate drivers' since #109.
+
+#![tactic(auto)]
+
 ghost use Rattle.std.specs.Prelude.{◌≡◌, ◌≤◌, length};
 ghost use Rattle.refusals.specs.Lent.{answered_to, given};
 ghost use Rattle.r82xx.specs.Orders.{course_of};

@@ -1,7 +1,7 @@
 -- What an entry tells of the demodulator's eight registers, slot by slot; and entries one after the other. Assumes nothing.
 use Prim.Native.Nat.{ℕ, ◌+◌, ◌≤◌, ◌<◌}
 use mathlib.Core.Path.{◌≡◌, refl, sym, ap, ap₂, ◌∙◌}
-use mathlib.Core.Bool.{Bool, true, false, cond, not, ◌&&◌, ◌||◌, and_false}
+use mathlib.Core.Bool.{Bool, true, false, cond, not, ◌&&◌, ◌||◌, and-false}
 use mathlib.Core.List.{List, [], ◌∷◌, ◌++◌}
 use native.Mathlib.Omega.{arith}
 use borrow.Author.Tests.{eq-eqb, ne_eqb, eqb-true, eqb-false, leb-true, leb-false, le-leb, lt-leb, lt-ltb, le-ltb, ltb-true, ltb-false}
@@ -50,7 +50,7 @@ slot_one e k low high = rw (le-leb 8 k low, lt-ltb k 16 high) (go (covers 4 e q)
     q = place 1 (place_of k)
 
     silent : repeats e q ≡ false
-    silent = rw (other k high, and_false (eqb e.kind 1 && true))
+    silent = rw (other k high, and-false (eqb e.kind 1 && true))
 
     go : (a b : Bool) → covers 4 e q ≡ a → shakes e ≡ b
         → known_of (cond (covers 4 e q || shakes e || repeats e q) (Tried (demod_sent e q) (demod_settles e)) Never)
@@ -101,7 +101,7 @@ below_none es k h = rw (lt-leb 8 k h)
 
 pub past_none : (es : List Entry) (k : ℕ) → 16 ≤ k → demod_in es k ≡ none
 unfolding demod_in
-past_none es k h = rw (le-ltb k 16 h, and_false (leb 8 k))
+past_none es k h = rw (le-ltb k 16 h, and-false (leb 8 k))
 
 -- the slots from k on
 unfoldable pub from : List Entry → ℕ → ℕ → Known
@@ -146,7 +146,7 @@ module _ (es : List Entry) (l : List Known) where
       go q true e =
           let at : q ≡ k = eqb-true q k e in
           rw (at, eq-eqb k k refl, le-leb 5 k (omega arith), lt-ltb k 32 (omega arith), lt-leb (k + 1) k (omega arith), le-leb k k (omega arith)) (quiet (demod_in es k) none refl)
-      go q false e = rw (e, and_false (counts q), step q (eqb-false q k e) (leb k q) refl) (later q (leb k q))
+      go q false e = rw (e, and-false (counts q), step q (eqb-false q k e) (leb k q) refl) (later q (leb k q))
 
 -- ---- entries of other kinds
 

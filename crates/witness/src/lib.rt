@@ -2,6 +2,9 @@
 // Ours: no file of the Rust has it. What the numbers are stands in crate evidence, the answer's 52 bytes in specs/Answer.antt. One walk from the end of the
 // slice, as crate restoring's, judges every section and gathers what is told, newest first; the answer is laid out beside it and lent last, so that what is
 // refused leaves the lent bytes as they were.
+
+#![tactic(auto)]
+
 ghost use Rattle.std.specs.Prelude.{◌≡◌, true, cond, [], ◌∷◌, ◌+◌, ◌-◌, ◌*◌, ◌/◌, ◌%◌, ◌^◌, ◌≤◌, ◌<◌, eqb, length, drop};
 ghost use Rattle.std.proofs.lemmas.List.Edits.{sets};
 ghost use Rattle.wire.specs.Bytes.{le_bytes};

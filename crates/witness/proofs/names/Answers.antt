@@ -1,0 +1,9 @@
+-- `witness::names` meets its contract.
+-- Assumes nothing.
+use borrow.Author.Rules.{rules}
+use Rattle.attempts.specs.Attempts.{names}
+use Rattle.witness.proofs.names.Goals as goal
+
+pub returns : goal.returns
+unfolding names
+returns c = rw c.past_of.ensures

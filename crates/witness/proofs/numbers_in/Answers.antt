@@ -1,0 +1,10 @@
+-- `witness::numbers_in` meets its contract.
+-- Assumes nothing.
+use borrow.Author.Rules.{rules}
+use Rattle.evidence.specs.Evidence.{if_units, lo_units, rate_in}
+use Rattle.witness.specs.InCode.{numbers_in}
+use Rattle.witness.proofs.numbers_in.Goals as goal
+
+pub returns : goal.returns
+unfolding numbers_in rate_in lo_units if_units
+returns c = rw (c.offset_of.ensures, c.units.ensures, c.rate_of.ensures, c.ratio_of-ratio.ensures, c.word_of-word.ensures)

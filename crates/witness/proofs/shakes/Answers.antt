@@ -1,0 +1,9 @@
+-- `witness::shakes` meets its contract.
+-- Assumes nothing.
+use borrow.Author.Rules.{rules}
+use Rattle.evidence.specs.Demodulator.{shakes}
+use Rattle.witness.proofs.shakes.Goals as goal
+
+pub returns : goal.returns
+unfolding shakes
+returns c = rw (c.covers-2.ensures, c.covers.ensures)
