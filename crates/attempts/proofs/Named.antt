@@ -33,6 +33,6 @@ module _ (address : ℕ) (e : Entry) (r : ℕ) where
   outside true t h = past_last (omega (arith, leb-true (first_of e) r t))
   outside false t h = below_first (leb-false (first_of e) r t)
 
-  -- "the one_byte write of 0x00 attempts none"
+  -- "the one-byte write of 0x00 attempts none"
   pub one_byte : e.n ≤ 1 → names address e r ≡ false
   one_byte h = outside (leb (first_of e) r) refl (omega arith)

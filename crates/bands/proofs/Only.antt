@@ -1,4 +1,4 @@
--- At most one band of a well_formed table holds a frequency: the plan is that band's, whichever way the table is searched. Assumes nothing.
+-- At most one band of a well-formed table holds a frequency: the plan is that band's, whichever way the table is searched. Assumes nothing.
 use Prim.Native.Nat.{ℕ, zero, suc, ◌%◌, ◌<◌, ◌≤◌}
 use mathlib.Core.Path.{◌≡◌, refl, ap}
 use mathlib.Core.Bool.{Bool, true, false, ◌&&◌, and-false}

@@ -1,4 +1,4 @@
--- The tables that are taken are the well_formed ones, exactly. Assumes nothing.
+-- The tables that are taken are the well-formed ones, exactly. Assumes nothing.
 use Prim.Native.Nat.{ℕ, zero, suc, ◌*◌, ◌/◌, ◌%◌, ◌<◌, ◌≤◌}
 use mathlib.Core.Path.{◌≡◌, refl, sym, ap, ◌∙◌}
 use mathlib.Core.Bool.{true, ◌&&◌}

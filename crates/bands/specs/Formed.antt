@@ -1,4 +1,4 @@
--- What a well_formed table is, without a test: what is accepted is the bytes of at most sixteen good bands, each past all before it.
+-- What a well-formed table is, without a test: what is accepted is the bytes of at most sixteen good bands, each past all before it.
 -- Assumes nothing.
 use Rattle.std.specs.Prelude.{ℕ, ◌^◌, ◌≤◌, ◌<◌, ◌≡◌, List, length, get_or}
 use Rattle.bands.specs.declared.Band.{Band}

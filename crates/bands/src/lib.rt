@@ -30,7 +30,7 @@ const NOTCH: usize = 26;
 // A number of 64 bits with this one set stands for a shift downward.
 const SIGN: u64 = 0x8000_0000_0000_0000;
 
-// A band's numbers as they stand in its bytes; those that no well_formed table has are refused.
+// A band's numbers as they stand in its bytes; those that no well-formed table has are refused.
 #[derive(Clone, Copy)]
 pub struct Band {
     pub first: u64,

@@ -1,5 +1,5 @@
 -- The gain asked for, in tenths of a dB, and a step's own dB: the binary32 arithmetic of `set_gain`.
--- `lib.Ieee` has IEEE 754's operations and, as `to_signed`, the Rust Reference's cast: toward zero, to the nearest end of the range
+-- `Rattle.std.specs.Float.Ieee` has IEEE 754's operations and, as `to_signed`, the Rust Reference's cast: toward zero, to the nearest end of the range
 -- where the value is out of it, and 0 for a NaN.
 -- Assumes nothing.
 use Rattle.std.specs.Prelude.{ℕ, zero, suc, ◌+◌, ◌*◌, ◌/◌, ◌^◌, ℤ, pos, Float}
