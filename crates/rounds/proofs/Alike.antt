@@ -56,7 +56,7 @@ unfolding every
 alike_refl [] m = none
 alike_refl (s ∷ ss) m = same s (and_left (mute s) (every mute ss) m) (alike_refl ss (and_right (mute s) (every mute ss) m))
 
-pub alike_shuts : {k at : ℕ} {qs : List ℕ} {ss ts : List Step} → Alike k qs at ss ts → shuts ss ≡ shuts ts
+pub alike_shuts : {k : ℕ} {qs : List ℕ} {at : ℕ} {ss ts : List Step} → Alike k qs at ss ts → shuts ss ≡ shuts ts
 unfolding shuts
 alike_shuts none = refl
 alike_shuts (same s m a) = ap (λ (b : Bool). not (inner s) || b) (alike_shuts a)
@@ -299,7 +299,7 @@ module _ (os us : List ℕ) (i k : ℕ) (agree : take i os ≡ take i us) where
             let alike : v ≡ taken in_list us true (Plain e) t = ap (λ (x : Entry). taken in_list us true (Plain x) t) (one known) in
             both_moved ss ts v _ v _ (here a true o) (alike ∙ there a l true o) (rest known v (counted_taken os (Plain d) t true n) (omega arith) moved)
 
-  alike_run : {at : ℕ} {qs : List ℕ} {ss ts : List Step} → Alike k qs at ss ts → (t : Trace) → t.count ≡ length t.log → at ≤ took t.log
+  alike_run : {qs : List ℕ} {at : ℕ} {ss ts : List Step} → Alike k qs at ss ts → (t : Trace) → t.count ≡ length t.log → at ≤ took t.log
       → took (take i (run in_list os ss t).log) ≤ k → Both ss ts t t
   unfolding run
   alike_run none t n m h = same_all i _ _ refl

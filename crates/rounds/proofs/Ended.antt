@@ -145,7 +145,7 @@ module _ (os us : List ℕ) (i k : ℕ) (agree : take i os ≡ take i us) where
           (subst (λ (u : Trace). length (run in_list os ss u).log ≤ i) back h) (subst (λ (u : Trace). took (run in_list os ss u).log ≤ k) back j)
           ∙ ap (run in_list us ts) (active in_list os s t a ∙ same_taken s ss t n a h)
 
-  ends_run : {at : ℕ} {qs : List ℕ} {ss ts : List Step} → Alike k qs at ss ts → (t : Trace) → t.count ≡ length t.log → at ≤ took t.log
+  ends_run : {qs : List ℕ} {at : ℕ} {ss ts : List Step} → Alike k qs at ss ts → (t : Trace) → t.count ≡ length t.log → at ≤ took t.log
       → length (run in_list os ss t).log ≤ i → took (run in_list os ss t).log ≤ k → run in_list os ss t ≡ run in_list us ts t
   unfolding run
   ends_run none t n m h j = refl

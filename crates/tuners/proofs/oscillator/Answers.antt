@@ -1,0 +1,15 @@
+-- `tuners::oscillator` meets its contract: bytes that are no record, or the answer of the one that they are.
+-- Assumes nothing.
+use borrow.Author.Tests.{not-false, not-true}
+use Rattle.records.specs.declared.TunerRead.{TunerRead}
+use Rattle.tuners.proofs.Record.{no_record, of-record}
+use borrow.Author.Rules.{rules}
+use Rattle.tuners.proofs.oscillator.Goals as goal
+
+pub returns-then-not-held : goal.returns-then-not-held
+returns-then-not-held c = no_record (λ (x : TunerRead). x.ok) (λ (x : TunerRead). x.tuner) _ _ c.decode_tuner-held.ensures _ _ (c.if-not-held.true)
+
+pub returns : goal.returns
+returns c =
+    of-record (λ (x : TunerRead). x.ok) (λ (x : TunerRead). x.tuner) _ _ c.decode_tuner-held.ensures _ _ (c.if-not-held.false) _
+    c.oscillator.ensures
