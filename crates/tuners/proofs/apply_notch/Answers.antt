@@ -10,10 +10,10 @@ use borrow.Author.Rules.{rules}
 use Rattle.tuners.proofs.apply_notch.Goals as goal
 
 pub returns-then-not-read : goal.returns-then-not-read
-returns-then-not-read c = no_record (λ (x : TunerRead). x.ok) (λ (x : TunerRead). x.tuner) _ _ c.decode_tuner-read.ensures _ _ (c.if-not-read.true)
+returns-then-not-read c = no_record (λ (x : TunerRead). x.ok) (λ (x : TunerRead). x.tuner) _ _ c.decode_tuner-read.ensures _ _ (not-true _ c.if-not-read.true)
 
 pub returns : goal.returns
 returns c =
     let a = c.args in
     changed (λ (x : TunerRead). x.ok) (λ (x : TunerRead). x.tuner) _ _ c.decode_tuner-read.ensures tuner_bytes (quietly (Notch a.on))
-    a.tuner.now (c.if-not-read.false) _ _ _ c.with_notch-told.ensures _ c.lend.ensures
+    a.tuner.now (not-false _ c.if-not-read.false) _ _ _ c.with_notch-told.ensures _ c.lend.ensures

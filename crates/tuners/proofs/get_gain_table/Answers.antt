@@ -7,9 +7,9 @@ use borrow.Author.Rules.{rules}
 use Rattle.tuners.proofs.get_gain_table.Goals as goal
 
 pub returns-then-not-read : goal.returns-then-not-read
-returns-then-not-read c = no_record (λ (x : TunerRead). x.ok) (λ (x : TunerRead). x.tuner) _ _ c.decode_tuner-read.ensures _ _ (c.if-not-read.true)
+returns-then-not-read c = no_record (λ (x : TunerRead). x.ok) (λ (x : TunerRead). x.tuner) _ _ c.decode_tuner-read.ensures _ _ (not-true _ c.if-not-read.true)
 
 pub returns : goal.returns
 returns c =
-    of-record (λ (x : TunerRead). x.ok) (λ (x : TunerRead). x.tuner) _ _ c.decode_tuner-read.ensures _ _ (c.if-not-read.false) _
+    of-record (λ (x : TunerRead). x.ok) (λ (x : TunerRead). x.tuner) _ _ c.decode_tuner-read.ensures _ _ (not-false _ c.if-not-read.false) _
     c.gain_table.ensures

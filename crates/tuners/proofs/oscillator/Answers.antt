@@ -7,9 +7,9 @@ use borrow.Author.Rules.{rules}
 use Rattle.tuners.proofs.oscillator.Goals as goal
 
 pub returns-then-not-held : goal.returns-then-not-held
-returns-then-not-held c = no_record (λ (x : TunerRead). x.ok) (λ (x : TunerRead). x.tuner) _ _ c.decode_tuner-held.ensures _ _ (c.if-not-held.true)
+returns-then-not-held c = no_record (λ (x : TunerRead). x.ok) (λ (x : TunerRead). x.tuner) _ _ c.decode_tuner-held.ensures _ _ (not-true _ c.if-not-held.true)
 
 pub returns : goal.returns
 returns c =
-    of-record (λ (x : TunerRead). x.ok) (λ (x : TunerRead). x.tuner) _ _ c.decode_tuner-held.ensures _ _ (c.if-not-held.false) _
+    of-record (λ (x : TunerRead). x.ok) (λ (x : TunerRead). x.tuner) _ _ c.decode_tuner-held.ensures _ _ (not-false _ c.if-not-held.false) _
     c.oscillator.ensures

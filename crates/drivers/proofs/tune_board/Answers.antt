@@ -7,8 +7,6 @@ use Rattle.boards.specs.Hops.{hop_refusal, hop_result, hop_lock_tries}
 use Rattle.drivers.specs.Drivers.{hop_argument}
 use Rattle.drivers.proofs.Passed.{fits, handed_back, hop_told, refused-by, told, untold}
 use borrow.Author.Rules.{rules}
-use Rattle.drivers.proofs.tune_board.Statement.{statement}
-use Rattle.drivers.proofs.tune_board.Tie as tie
 use Rattle.drivers.proofs.tune_board.Reads as reads
 use Rattle.drivers.proofs.tune_board.Lts as lts
 use Rattle.bands.proofs.plan_by_table.Reads as plan-by-table-reads
@@ -20,43 +18,17 @@ use Rattle.records.proofs.decode_driver.Reads as decode-driver-reads
 use Rattle.records.proofs.decode_tuner.Reads as decode-tuner-reads
 use Rattle.reply.proofs.tuned.Reads as tuned-reads
 use Rattle.tuners.proofs.refuse.Reads as refuse-reads
+use Rattle.drivers.proofs.tune_board.Goals as goal
 
-decode-driver-requires : tie.Need-decode-driver-requires
-decode-driver-requires c κs = search rules
-
-decode-tuner-requires : tie.Need-decode-tuner-requires
-decode-tuner-requires c κs = search rules
-
-plan-by-table-requires : tie.Need-plan-by-table-requires
-plan-by-table-requires c κs = search rules
-
-hop-refusal-requires : tie.Need-hop-refusal-requires
-hop-refusal-requires c κs = search rules
-
-ready-requires : tie.Need-ready-requires
-ready-requires c κs = search rules
-
-refuse-requires : tie.Need-refuse-requires
-refuse-requires c κs = search rules
-
-tuned-requires : tie.Need-tuned-requires
-tuned-requires c κs = search rules
-
-returns : tie.Need-returns
-returns c =
-    let at-refuse = c.before in
-    let at_ready = at-refuse.before.before in
-    let ready = at_ready.ready in
-    let at-hop-refusal = at_ready.before.before.before in
-    let hop-refusal = at-hop-refusal.hop-refusal in
-    let at-plan-by-table = at-hop-refusal.before.before in
-    let plan-by-table = at-plan-by-table.plan-by-table in
-    let at-decode-tuner = at-plan-by-table.before in
-    let decode-tuner = at-decode-tuner.decode-tuner in
+pub returns-then-number-ne0 : goal.returns-then-number-ne0
+returns-then-number-ne0 c =
+    let ready = c.ready-number in
+    let hop-refusal = c.hop_refusal-refused in
+    let plan-by-table = c.plan_by_table-planned in
+    let decode-tuner = c.decode_tuner-t in
     let ifreq = decode-tuner.result.tuner.ifreq in
-    let at-decode-driver = at-decode-tuner.before in
-    let decode-driver = at-decode-driver.decode-driver in
-    let a = at-decode-driver.before.before.before.before.before.before.before.before.before.args in
+    let decode-driver = c.decode_driver-d in
+    let a = c.args in
     let outcomes = a.outcomes.now in
     let replies = a.replies.now in
     let driver = a.driver.now in
@@ -68,53 +40,32 @@ returns c =
     (refused-by hop-argument (λ u v. hop_result plan-by a.hz replies outcomes u v a.room.now) driver tuner a.room.now a.left.now
     a.next.now decode-driver.result decode-tuner.result _ _ decode-driver.ensures decode-tuner.ensures
     (hop-refusal.ensures ∙ ap (λ (p : Planned). hop_refusal p ifreq) plan-by-table.ensures) ready.ensures _ (λ z. omega arith)
-    at-refuse.refuse.ensures)
+    c.refuse.ensures)
     (untold hop-argument (λ u v. hop_result plan-by a.hz replies outcomes u v a.room.now) driver tuner a.room.now a.left.now a.next.now
     decode-driver.result decode-tuner.result _ _ decode-driver.ensures decode-tuner.ensures
     (hop-refusal.ensures ∙ ap (λ (p : Planned). hop_refusal p ifreq) plan-by-table.ensures) ready.ensures
     (λ u v. hop_lock_tries plan-by a.hz replies outcomes u v a.room.now) (λ z. omega arith))
 
-tune-planned-requires : tie.Need-tune-planned-requires
-tune-planned-requires c κs = search rules
+pub hand_hop-requires : goal.hand_hop-requires
+hand_hop-requires c =
+    fits _ _ _ _ (sym c.ready-number.ensures ∙ omega arith)
 
-hand-hop-requires : tie.Need-hand-hop-requires
-hand-hop-requires c κs =
-    let at_ready = c.before.before.before.before.before.before.before in
-    fits _ _ _ _ (sym at_ready.ready.ensures ∙ omega arith)
-
-same_length : tie.Need-same-length
-same_length c = search rules
-
-same-length-2 : tie.Need-same-length-2
-same-length-2 c = search rules
-
-same-length-3 : tie.Need-same-length-3
-same-length-3 c = search rules
-
-returns-2 : tie.Need-returns-2
-returns-2 c =
-    let at-hand-hop = c.before.before.before.before in
-    let hand-hop = at-hand-hop.hand-hop in
+pub returns : goal.returns
+returns c =
+    let hand-hop = c.hand_hop in
     let back = hand-hop.ensures in
-    let at-tune-planned = at-hand-hop.before.before.before.before.before in
-    let tune-planned = at-tune-planned.tune-planned in
+    let tune-planned = c.tune_planned-hopped in
     let told_of = tune-planned.ensures in
-    let at-if1 = at-tune-planned.before.before in
-    let if1 = at-if1.if1 in
-    let at_ready = at-if1.before in
-    let ready = at_ready.ready in
-    let at-hop-refusal = at_ready.before.before.before in
-    let hop-refusal = at-hop-refusal.hop-refusal in
-    let at-plan-by-table = at-hop-refusal.before.before in
-    let plan-by-table = at-plan-by-table.plan-by-table in
-    let at-decode-tuner = at-plan-by-table.before in
-    let decode-tuner = at-decode-tuner.decode-tuner in
+    let if1 = c.if-number-ne0 in
+    let ready = c.ready-number in
+    let hop-refusal = c.hop_refusal-refused in
+    let plan-by-table = c.plan_by_table-planned in
+    let decode-tuner = c.decode_tuner-t in
     let tuner = decode-tuner.result.tuner in
     let ifreq = tuner.ifreq in
-    let at-decode-driver = at-decode-tuner.before in
-    let decode-driver = at-decode-driver.decode-driver in
+    let decode-driver = c.decode_driver-d in
     let driver = decode-driver.result.driver in
-    let a = at-decode-driver.before.before.before.before.before.before.before.before.before.args in
+    let a = c.args in
     let outcomes = a.outcomes.now in
     let replies = a.replies.now in
     let driver-now = a.driver.now in
@@ -133,22 +84,3 @@ returns-2 c =
     (hop-refusal.ensures ∙ ap (λ (p : Planned). hop_refusal p ifreq) plan-by-table.ensures) ready.ensures
     (λ u v. hop_lock_tries plan-by a.hz replies outcomes u v a.room.now) (omega (arith, if1.false)) _
     (told_of.1 ∙ ap (λ (p : Planned). hop_lock_tries p a.hz replies outcomes tuner driver a.room.now) plan-by-table.ensures))
-
-pub tune-board-spec : {M : Type 1} → statement M
-tune-board-spec =
-    tie.close
-    (tie.spec
-    decode-driver-requires
-    decode-tuner-requires
-    plan-by-table-requires
-    hop-refusal-requires
-    ready-requires
-    refuse-requires
-    tuned-requires
-    returns
-    tune-planned-requires
-    hand-hop-requires
-    same_length
-    same-length-2
-    same-length-3
-    returns-2)
