@@ -27,9 +27,8 @@ returns-in-Frequency c =
     let tuner = a.tuner.now in
     let drivers : Bytes driver = λ i. omega (arith, c.slice_known-1.given i) in
     let tuners : Bytes tuner = λ i. omega (arith, c.slice_known-2-1.given i) in
-    let k = c.command-1.given in
     by_tuning_lem a.table.now a.replies.now a.outcomes.now driver tuner a.room.now drivers
-    (tuner_sound tuner tuners (and_right (driver_of driver).ok (tuner_of tuner).ok pre.2)) pre.2 k.0.0 a.command k.1 a.given.now pre.1 _
+    (tuner_sound tuner tuners (and_right (driver_of driver).ok (tuner_of tuner).ok pre.2)) pre.2 c.in-Frequency.hz a.command c.in-Frequency.is a.given.now pre.1 _
     _ _ c.set_frequency.ensures
 
 pub returns-in-Rate : goal.returns-in-Rate
@@ -40,9 +39,8 @@ returns-in-Rate c =
     let tuner = a.tuner.now in
     let drivers : Bytes driver = λ i. omega (arith, c.slice_known-1.given i) in
     let tuners : Bytes tuner = λ i. omega (arith, c.slice_known-2-1.given i) in
-    let k = c.command-in-Rate-1.given in
     by_rate a.table.now a.replies.now a.outcomes.now driver tuner a.room.now drivers
-    (tuner_sound tuner tuners (and_right (driver_of driver).ok (tuner_of tuner).ok pre.2)) pre.2 k.0.0 a.command k.1 a.before.now
+    (tuner_sound tuner tuners (and_right (driver_of driver).ok (tuner_of tuner).ok pre.2)) pre.2 c.in-Rate.hz a.command c.in-Rate.is a.before.now
     a.given.now pre.0 pre.1 _ _ _ _ c.set_sample_rate.ensures _ c.still.ensures
 
 pub returns-in-GainDb : goal.returns-in-GainDb
@@ -53,10 +51,9 @@ returns-in-GainDb c =
     let tuner = a.tuner.now in
     let drivers : Bytes driver = λ i. omega (arith, c.slice_known-1.given i) in
     let tuners : Bytes tuner = λ i. omega (arith, c.slice_known-2-1.given i) in
-    let k = c.command-in-GainDb-1.given in
     by-tuner a.table.now a.replies.now a.outcomes.now driver tuner a.room.now drivers
-    (tuner_sound tuner tuners (and_right (driver_of driver).ok (tuner_of tuner).ok pre.2)) pre.2 (GainDb k.0.0) (order.Order.Gain k.0.0) refl refl
-    (gain_taken k.0.0 (tuner_of tuner).tuner) refl a.command k.1 a.given.now pre.1 _ _ _ c.set_gain.ensures _
+    (tuner_sound tuner tuners (and_right (driver_of driver).ok (tuner_of tuner).ok pre.2)) pre.2 (GainDb c.in-GainDb.db) (order.Order.Gain c.in-GainDb.db) refl refl
+    (gain_taken c.in-GainDb.db (tuner_of tuner).tuner) refl a.command c.in-GainDb.is a.given.now pre.1 _ _ _ c.set_gain.ensures _
     c.still-in-GainDb.ensures
 
 pub returns-in-GainIndex : goal.returns-in-GainIndex
@@ -67,10 +64,9 @@ returns-in-GainIndex c =
     let tuner = a.tuner.now in
     let drivers : Bytes driver = λ i. omega (arith, c.slice_known-1.given i) in
     let tuners : Bytes tuner = λ i. omega (arith, c.slice_known-2-1.given i) in
-    let k = c.command-in-GainIndex-1.given in
     by-tuner a.table.now a.replies.now a.outcomes.now driver tuner a.room.now drivers
-    (tuner_sound tuner tuners (and_right (driver_of driver).ok (tuner_of tuner).ok pre.2)) pre.2 (GainIndex k.0.0) (order.Order.GainIndex k.0.0)
-    refl refl (index_taken k.0.0 (tuner_of tuner).tuner) refl a.command k.1 a.given.now pre.1 _ _ _
+    (tuner_sound tuner tuners (and_right (driver_of driver).ok (tuner_of tuner).ok pre.2)) pre.2 (GainIndex c.in-GainIndex.k) (order.Order.GainIndex c.in-GainIndex.k)
+    refl refl (index_taken c.in-GainIndex.k (tuner_of tuner).tuner) refl a.command c.in-GainIndex.is a.given.now pre.1 _ _ _
     c.set_gain_by_index.ensures _ c.still-in-GainIndex.ensures
 
 pub returns-in-Bandwidth : goal.returns-in-Bandwidth
@@ -81,10 +77,9 @@ returns-in-Bandwidth c =
     let tuner = a.tuner.now in
     let drivers : Bytes driver = λ i. omega (arith, c.slice_known-1.given i) in
     let tuners : Bytes tuner = λ i. omega (arith, c.slice_known-2-1.given i) in
-    let k = c.command-in-Bandwidth-1.given in
     by-tuner a.table.now a.replies.now a.outcomes.now driver tuner a.room.now drivers
-    (tuner_sound tuner tuners (and_right (driver_of driver).ok (tuner_of tuner).ok pre.2)) pre.2 (Bandwidth k.0.0) (order.Order.Bandwidth k.0.0)
-    refl refl (bandwidth_taken k.0.0 (tuner_of tuner).tuner) refl a.command k.1 a.given.now pre.1 _ _ _
+    (tuner_sound tuner tuners (and_right (driver_of driver).ok (tuner_of tuner).ok pre.2)) pre.2 (Bandwidth c.in-Bandwidth.hz) (order.Order.Bandwidth c.in-Bandwidth.hz)
+    refl refl (bandwidth_taken c.in-Bandwidth.hz (tuner_of tuner).tuner) refl a.command c.in-Bandwidth.is a.given.now pre.1 _ _ _
     c.set_bandwidth.ensures _ c.still-in-Bandwidth.ensures
 
 pub returns-in-Correction : goal.returns-in-Correction
@@ -95,11 +90,10 @@ returns-in-Correction c =
     let tuner = a.tuner.now in
     let drivers : Bytes driver = λ i. omega (arith, c.slice_known-1.given i) in
     let tuners : Bytes tuner = λ i. omega (arith, c.slice_known-2-1.given i) in
-    let k = c.command-in-Correction-1.given in
-    let f : SFits w32 k.0.0 = record { sfits = c.known_told-in-Correction-1.given.0.1 } in
+    let f : SFits w32 c.in-Correction.ppm = search rules in
     by_correction a.table.now a.replies.now a.outcomes.now driver tuner a.room.now drivers
-    (tuner_sound tuner tuners (and_right (driver_of driver).ok (tuner_of tuner).ok pre.2)) pre.2 k.0.0 a.command k.1 _ _ _
-    (c.set_ppm.ensures ∙ ap (λ (z : ℤ). correct_over z tuner driver) (to_z-of_z {w = w32} {z = k.0.0} f)) _ c.still-in-Correction.ensures
+    (tuner_sound tuner tuners (and_right (driver_of driver).ok (tuner_of tuner).ok pre.2)) pre.2 c.in-Correction.ppm a.command c.in-Correction.is _ _ _
+    (c.set_ppm.ensures ∙ ap (λ (z : ℤ). correct_over z tuner driver) (to_z-of_z {w = w32} {z = c.in-Correction.ppm} f)) _ c.still-in-Correction.ensures
 
 pub returns-in-Reload : goal.returns-in-Reload
 returns-in-Reload c =
