@@ -1,6 +1,9 @@
 // Every call and leaf for a C or Rust host: what include/pasetone.h declares. Each function is one call of a function below with the same definition,
 // its answer told as numbers, so its must-fail edits stand below, but for two of arguments that it passes on.
 // Document 01, "Modules, leaves first": "The library is callable from a C or Rust host by numbers and byte slices".
+
+#![tactic(auto)]
+
 ghost use Rattle.std.specs.Prelude.{◌≡◌};
 ghost use Rattle.answers.specs.Lent.{if_into, pack_into, plan_by_into, plan_into, resample_into, unpack_into};
 ghost use Rattle.answers.specs.Sheets.{pll_into, worksheet_into};

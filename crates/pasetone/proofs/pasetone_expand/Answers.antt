@@ -1,0 +1,7 @@
+-- `pasetone::pasetone_expand` meets its contract: it tells what the call below answers. Assumes nothing.
+use Rattle.pasetone.proofs.Telling.{lent_told}
+use borrow.Author.Rules.{rules}
+use Rattle.pasetone.proofs.pasetone_expand.Goals as goal
+
+pub returns : goal.returns
+returns c = lent_told _ _ _ _ c.numbers.ensures c.expand-answer.ensures

@@ -1,0 +1,7 @@
+-- `pasetone::pasetone_plan_pll_by_worksheet` meets its contract: it tells what the call below answers. Assumes nothing.
+use Rattle.pasetone.proofs.Telling.{lent_told}
+use borrow.Author.Rules.{rules}
+use Rattle.pasetone.proofs.pasetone_plan_pll_by_worksheet.Goals as goal
+
+pub returns : goal.returns
+returns c = lent_told _ _ _ _ c.numbers.ensures c.plan_pll_by_worksheet-answer.ensures
