@@ -50,7 +50,7 @@ use Rattle.stations.specs.Centre.{Filed}
 use Rattle.stations.specs.Locks.{LockTold}
 use Rattle.stations.specs.Rated.{RateTold}
 use Rattle.stations.proofs.CutShort as cut_short
-use Rattle.stations.proofs.Filed as stations
+use Rattle.stations.proofs.FiledTunes as stations
 use Rattle.stations.proofs.Locks as locks
 use Rattle.stations.proofs.Rated as rated-so
 use Rattle.tuners.specs.Over.{over_tuning}

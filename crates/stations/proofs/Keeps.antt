@@ -1,9 +1,9 @@
 -- What a tuning, a board-level tune and a reload leave of a tuner's record, whatever they are answered: kind, IF, both references and the chip's
 -- address. Assumes nothing.
 use Prim.Native.Nat.{ℕ}
-use mathlib.Core.Path.{◌≡◌, refl, sym, ap, ◌∙◌}
+use mathlib.Core.Path.{◌≡◌, refl, ◌∙◌}
 use mathlib.Core.Bool.{Bool, true, false, cond}
-use mathlib.Core.List.{List, []}
+use mathlib.Core.List.{List}
 use lib.Dec.{eqb}
 use Rattle.boards.specs.Hops.{hop_result}
 use Rattle.refusals.specs.declared.Answer.{Answer}
@@ -15,7 +15,6 @@ use Rattle.chip.specs.Steps.{Step, Trace, in_list, trace}
 use Rattle.chip.proofs.Laws.{run_address}
 use Rattle.driver.specs.declared.Driver.{Driver}
 use Rattle.driver.specs.Calls.{Both}
-use Rattle.pll.specs.declared.Kind.{Kind}
 use Rattle.r82xx.specs.declared.Tuner.{Tuner}
 use Rattle.r82xx.specs.Orders as tuner
 use Rattle.r82xx.specs.Orders.Order.{Reload, Tune}

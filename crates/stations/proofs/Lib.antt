@@ -12,3 +12,4 @@ pub mod Locks
 pub mod Rated
 pub mod CutShort
 pub mod Filed
+pub mod FiledTunes

@@ -2,17 +2,14 @@
 -- where one was, it may be no station that was ever asked for (a tuning cut between 0x14 and 0x16 leaves N of the new one and S of the old). Assumes nothing.
 use Prim.Native.Nat.{ℕ, ◌+◌, ◌<◌}
 use mathlib.Core.Path.{◌≡◌, refl, sym, ap, subst, ◌∙◌}
-use mathlib.Core.Bool.{Bool, true, false, cond, false≢true}
+use mathlib.Core.Bool.{true, false}
 use mathlib.Core.List.{List, ◌++◌}
 use native.Mathlib.Omega.{arith}
-use lib.Dec.{eqb}
 use lib.ListN.{get_or, length}
 use Rattle.transcript.specs.declared.Entry.{Entry}
 use Rattle.attempts.specs.Attempts.{Played, Regs, byte_in, last_in, tuner_at}
 use Rattle.attempts.proofs.Played.{played_append}
-use Rattle.refusals.specs.declared.Answer.{Answer}
-use Rattle.refusals.specs.declared.Answer.TheVariants.{Done, Refused}
-use Rattle.chip.specs.declared.Chip.{Chip}
+use Rattle.refusals.specs.declared.Answer.TheVariants.{Done}
 use Rattle.chip.specs.Courses.{left_by}
 use Rattle.chip.specs.Steps.{every}
 use Rattle.history.specs.Histories.{Restored}
@@ -23,7 +20,7 @@ use Rattle.r82xx.specs.Orders as tuner
 use Rattle.r82xx.specs.Orders.Order.{Reload}
 use Rattle.r82xx.specs.Record.{sound, sound_by}
 use Rattle.writes.specs.Lists.{init_array}
-use Rattle.station.specs.Station.{attempted_at, doubtful_at, oscillator_of, unsure}
+use Rattle.station.specs.Station.{attempted_at, oscillator_of, unsure}
 use Rattle.station.proofs.Told.{told}
 use Rattle.sequences.specs.Calls.{Call, call, entries, result, tuner_after}
 use Rattle.sequences.specs.Calls.Order.{Tuned}
@@ -48,22 +45,26 @@ module _ (t : Tuner) (es : List Entry) (s : Sequence t es) (os room : List ℕ) 
         each_five (λ r. after r ≡ attempted_at t.chip r) (at 11 (omega arith)) (at 13 (omega arith)) (at 15 (omega arith)) (at 16 (omega arith))
         (at 17 (omega arith))
 
+    kept_where_sure : unsure t.chip ≡ false → (before now after : Regs) → Played t.chip.address es before now → Played t.chip.address (entries reload t) now after
+        → (r : ℕ) → stands_by r ≡ true → after r ≡ now r
+    kept_where_sure sure before now after played again r five =
+        reload-stands before after (played_append (tuner_at t.chip.address) es (entries reload t) before now after played again) r five
+        ∙ sym (holds_five t es s before now played sure r five)
+
     -- where none of the five was in doubt it stays, on every chip
     module _ (sure : unsure t.chip ≡ false) (before now after : Regs) (played : Played t.chip.address es before now)
         (again : Played t.chip.address (entries reload t) now after) where
       pub reload-keeps : (r : ℕ) → stands_by r ≡ true → after r ≡ now r
-      reload-keeps r five =
-          reload-stands before after (played_append (tuner_at t.chip.address) es (entries reload t) before now after played again) r five
-          ∙ sym (holds_five t es s before now played sure r five)
+      reload-keeps = kept_where_sure sure before now after played again
 
       pub reload-keeps-vco : (reference : ℕ) → vco_in reference after ≡ vco_in reference now
-      reload-keeps-vco reference = same_vco reference after now reload-keeps
+      reload-keeps-vco reference = same_vco reference after now (kept_where_sure sure before now after played again)
 
       pub reload-keeps-hz : (reference : ℕ) → hz_in reference after ≡ hz_in reference now
-      reload-keeps-hz reference = same_hz reference after now reload-keeps
+      reload-keeps-hz reference = same_hz reference after now (kept_where_sure sure before now after played again)
 
       pub reload-keeps-within : (lo reference : ℕ) → Within lo reference now → Within lo reference after
-      reload-keeps-within lo reference = same_within reference now after (λ r five. sym (reload-keeps r five)) lo
+      reload-keeps-within lo reference = same_within reference now after (λ r five. sym (kept_where_sure sure before now after played again r five)) lo
 
     -- ---- and by the record
 
