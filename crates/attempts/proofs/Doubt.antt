@@ -9,7 +9,7 @@ use mathlib.Core.Logic.{◌⊎◌, ◌↔◌, inl, inr}
 use Rattle.transcript.specs.declared.Entry.{Entry}
 use Rattle.attempts.specs.Namings.{Last, Naming, Played, byte_in, doubt_in, last_in}
 use Rattle.attempts.specs.Namings.Last.{Never, Tried}
-use Rattle.attempts.proofs.Played.{last_done, last-never, some_played, vain_any}
+use Rattle.attempts.proofs.Played.{last_done, last_never, some_played, vain_any}
 
 -- "those never attempted or last attempted in vain"
 abbrev pub InVain : Last → Type 0
@@ -47,7 +47,7 @@ module _ {P : Type 0} (chip : Naming P) where
       go : (l : Last) → last_in chip es r ≡ l → (before : P → ℕ) × (after : P → ℕ) × Played chip es before after × (after r ≡ x)
       go Never e =
           let some = some_played chip es (λ q. x) in
-          (λ q. x, some.0, some.1, last-never chip es (λ q. x) some.0 some.1 r e)
+          (λ q. x, some.0, some.1, last_never chip es (λ q. x) some.0 some.1 r e)
       go (Tried byte true) e = absurd (false≢true (sym (ap doubt_in e) ∙ h))
       go (Tried byte false) e =
           let some = vain_any chip es r byte x (λ q. 0) e in

@@ -41,8 +41,8 @@ module _ {P : Type 0} (chip : Naming P) where
     last_done r byte h = rw h at (agrees es r (before r) before after Never played refl)
 
     -- a register that no entry named holds what it held
-    pub last-never : (r : P) → last_in chip es r ≡ Never → after r ≡ before r
-    last-never r h = rw h at (agrees es r (before r) before after Never played refl)
+    pub last_never : (r : P) → last_in chip es r ≡ Never → after r ≡ before r
+    last_never r h = rw h at (agrees es r (before r) before after Never played refl)
 
   -- ---- entries one after the other
 
@@ -85,14 +85,14 @@ module _ {P : Type 0} (chip : Naming P) where
 
   -- a failed write may have landed in any part: in each register that it named the old byte and the new one are both admitted, in any choice
   module _ (e : Entry) (failed : chip.settles e ≡ false) (before : P → ℕ) where
-    pub failed-part : (part : P → Bool) → Lands chip e before (partly chip e part before)
-    failed-part part = lands_part e part before (λ r d. absurd (false≢true (sym failed ∙ d)))
+    pub failed_part : (part : P → Bool) → Lands chip e before (partly chip e part before)
+    failed_part part = lands_part e part before (λ r d. absurd (false≢true (sym failed ∙ d)))
 
-    pub new-byte : (part : P → Bool) (r : P) → chip.named e r ≡ true → part r ≡ true → partly chip e part before r ≡ chip.sent e r
-    new-byte part r t p = rw (t, p)
+    pub new_byte : (part : P → Bool) (r : P) → chip.named e r ≡ true → part r ≡ true → partly chip e part before r ≡ chip.sent e r
+    new_byte part r t p = rw (t, p)
 
-    pub old-byte : (part : P → Bool) (r : P) → part r ≡ false → partly chip e part before r ≡ before r
-    old-byte part r p = go (chip.named e r) refl
+    pub old_byte : (part : P → Bool) (r : P) → part r ≡ false → partly chip e part before r ≡ before r
+    old_byte part r p = go (chip.named e r) refl
       where
         go : (b : Bool) → chip.named e r ≡ b → partly chip e part before r ≡ before r
         go true t = rw (t, p)

@@ -126,9 +126,9 @@ module _ (s : List ℕ) where
   not_sized h = rw h
 
   module _ (hz : ℕ) (t : Bool) (p : Planned) (e : t ≡ table_ok s) where
-    pub by-bands : t ≡ true → p ≡ plan_in (bands_of s) hz → p ≡ plan_by s hz
+    pub by_bands : t ≡ true → p ≡ plan_in (bands_of s) hz → p ≡ plan_by s hz
     unfolding plan_by
-    by-bands h made = rw (← e, h, made)
+    by_bands h made = rw (← e, h, made)
 
     pub no_table : t ≡ false → p ≡ refused TABLE → p ≡ plan_by s hz
     unfolding plan_by

@@ -142,12 +142,12 @@ hop_by os rs room hz t d later p by f mid after answer whole lock k w q a l hear
 -- ---- the whole call: refused before any step, or performed
 
 module _ (os rs room : List ℕ) (hz : ℕ) (t : Tuner) (d : Driver) (p : Planned) (s : Bool) (xtal argument given : ℕ)
-    (by-tuner : s ≡ sound t) (by-driver : xtal ≡ xtal_of d) (by_all : argument ≡ hop_refusal p t.ifreq)
+    (by_tuner : s ≡ sound t) (by-driver : xtal ≡ xtal_of d) (by_all : argument ≡ hop_refusal p t.ifreq)
     (asked : given ≡ refusal_with (s && leb 1 xtal) argument 64 38 (length room) (length os) (length rs)) where
   number : given ≡ refusal_with (sound t && sound_driver d) (hop_refusal p t.ifreq) 64 38 (length room) (length os) (length rs)
   number =
       asked
-      ∙ (λ i. refusal_with (by-tuner i && leb 1 (by-driver i)) (by_all i) 64 38 (length room) (length os) (length rs))
+      ∙ (λ i. refusal_with (by_tuner i && leb 1 (by-driver i)) (by_all i) 64 38 (length room) (length os) (length rs))
 
   pub hop_refused : (given ≡ 0 → ⊥)
       → (called (both t d) room 0 (Refused given) ≡ hop_result p hz rs os t d room) × (no_tries ≡ hop_lock_tries p hz rs os t d room)

@@ -36,7 +36,7 @@ use Rattle.carried.specs.Crashed.{Kept, Knows, Memory, Rounds, called_with, expo
 use Rattle.carried.specs.Exported.{Exported, amiss, leaves, order_of, stands, typed}
 use Rattle.carried.specs.Exported.Exported.{Own, Rate, Correct, Path, Hop}
 use Rattle.carried.specs.Holding.{Holds}
-use Rattle.carried.proofs.Demand.{entries_read, sure-holds}
+use Rattle.carried.proofs.Demand.{entries_read, sure_holds}
 use Rattle.carried.proofs.Holding.{Recorded, address_stays, carried_recorded, one_more}
 use Rattle.carried.proofs.Passed.{Passed, every_passed, turned}
 use Rattle.carried.proofs.Passed.Passed.{away, made}
@@ -113,24 +113,24 @@ module _ (t : Tuner) (r : Ranged t) (e : Exported) where
           }
 
   module _ (os rs : List ℕ) (m : Memory) (k : Knows e b os rs m) where
-    pub known-met : Met m
-    known-met = met m k.numbers k.taken
+    pub known_met : Met m
+    known_met = met m k.numbers k.taken
 
     pub known_so : inside.Knows ask os rs (script_of m)
-    known_so = record { outcomes = k.outcomes; replies = k.replies; taken = known-met.refused }
+    known_so = record { outcomes = k.outcomes; replies = k.replies; taken = known_met.refused }
 
   -- the host's rounds are those of crate `rounds`
   pub rounds_so : (os rs : List ℕ) (ds : List Entry) → Rounds e b os rs ds → inside.Rounds ask os rs ds
   rounds_so os rs ds begun = begun
   rounds_so xs ys zs (round os rs es p m k x here o bs n small) =
       round os rs es (rounds_so os rs es p) (script_of m) (known_so os rs m k) x
-      (sym (ap (step_at (length os)) (known-met os rs m k).entries) ∙ here) o bs n small
+      (sym (ap (step_at (length os)) (known_met os rs m k).entries) ∙ here) o bs n small
 
   module _ (os rs : List ℕ) (ds : List Entry) (rounds : Rounds e b os rs ds) (m : Memory) where
-    crashed-at : Kept e b os rs m → (address : ℕ) (start mid now : Regs) → Played address ds start mid
+    crashed_at : Kept e b os rs m → (address : ℕ) (start mid now : Regs) → Played address ds start mid
         → Touched address (step_at (length os) (heard e b m)) mid now → Played address (heard e b m) start now
-    crashed-at kept address start mid now p =
-        let is : heard e b m ≡ script.made ask (script_of m) = (known-met os rs m kept.known).entries in
+    crashed_at kept address start mid now p =
+        let is : heard e b m ≡ script.made ask (script_of m) = (known_met os rs m kept.known).entries in
         subst (λ (l : List Entry). Touched address (step_at (length os) l) mid now → Played address l start now) (sym is)
         (driven.crashed address ask os rs ds (rounds_so os rs ds rounds) (script_of m)
         (record { known = known_so os rs m kept.known; vain = kept.vain }) start mid now p)
@@ -139,8 +139,8 @@ module _ (t : Tuner) (r : Ranged t) (e : Exported) where
         → ((leaves (called_with e m) b).reply ≡ (leaves (called_with e n) b).reply) × ((leaves (called_with e m) b).bytes ≡ (leaves (called_with e n) b).bytes)
         × (heard e b m ≡ ds) × (heard e b n ≡ ds)
     ended_at n k l h =
-        let x : Met m = known-met os rs m k in
-        let y : Met n = known-met os rs n l in
+        let x : Met m = known_met os rs m k in
+        let y : Met n = known_met os rs n l in
         let last : step_at (length os) (script.made ask (script_of m)) ≡ [] = sym (ap (step_at (length os)) x.entries) ∙ h in
         let so = rounds_so os rs ds rounds in
         let same : Ends (result (inner m) t) (result (inner n) t) =
@@ -162,7 +162,7 @@ module _ (b : List ℕ) (w : Recorded b) (e : Exported) (os rs : List ℕ) (ds :
       subst
       (λ (d : List ℕ). Rounds e d os rs ds → Kept e d os rs m → (address : ℕ) (start mid now : Regs) → Played address ds start mid
       → Touched address (step_at (length os) (heard e d m)) mid now → Played address (heard e d m) start now) (sym w.bytes)
-      (λ q. crashed-at w.tuner w.ranges e os rs ds q m) rounds
+      (λ q. crashed_at w.tuner w.ranges e os rs ds q m) rounds
 
   -- "When every step has been taken", reply, next bytes and entries are those of every call with what is known: the rest of the script, of any room and of any slice, does not count
   pub ended_alike : (n : Memory) → Knows e b os rs m → Knows e b os rs n → step_at (length os) (heard e b m) ≡ []
@@ -196,5 +196,5 @@ module _ (b : List ℕ) (es : List Entry) (c : Carried b es) (e : Exported) (os 
   pub recovered_sure : (i : ℕ) → i < 27 → get_or (leaves (called_with e m) b).bytes (51 + i) 1 ≡ 0 → now (5 + i) ≡ get_or (leaves (called_with e m) b).bytes (2 + i) 0
   recovered_sure =
       let same : get_or (leaves (called_with e m) b).bytes 1 0 ≡ get_or b 1 0 = address_stays b (carried_recorded b es c) (called_with e m) kept.known.numbers in
-      sure-holds (leaves (called_with e m) b).bytes (es ++ heard e b m) recovered.0 before now
+      sure_holds (leaves (called_with e m) b).bytes (es ++ heard e b m) recovered.0 before now
       (subst (λ (a : ℕ). Played a (es ++ heard e b m) before now) (sym same) recovered.1)

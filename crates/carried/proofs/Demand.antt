@@ -19,7 +19,7 @@ use Rattle.transcript.specs.Sections.{AllFit, Parted}
 use Rattle.attempts.specs.Attempts.{Played, Regs, byte_in, doubt_in, last_in, tuner_at}
 use Rattle.attempts.specs.Namings.Last.{Never, Tried}
 use Rattle.attempts.proofs.Doubt.{InVain, doubt_any, doubt_exactly, sure_byte}
-use Rattle.attempts.proofs.Played.{last_done, last-never, some_played}
+use Rattle.attempts.proofs.Played.{last_done, last_never, some_played}
 use Rattle.wire.specs.Bytes.{le_bytes}
 use Rattle.wire.specs.Parts.{part, parts_from}
 use Rattle.wire.proofs.Joins.{parts_joined}
@@ -253,13 +253,13 @@ pub done_zero : {R : Type 0} (number : ℕ) (os : List ℕ) (ss : List Step) (c 
 unfolding call_of
 done_zero {R} number os ss c keep old room = go (eqb number 0) refl
   where
-    by-progress : (w : Progress) → number_of (answer_of (Done 0) w) ≡ 0 → answer_of (Done 0) w ≡ Done 0
-    by-progress Going h = refl
-    by-progress (Refused11 k) h = absurd (omega arith)
+    by_progress : (w : Progress) → number_of (answer_of (Done 0) w) ≡ 0 → answer_of (Done 0) w ≡ Done 0
+    by_progress Going h = refl
+    by_progress (Refused11 k) h = absurd (omega arith)
 
     go : (b : Bool) → eqb number 0 ≡ b → number_of (cond b (performed (Done 0) keep room (trace os ss c)) (called old room 0 (Refused number))).answer ≡ 0
         → (cond b (performed (Done 0) keep room (trace os ss c)) (called old room 0 (Refused number))).answer ≡ Done 0
-    go true e h = by-progress (trace os ss c).progress h
+    go true e h = by_progress (trace os ss c).progress h
     go false e h = absurd (eqb-false number 0 e h)
 
 reload_answer : (t : Tuner) (os room : List ℕ) → number_of (result (call (Tuned Reload) os room) t).answer ≡ 0 → (result (call (Tuned Reload) os room) t).answer ≡ Done 0
@@ -324,15 +324,15 @@ module _ (b : List ℕ) (es : List Entry) (c : Carried b es) where
 
   module _ (before now : Regs) (played : Played (get_or b 1 0) es before now) where
     -- (b) "a register whose last attempt was done holds the byte sent": any register, also past 0x1f
-    pub done-holds : (r byte : ℕ) → last_in (get_or b 1 0) es r ≡ Tried byte true → now r ≡ byte
-    done-holds r byte h = last_done (tuner_at (get_or b 1 0)) es before now played r byte h
+    pub done_holds : (r byte : ℕ) → last_in (get_or b 1 0) es r ≡ Tried byte true → now r ≡ byte
+    done_holds r byte h = last_done (tuner_at (get_or b 1 0)) es before now played r byte h
 
-    pub never-kept : (r : ℕ) → last_in (get_or b 1 0) es r ≡ Never → now r ≡ before r
-    never-kept r h = last-never (tuner_at (get_or b 1 0)) es before now played r h
+    pub never_kept : (r : ℕ) → last_in (get_or b 1 0) es r ≡ Never → now r ≡ before r
+    never_kept r h = last_never (tuner_at (get_or b 1 0)) es before now played r h
 
     -- so where the doubtful byte is 0 the chip holds the shadow's
-    pub sure-holds : (i : ℕ) → i < 27 → get_or b (51 + i) 1 ≡ 0 → now (5 + i) ≡ get_or b (2 + i) 0
-    sure-holds i h d =
+    pub sure_holds : (i : ℕ) → i < 27 → get_or b (51 + i) 1 ≡ 0 → now (5 + i) ≡ get_or b (2 + i) 0
+    sure_holds i h d =
         sure_byte (tuner_at (get_or b 1 0)) es before now (5 + i) (get_or init_array i 0) played (flag_none (doubt_in (last_in (get_or b 1 0) es (5 + i))) (sym (doubtful_byte i h) ∙ d))
         ∙ sym (shadow_byte i h)
 
@@ -366,16 +366,16 @@ module _ (b : List ℕ) (es : List Entry) (c : Carried b es) where
     reply = (leaves k b).reply
 
     -- it is refused 1 exactly for a path above 2, or for bytes that are no driver's record
-    pub refused-one : eqb reply.refusal SETUP ≡ amiss k.exported
-    refused-one = go pass
+    pub refused_one : eqb reply.refusal SETUP ≡ amiss k.exported
+    refused_one = go pass
       where
         go : Passed t inner number (amiss k.exported) (leaves k b) → eqb reply.refusal SETUP ≡ amiss k.exported
         go (away z told same bytes) = ap (λ (a : Reply). eqb a.refusal SETUP) same ∙ told.setup
         go (made z told same room bytes) = ap (λ (a : Reply). eqb a.refusal SETUP) same ∙ told.setup
 
     -- #106, "refusal 5 goes with it": no call is refused 5
-    pub never-five : eqb reply.refusal 5 ≡ false
-    never-five = go pass
+    pub never_five : eqb reply.refusal 5 ≡ false
+    never_five = go pass
       where
         go : Passed t inner number (amiss k.exported) (leaves k b) → eqb reply.refusal 5 ≡ false
         go (away z told same bytes) = ap (λ (a : Reply). eqb a.refusal 5) same ∙ told.never
@@ -395,8 +395,8 @@ module _ (b : List ℕ) (es : List Entry) (c : Carried b es) where
             ∙ sym (ap length (made_entries t es calls ranges inner h (leaves k b) same room))
 
     -- "Each call with steps writes its section at the start of the lent room": where there are entries the reader accepts it, and they are those
-    pub section-read : 0 < reply.count → Parted (take (16 * reply.count + 8) (leaves k b).room) [] (entries_of k b)
-    section-read some = go pass
+    pub section_read : 0 < reply.count → Parted (take (16 * reply.count + 8) (leaves k b).room) [] (entries_of k b)
+    section_read some = go pass
       where
         go : Passed t inner number (amiss k.exported) (leaves k b) → Parted (take (16 * reply.count + 8) (leaves k b).room) [] (entries_of k b)
         go (away z told same bytes) =
@@ -407,7 +407,7 @@ module _ (b : List ℕ) (es : List Entry) (c : Carried b es) where
             let count : reply.count ≡ (result inner t).count = ap (λ (a : Reply). a.count) same ∙ whole in
             let more : 0 < (result inner t).count = omega arith in
             rw (made_entries t es calls ranges inner h (leaves k b) same room, count, room more)
-            (sequence.section-read t es calls inner (typed_given inner.order t h) more)
+            (sequence.section_read t es calls inner (typed_given inner.order t h) more)
 
     -- "11 step | a step other than a closing failed": exactly then, read off those entries
     pub eleven_exactly : eqb reply.refusal STEP ≡ not (every passable (entries_of k b))

@@ -67,7 +67,7 @@ use Rattle.carried.specs.Driven.Driven.{fresh, rated, corrected, hopped}
 use Rattle.carried.proofs.Steady.{Settled, Steady, hop_starts, late, row_settled, xtal_small}
 use Rattle.carried.proofs.Steady.Steady.{resting, stepping}
 use Rattle.carried.proofs.Passed.{found, in_place, picked, taken_over}
-use Rattle.carried.proofs.Demand.{lent_done, refused-one}
+use Rattle.carried.proofs.Demand.{lent_done, refused_one}
 
 -- a small number is an i32
 sfits_small : (n : ℕ) → n < 2_147_483_648 → SFits w32 (pos n)
@@ -281,13 +281,13 @@ module _ (b : List ℕ) (es : List Entry) (c : Carried b es) (d : List ℕ) (v :
   found_there = rw (driver_readable d v)
 
   pub rate_taken : (rate : ℕ) (table slot : List ℕ) → eqb (leaves (lent (Rate rate table d slot) os room out) b).reply.refusal SETUP ≡ false
-  rate_taken rate table slot = refused-one b es c (lent (Rate rate table d slot) os room out) refl ∙ found_there
+  rate_taken rate table slot = refused_one b es c (lent (Rate rate table d slot) os room out) refl ∙ found_there
 
   pub correction_taken : (ppm : ℤ) → eqb (leaves (lent (Correct ppm d) os room out) b).reply.refusal SETUP ≡ false
-  correction_taken ppm = refused-one b es c (lent (Correct ppm d) os room out) refl ∙ found_there
+  correction_taken ppm = refused_one b es c (lent (Correct ppm d) os room out) refl ∙ found_there
 
   pub hop_taken : (hz : ℕ) (table rs slot : List ℕ) → every is_byte rs ≡ true → eqb (leaves (lent (Hop hz table rs d slot) os room out) b).reply.refusal SETUP ≡ false
-  hop_taken hz table rs slot h = refused-one b es c (lent (Hop hz table rs d slot) os room out) h ∙ found_there
+  hop_taken hz table rs slot h = refused_one b es c (lent (Hop hz table rs d slot) os room out) h ∙ found_there
 
 -- there is such a driver: a generic board's, made, and then corrected beside a tuner's bytes that are none
 abbrev generic : List ℕ

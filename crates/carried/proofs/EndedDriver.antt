@@ -31,7 +31,7 @@ use Rattle.carried.specs.Crashed.{Knows, Memory, Rounds, heard}
 use Rattle.carried.specs.Driven.{taking29}
 use Rattle.carried.specs.Exported.{plainly, stands}
 use Rattle.carried.specs.Exported.Exported.{Hop, Rate}
-use Rattle.carried.proofs.Crashed.{known-met, known_so, rounds_so, script_of}
+use Rattle.carried.proofs.Crashed.{known_met, known_so, rounds_so, script_of}
 use Rattle.carried.proofs.Driven.{Heard, driver_long, hop_steady, left_count, rate_steady, slot_long}
 use Rattle.carried.proofs.Passed.{taken_over}
 use Rattle.carried.proofs.Steady.{Settled, row_settled}
@@ -65,27 +65,27 @@ module _ (t : Tuner) (rt : Ranged t) (d : Driver) (r : RangedDriver d) where
         taking29 (rate_over m.outcomes rate table (driver_bytes d) (tuner_bytes t) m.room m.slot m.next).answer
         (rate_over m.outcomes rate table (driver_bytes d) (tuner_bytes t) m.room m.slot m.next).driver (driver_bytes d)
 
-    rated-bytes : (m : Memory) → stands (rate_over m.outcomes rate table (driver_bytes d) (tuner_bytes t) m.room m.slot m.next).answer ≡ true
+    rated_bytes : (m : Memory) → stands (rate_over m.outcomes rate table (driver_bytes d) (tuner_bytes t) m.room m.slot m.next).answer ≡ true
         → rated m ≡ driver_bytes (rate_result rate (plan_by table d.frequency) m.outcomes t d m.room).next.driver
     unfolding rate_result
-    rated-bytes m q =
+    rated_bytes m q =
         let row = rate_row rate (plan_by table d.frequency) t d in
         next_bytes _ (λ u v. rate_result rate (plan_by table v.frequency) m.outcomes u v m.room) m.room m.slot m.next
         (row_settled Heard (both t d) r t.chip (sound t && sound_driver d) m.outcomes m.room row (rate_steady t d r rate (plan_by table d.frequency) small))
         (left_count (sound t && sound_driver d) row m.outcomes t.chip (both t d) m.room (omega (arith, row_long (SampleRate rate table d) t))) q
 
-    pub rate-ended : (os rs : List ℕ) (ds : List Entry) → Rounds (Rate rate table (driver_bytes d) own) (tuner_bytes t) os rs ds → (m n : Memory)
+    pub rate_ended : (os rs : List ℕ) (ds : List Entry) → Rounds (Rate rate table (driver_bytes d) own) (tuner_bytes t) os rs ds → (m n : Memory)
         → Knows (Rate rate table (driver_bytes d) own) (tuner_bytes t) os rs m → Knows (Rate rate table (driver_bytes d) own) (tuner_bytes t) os rs n
         → step_at (length os) (heard (Rate rate table (driver_bytes d) own) (tuner_bytes t) m) ≡ [] → rated m ≡ rated n
-    rate-ended os rs ds rounds m n k l h =
+    rate_ended os rs ds rounds m n k l h =
         let e = Rate rate table (driver_bytes d) own in
         let ends : Ends _ _ =
         ended_rate os rs ds (script_of t rt e m) (script_of t rt e n) rate table (driver_of (driver_bytes d)).driver t (rounds_so t rt e os rs ds rounds) (known_so t rt e os rs m k)
-        (known_so t rt e os rs n l) (sym (ap (step_at (length os)) (known-met t rt e os rs m k).entries) ∙ h) in
+        (known_so t rt e os rs n l) (sym (ap (step_at (length os)) (known_met t rt e os rs m k).entries) ∙ h) in
         let by : Driver → Memory → List ℕ = (λ v z. driver_bytes (rate_result rate (plan_by table v.frequency) z.outcomes t v z.room).next.driver) in
-        rated-bytes m k.taken
+        rated_bytes m k.taken
         ∙ subst (λ (v : Driver). by v m ≡ by v n) same_driver (ap (λ (x : Both). driver_bytes x.driver) ends.next)
-        ∙ sym (rated-bytes n l.taken)
+        ∙ sym (rated_bytes n l.taken)
 
   module _ (hz : ℕ) (small : hz < 18_446_744_073_709_551_616) (table own other : List ℕ) where
     abbrev hopped : Memory → List ℕ
@@ -93,24 +93,24 @@ module _ (t : Tuner) (rt : Ranged t) (d : Driver) (r : RangedDriver d) where
         taking29 (plainly (hop_over table hz m.replies m.outcomes (driver_bytes d) (tuner_bytes t) m.room m.slot m.next).answer)
         (hop_over table hz m.replies m.outcomes (driver_bytes d) (tuner_bytes t) m.room m.slot m.next).driver (driver_bytes d)
 
-    hopped-bytes : (m : Memory) → stands (plainly (hop_over table hz m.replies m.outcomes (driver_bytes d) (tuner_bytes t) m.room m.slot m.next).answer) ≡ true
+    hopped_bytes : (m : Memory) → stands (plainly (hop_over table hz m.replies m.outcomes (driver_bytes d) (tuner_bytes t) m.room m.slot m.next).answer) ≡ true
         → hopped m ≡ driver_bytes (hop_result (plan_by table hz) hz m.replies m.outcomes t d m.room).next.driver
     unfolding hop_result
-    hopped-bytes m q =
+    hopped_bytes m q =
         let row = hop_row (plan_by table hz) hz m.replies t d in
         next_bytes (hop_argument table hz) (λ u v. hop_result (plan_by table hz) hz m.replies m.outcomes u v m.room) m.room m.slot m.next
         (row_settled Heard (both t d) r t.chip (sound t && sound_driver d) m.outcomes m.room row (hop_steady t d r hz (plan_by table hz) m.replies small))
         (left_count (sound t && sound_driver d) row m.outcomes t.chip (both t d) m.room (omega (arith, row_long (BoardTune hz table m.replies d) t))) q
 
-    pub hop-ended : (os rs : List ℕ) (ds : List Entry) → Rounds (Hop hz table own (driver_bytes d) other) (tuner_bytes t) os rs ds → (m n : Memory)
+    pub hop_ended : (os rs : List ℕ) (ds : List Entry) → Rounds (Hop hz table own (driver_bytes d) other) (tuner_bytes t) os rs ds → (m n : Memory)
         → Knows (Hop hz table own (driver_bytes d) other) (tuner_bytes t) os rs m → Knows (Hop hz table own (driver_bytes d) other) (tuner_bytes t) os rs n
         → step_at (length os) (heard (Hop hz table own (driver_bytes d) other) (tuner_bytes t) m) ≡ [] → hopped m ≡ hopped n
-    hop-ended os rs ds rounds m n k l h =
+    hop_ended os rs ds rounds m n k l h =
         let e = Hop hz table own (driver_bytes d) other in
         let ends : Ends _ _ =
         ended_hop os rs ds (script_of t rt e m) (script_of t rt e n) hz table own (driver_of (driver_bytes d)).driver t (rounds_so t rt e os rs ds rounds) (known_so t rt e os rs m k)
-        (known_so t rt e os rs n l) (sym (ap (step_at (length os)) (known-met t rt e os rs m k).entries) ∙ h) in
+        (known_so t rt e os rs n l) (sym (ap (step_at (length os)) (known_met t rt e os rs m k).entries) ∙ h) in
         let by : Driver → Memory → List ℕ = (λ v z. driver_bytes (hop_result (plan_by table hz) hz z.replies z.outcomes t v z.room).next.driver) in
-        hopped-bytes m k.taken
+        hopped_bytes m k.taken
         ∙ subst (λ (v : Driver). by v m ≡ by v n) same_driver (ap (λ (x : Both). driver_bytes x.driver) ends.next)
-        ∙ sym (hopped-bytes n l.taken)
+        ∙ sym (hopped_bytes n l.taken)

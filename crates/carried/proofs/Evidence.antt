@@ -240,37 +240,37 @@ module _ (b : List ℕ) (es : List Entry) (c : Carried b es) where
     abbrev pub so_far : List Entry
     so_far = (es ++ entries_of rated b) ++ gs
 
-    rate-made : Made given rated b
-    rate-made = made_here rated refl done
+    rate_made : Made given rated b
+    rate_made = made_here rated refl done
 
     abbrev first : Tuner
     first = tuner_after (within rated) given
 
-    then-on : After first (es ++ entries (within rated) given) now gs
-    then-on =
-        after first (es ++ entries (within rated) given) (leaves rated b).bytes rate-made.bytes (next_ranged given es (calls b es c) (ranges b es c) (within rated) refl)
+    then_on : After first (es ++ entries (within rated) given) now gs
+    then_on =
+        after first (es ++ entries (within rated) given) (leaves rated b).bytes rate_made.bytes (next_ranged given es (calls b es c) (ranges b es c) (within rated) refl)
         (more given es (calls b es c) (within rated) (typed_given (SampleRate rate table d) given refl)) now gs meanwhile
 
     abbrev u : Tuner
-    u = then-on.tuner
+    u = then_on.tuner
 
-    same-u : (tuner_of now).tuner ≡ u
-    same-u = ap (λ (l : List ℕ). (tuner_of l).tuner) then-on.bytes ∙ ap (λ (x : TunerRead). x.tuner) (read_written u then-on.ranges)
+    same_u : (tuner_of now).tuner ≡ u
+    same_u = ap (λ (l : List ℕ). (tuner_of l).tuner) then_on.bytes ∙ ap (λ (x : TunerRead). x.tuner) (read_written u then_on.ranges)
 
-    address-u : get_or now 1 0 ≡ u.chip.address
-    address-u = ap (λ (l : List ℕ). get_or l 1 0) then-on.bytes ∙ address_byte u then-on.ranges
+    address_u : get_or now 1 0 ≡ u.chip.address
+    address_u = ap (λ (l : List ℕ). get_or l 1 0) then_on.bytes ∙ address_byte u then_on.ranges
 
-    small-here : if_for given.ifreq rate < xtal_of d
-    small-here = subst (λ (x : Tuner). if_for x.ifreq rate < xtal_of d) (sym (same_tuner b es c)) small
+    small_here : if_for given.ifreq rate < xtal_of d
+    small_here = subst (λ (x : Tuner). if_for x.ifreq rate < xtal_of d) (sym (same_tuner b es c)) small
 
-    rate-isdone : is_done (result (call (SampleRate rate table d) os room) given).answer ≡ true
-    rate-isdone = rate_done given rate table d os room rate-made.number
+    rate_isdone : is_done (result (call (SampleRate rate table d) os room) given).answer ≡ true
+    rate_isdone = rate_done given rate table d os room rate_made.number
 
     -- what is filed of the records is filed of the bytes
-    over-bytes : (f : ℕ) (k : Lent) → entries_of k now ≡ entries (within k) u
+    over_bytes : (f : ℕ) (k : Lent) → entries_of k now ≡ entries (within k) u
         → Filed f u.chip.address u.corrected (xtal_of d) (((es ++ entries (within rated) given) ++ gs) ++ entries (within k) u)
         → Filed f (get_or now 1 0) (tuner_of now).tuner.corrected (xtal_of d) (so_far ++ entries_of k now)
-    over-bytes f k read w = rw (address-u, same-u, read, rate-made.read) w
+    over_bytes f k read w = rw (address_u, same_u, read, rate_made.read) w
 
     pub filed : (hz : ℕ) (rs os' room' out' : List ℕ) → every is_byte rs ≡ true → (leaves (lent (Own (Tune hz rs)) os' room' out') now).reply.refusal ≡ 0
         → fine_of (get_or rs 4 0) ≡ power_of (tuner_of now).tuner.kind
@@ -278,10 +278,10 @@ module _ (b : List ℕ) (es : List Entry) (c : Carried b es) where
         → Filed hz (get_or now 1 0) (tuner_of now).tuner.corrected (xtal_of d) (so_far ++ entries_of (lent (Own (Tune hz rs)) os' room' out') now)
     filed hz rs os' room' out' bytes e fine far =
         let k : Lent = lent (Own (Tune hz rs)) os' room' out' in
-        let m = made_of u ((es ++ entries (within rated) given) ++ gs) then-on.sequence then-on.ranges now then-on.bytes k bytes e in
-        over-bytes hz k m.read
-        (stations.filed given rate table d os room es (calls b es c) rate-isdone small-here u gs then-on.between hz rs os' room' (typed_given (Tuned (Tune hz rs)) u bytes)
-        (tune_done u hz rs os' room' m.number) (fine ∙ ap (λ (x : Tuner). power_of x.kind) same-u) far)
+        let m = made_of u ((es ++ entries (within rated) given) ++ gs) then_on.sequence then_on.ranges now then_on.bytes k bytes e in
+        over_bytes hz k m.read
+        (stations.filed given rate table d os room es (calls b es c) rate_isdone small_here u gs then_on.between hz rs os' room' (typed_given (Tuned (Tune hz rs)) u bytes)
+        (tune_done u hz rs os' room' m.number) (fine ∙ ap (λ (x : Tuner). power_of x.kind) same_u) far)
 
     pub filed_board : (hz : ℕ) (lines rs driver' slot' os' room' out' : List ℕ) → every is_byte rs ≡ true
         → (leaves (lent (Hop hz lines rs driver' slot') os' room' out') now).reply.refusal ≡ 0
@@ -292,11 +292,11 @@ module _ (b : List ℕ) (es : List Entry) (c : Carried b es) where
     filed_board hz lines rs driver' slot' os' room' out' bytes e fine far =
         let k : Lent = lent (Hop hz lines rs driver' slot') os' room' out' in
         let v : Driver = (driver_of driver').driver in
-        let m = made_of u ((es ++ entries (within rated) given) ++ gs) then-on.sequence then-on.ranges now then-on.bytes k bytes e in
-        over-bytes (plan_by lines hz).plan.hz k m.read
-        (stations.filed_board given rate table d os room es (calls b es c) rate-isdone small-here u gs then-on.between hz lines rs v os' room'
+        let m = made_of u ((es ++ entries (within rated) given) ++ gs) then_on.sequence then_on.ranges now then_on.bytes k bytes e in
+        over_bytes (plan_by lines hz).plan.hz k m.read
+        (stations.filed_board given rate table d os room es (calls b es c) rate_isdone small_here u gs then_on.between hz lines rs v os' room'
         (typed_given (BoardTune hz lines rs v) u bytes) (hop_done u hz lines rs v os' room' m.number)
-        (subst (λ (x : Tuner). fine_of (get_or (drop (path_replies x.kind (plan_by lines hz).plan.path) rs) 4 0) ≡ power_of x.kind) same-u fine) far)
+        (subst (λ (x : Tuner). fine_of (get_or (drop (path_replies x.kind (plan_by lines hz).plan.path) rs) 4 0) ≡ power_of x.kind) same_u fine) far)
 
 -- ---- read back from the file
 

@@ -47,14 +47,14 @@ use Rattle.stream.specs.Commands.{command_of}
 use Rattle.stream.specs.Pending.{gathered, is_stream, pending_of, used_by}
 use Rattle.commands.specs.Over.{Feeds, completed_by, fed_of, feed_over, feeds, no_command, not_run, run_over, waiting_by}
 use Rattle.commands.specs.Rows.{beside, command_row, is_unknown, lock_tries_by}
-use Rattle.commands.proofs.Runs.{bandwidth_taken, by_correction, by_rate, by-tuner, by_tuning_lem, driver_sound, gain_taken, index_taken, is_taken, left, over-is, rate_is, rated, reload_taken}
+use Rattle.commands.proofs.Runs.{bandwidth_taken, by_correction, by_rate, by_tuner, by_tuning_lem, driver_sound, gain_taken, index_taken, is_taken, left, over_is, rate_is, rated, reload_taken}
 use Rattle.carried.specs.Carried.{Carried}
 use Rattle.carried.specs.Carried.Carried.{next}
 use Rattle.carried.specs.Exported.{Exported, Left, Lent, amiss, by_after, by_rates, entries_of, leaves, left as onward, lent, plainly, read_by, stands, tuner_left, tuner_typed, typed, uncut}
 use Rattle.carried.specs.Exported.Exported.{Own, Rate as RateOf, Correct}
 use Rattle.carried.specs.Fed.{Completes, Makes, fed_entries, plain_fed}
 use Rattle.carried.specs.Fed.Makes.{tunes, rates, gains, steps, narrows, corrects, reloads}
-use Rattle.carried.proofs.Demand.{behind, cut_uncut, index_told, long, never-five, readable, refused-one, reload_done}
+use Rattle.carried.proofs.Demand.{behind, cut_uncut, index_told, long, never_five, readable, refused_one, reload_done}
 use Rattle.carried.proofs.Passed.{few}
 
 run_none : (x : Command) (table rs os d b room : List ℕ) → is_unknown x ≡ false → (driver_of d).ok ≡ false → run_over x table rs os d b room ≡ not_run SETUP d b room
@@ -144,16 +144,16 @@ module _ (b : List ℕ) (es : List Entry) (c : Carried b es) (table rs os d room
     whole : ((driver_of d).ok && (tuner_of b).ok) ≡ true
     whole = rw (ok, readable b es c)
 
-    few-of : (o : order.Order) → tuner_typed o ≡ true → (left_by true (order.course_of o (tuner_of b).tuner) os (tuner_of b).tuner.chip (tuner_of b).tuner room).count < 4_294_967_296
+    few_of : (o : order.Order) → tuner_typed o ≡ true → (left_by true (order.course_of o (tuner_of b).tuner) os (tuner_of b).tuner.chip (tuner_of b).tuner room).count < 4_294_967_296
     unfolding order.result_of
-    few-of o h =
+    few_of o h =
         let n = few t es (behind b es c).sequence (behind b es c).ranges (call (Tuned o) os room) h in
         subst (λ (u : Tuner). (left_by true (order.course_of o u) os u.chip u room).count < 4_294_967_296) (sym same_tuner)
         (subst (λ (z : Bool). (left_by z (order.course_of o t) os t.chip t room).count < 4_294_967_296) (sym (ap sound same_tuner) ∙ good) n)
 
-    few-rate : (rate : ℕ) → (rated table rs os d b room driver-bytes good whole rate).count < 4_294_967_296
+    few_rate : (rate : ℕ) → (rated table rs os d b room driver-bytes good whole rate).count < 4_294_967_296
     unfolding rate_result
-    few-rate rate =
+    few_rate rate =
         let d' : Driver = (driver_of d).driver in
         let p = plan_by table d'.frequency in
         let n = few t es (behind b es c).sequence (behind b es c).ranges (call (SampleRate rate table d') os room) refl in
@@ -169,85 +169,85 @@ module _ (b : List ℕ) (es : List Entry) (c : Carried b es) (table rs os d room
         → tuner_left o os room b b ≡ left_over (run_over x table rs os d b room)
     own_is x o row known taken none h l =
         let a : After = over_tuner (order.course_of o) os b room b in
-        let is = over-is table rs os d b room driver-bytes good whole x o row known taken in
-        let run = by-tuner table rs os d b room driver-bytes good whole x o row known taken none x refl b refl a.answer a.room a.next refl (tuned_of a.answer no_tries) refl in
+        let is = over_is table rs os d b room driver-bytes good whole x o row known taken in
+        let run = by_tuner table rs os d b room driver-bytes good whole x o row known taken none x refl b refl a.answer a.room a.next refl (tuned_of a.answer no_tries) refl in
         let there : (by_after a b).bytes ≡ a.next =
         ap (λ (z : After). (by_after z b).bytes) is
-        ∙ taken_there (left table rs os d b room driver-bytes good whole x o row known taken) b (few-of o h) (long b es c)
+        ∙ taken_there (left table rs os d b room driver-bytes good whole x o row known taken) b (few_of o h) (long b es c)
         ∙ sym (ap (λ (z : After). z.next) is) in
         l ∙ ap (onward a.answer a.room) there ∙ ap left_over run
 
     -- a tuning, which is the same with its tries told
-    tuning-is : (hz : ℕ) → leaves (lent (Own (order.Order.Tune hz rs)) os room b) b ≡ left_over (run_over (Frequency hz) table rs os d b room)
+    tuning_is : (hz : ℕ) → leaves (lent (Own (order.Order.Tune hz rs)) os room b) b ≡ left_over (run_over (Frequency hz) table rs os d b room)
     unfolding over_tuning
-    tuning-is hz =
+    tuning_is hz =
         let o : order.Order = order.Order.Tune hz rs in
         let a : After = over_tuner (order.course_of o) os b room b in
         let v = over_tuning (order.course_of o) os b room b in
-        let is = over-is table rs os d b room driver-bytes good whole (Frequency hz) o refl refl refl in
+        let is = over_is table rs os d b room driver-bytes good whole (Frequency hz) o refl refl refl in
         let run = by_tuning_lem table rs os d b room driver-bytes good whole hz (Frequency hz) refl b refl v.answer v.room v.next refl in
         let there : (by_after a b).bytes ≡ a.next =
         ap (λ (z : After). (by_after z b).bytes) is
-        ∙ taken_there (left table rs os d b room driver-bytes good whole (Frequency hz) o refl refl refl) b (few-of o replies) (long b es c)
+        ∙ taken_there (left table rs os d b room driver-bytes good whole (Frequency hz) o refl refl refl) b (few_of o replies) (long b es c)
         ∙ sym (ap (λ (z : After). z.next) is) in
         ap (onward a.answer a.room) there ∙ ap left_over run
 
     -- a rate, whose driver's record goes into the driver's own bytes
-    rate-is-run : (rate : ℕ) → leaves (lent (RateOf rate table d d) os room b) b ≡ left_over (run_over (Rate rate) table rs os d b room)
-    rate-is-run rate =
+    rate_is_run : (rate : ℕ) → leaves (lent (RateOf rate table d d) os room b) b ≡ left_over (run_over (Rate rate) table rs os d b room)
+    rate_is_run rate =
         let v = rate_over os rate table d b room d b in
         let is = rate_is table rs os d b room driver-bytes good whole rate in
         let x = rated table rs os d b room driver-bytes good whole rate in
         let run = by_rate table rs os d b room driver-bytes good whole rate (Rate rate) refl d b refl refl v.answer v.room v.driver v.tuner refl (tuned_of v.answer no_tries) refl in
         let there : (by_rates v b).bytes ≡ v.tuner =
-        ap (λ (z : Rates). (by_rates z b).bytes) is ∙ taken_there (tuner_only x) b (few-rate rate) (long b es c) ∙ sym (ap (λ (z : Rates). z.tuner) is) in
+        ap (λ (z : Rates). (by_rates z b).bytes) is ∙ taken_there (tuner_only x) b (few_rate rate) (long b es c) ∙ sym (ap (λ (z : Rates). z.tuner) is) in
         ap (onward v.answer v.room) there ∙ ap left_over run
 
-    correction-is : (ppm : ℤ) → leaves (lent (Correct ppm d) os room b) b ≡ left_over (run_over (Correction ppm) table rs os d b room)
-    correction-is ppm =
+    correction_is : (ppm : ℤ) → leaves (lent (Correct ppm d) os room b) b ≡ left_over (run_over (Correction ppm) table rs os d b room)
+    correction_is ppm =
         let v = correct_over ppm b d in
         ap left_over (by_correction table rs os d b room driver-bytes good whole ppm (Correction ppm) refl v.answer v.tuner v.driver refl (tuned_of v.answer no_tries) refl)
 
     -- a command leaves of the tuner's bytes and of the room what its own exported call leaves, and tells the same
-    pub run-is-call : (x : Command) (e : Exported) → Makes table rs d x e → leaves (lent e os room b) b ≡ left_over (run_over x table rs os d b room)
-    run-is-call x e (tunes hz) = tuning-is hz
-    run-is-call x e (rates rate) = rate-is-run rate
-    run-is-call x e (gains db) = own_is (GainDb db) (order.Order.Gain db) refl refl (gain_taken db (tuner_of b).tuner) refl refl refl
-    run-is-call x e (steps k) = own_is (GainIndex k) (order.Order.GainIndex k) refl refl (index_taken k (tuner_of b).tuner) refl refl refl
-    run-is-call x e (narrows hz) = own_is (Bandwidth hz) (order.Order.Bandwidth hz) refl refl (bandwidth_taken hz (tuner_of b).tuner) refl refl refl
-    run-is-call x e (corrects ppm) = correction-is ppm
-    run-is-call x e reloads = own_is Reload order.Order.Reload refl refl (reload_taken (tuner_of b).tuner) refl refl refl
+    pub run_is_call : (x : Command) (e : Exported) → Makes table rs d x e → leaves (lent e os room b) b ≡ left_over (run_over x table rs os d b room)
+    run_is_call x e (tunes hz) = tuning_is hz
+    run_is_call x e (rates rate) = rate_is_run rate
+    run_is_call x e (gains db) = own_is (GainDb db) (order.Order.Gain db) refl refl (gain_taken db (tuner_of b).tuner) refl refl refl
+    run_is_call x e (steps k) = own_is (GainIndex k) (order.Order.GainIndex k) refl refl (index_taken k (tuner_of b).tuner) refl refl refl
+    run_is_call x e (narrows hz) = own_is (Bandwidth hz) (order.Order.Bandwidth hz) refl refl (bandwidth_taken hz (tuner_of b).tuner) refl refl refl
+    run_is_call x e (corrects ppm) = correction_is ppm
+    run_is_call x e reloads = own_is Reload order.Order.Reload refl refl (reload_taken (tuner_of b).tuner) refl refl refl
 
     -- its numbers are of their types, and nothing but the tuner's and the driver's records is asked of it
-    pub made-typed : (x : Command) (e : Exported) → Makes table rs d x e → (typed e ≡ true) × (amiss e ≡ false)
-    made-typed x e (tunes hz) = (replies, refl)
-    made-typed x e (rates rate) = (refl, rw ok)
-    made-typed x e (gains db) = (refl, refl)
-    made-typed x e (steps k) = (refl, refl)
-    made-typed x e (narrows hz) = (refl, refl)
-    made-typed x e (corrects ppm) = (refl, rw ok)
-    made-typed x e reloads = (refl, refl)
+    pub made_typed : (x : Command) (e : Exported) → Makes table rs d x e → (typed e ≡ true) × (amiss e ≡ false)
+    made_typed x e (tunes hz) = (replies, refl)
+    made_typed x e (rates rate) = (refl, rw ok)
+    made_typed x e (gains db) = (refl, refl)
+    made_typed x e (steps k) = (refl, refl)
+    made_typed x e (narrows hz) = (refl, refl)
+    made_typed x e (corrects ppm) = (refl, rw ok)
+    made_typed x e reloads = (refl, refl)
 
-    made-goes : (x : Command) (e : Exported) → Makes table rs d x e → Goes es (left_over (run_over x table rs os d b room))
-    made-goes x e m = subst (Goes es) (run-is-call x e m) (next b es c (lent e os room b) (made-typed x e m).0)
+    made_goes : (x : Command) (e : Exported) → Makes table rs d x e → Goes es (left_over (run_over x table rs os d b room))
+    made_goes x e m = subst (Goes es) (run_is_call x e m) (next b es c (lent e os room b) (made_typed x e m).0)
 
     -- 1 is told of nothing: the tuner's bytes are a record, and so are the driver's
     made_one : (x : Command) (e : Exported) → Makes table rs d x e → eqb (run_over x table rs os d b room).answer.refusal SETUP ≡ false
     made_one x e m =
-        subst (λ (z : Left). eqb z.reply.refusal SETUP ≡ false) (run-is-call x e m)
-        (refused-one b es c (lent e os room b) (made-typed x e m).0 ∙ (made-typed x e m).1)
+        subst (λ (z : Left). eqb z.reply.refusal SETUP ≡ false) (run_is_call x e m)
+        (refused_one b es c (lent e os room b) (made_typed x e m).0 ∙ (made_typed x e m).1)
 
-    run-one : (x : Command) → eqb (run_over x table rs os d b room).answer.refusal SETUP ≡ false
-    run-one x = go (makes_or_none table rs d x)
+    run_one : (x : Command) → eqb (run_over x table rs os d b room).answer.refusal SETUP ≡ false
+    run_one x = go (makes_or_none table rs d x)
       where
         go : (is_unknown x ≡ true) ⊎ ((e : Exported) × Makes table rs d x e) → eqb (run_over x table rs os d b room).answer.refusal SETUP ≡ false
         go (inl none) = ap (λ (h : Hops). eqb h.answer.refusal SETUP) (run_unknown x table rs os d b room none)
         go (inr made) = made_one x made.0 made.1
 
     -- a feeding is refused 1 for bytes that are no stream's or no driver's alone
-    pub fed-one : (chunk stream : List ℕ) → is_stream stream ≡ true → eqb (feed_over table chunk rs os stream d b room).answer.refusal SETUP ≡ false
+    pub fed_one : (chunk stream : List ℕ) → is_stream stream ≡ true → eqb (feed_over table chunk rs os stream d b room).answer.refusal SETUP ≡ false
     unfolding feed_over
-    fed-one chunk stream h = rw h (go (eqb (length (gathered (pending_of stream) chunk)) 9))
+    fed_one chunk stream h = rw h (go (eqb (length (gathered (pending_of stream) chunk)) 9))
       where
         bytes : List ℕ
         bytes = gathered (pending_of stream) chunk
@@ -256,7 +256,7 @@ module _ (b : List ℕ) (es : List Entry) (c : Carried b es) (table rs os d room
         used = used_by (pending_of stream) chunk
 
         go : (y : Bool) → eqb (cond y (completed_by used (run_over (command_of bytes) table rs os d b room)) (waiting_by used bytes d b room)).answer.refusal 1 ≡ false
-        go true = run-one (command_of bytes)
+        go true = run_one (command_of bytes)
         go false = refl
 
   -- a command on the tuner's bytes: what it leaves is the sequence's next bytes, and what is read of its room the next entries. Unknown, or beside bytes that are no
@@ -266,7 +266,7 @@ module _ (b : List ℕ) (es : List Entry) (c : Carried b es) (table rs os d room
     where
       go : (is_unknown x ≡ true) ⊎ ((e : Exported) × Makes table rs d x e) → (z : Bool) → (driver_of d).ok ≡ z → Goes es (left_over (run_over x table rs os d b room))
       go (inl none) z e = subst (λ (h : Hops). Goes es (left_over h)) (sym (run_unknown x table rs os d b room none)) stays
-      go (inr made) true e = made-goes e x made.0 made.1
+      go (inr made) true e = made_goes e x made.0 made.1
       go (inr made) false e = subst (λ (h : Hops). Goes es (left_over h)) (sym (run_none x table rs os d b room (made_known table rs d x made.0 made.1) e)) stays
 
   -- no command is refused 5
@@ -276,7 +276,7 @@ module _ (b : List ℕ) (es : List Entry) (c : Carried b es) (table rs os d room
       go : (is_unknown x ≡ true) ⊎ ((e : Exported) × Makes table rs d x e) → (z : Bool) → (driver_of d).ok ≡ z → eqb (run_over x table rs os d b room).answer.refusal 5 ≡ false
       go (inl none) z e = ap (λ (h : Hops). eqb h.answer.refusal 5) (run_unknown x table rs os d b room none)
       go (inr made) true e =
-          subst (λ (l : Left). eqb l.reply.refusal 5 ≡ false) (run-is-call e x made.0 made.1) (never-five b es c (lent made.0 os room b) (made-typed e x made.0 made.1).0)
+          subst (λ (l : Left). eqb l.reply.refusal 5 ≡ false) (run_is_call e x made.0 made.1) (never_five b es c (lent made.0 os room b) (made_typed e x made.0 made.1).0)
       go (inr made) false e = ap (λ (h : Hops). eqb h.answer.refusal 5) (run_none x table rs os d b room (made_known table rs d x made.0 made.1) e)
 
   pub fed_never_five : (chunk stream : List ℕ) → eqb (feed_over table chunk rs os stream d b room).answer.refusal 5 ≡ false
@@ -336,7 +336,7 @@ module _ (b : List ℕ) (es : List Entry) (c : Carried b es) (table rs os d room
       ≡ leaves (lent e os room b) b
   fed_call w ok e m os =
       ap (λ (f : Feeds). onward (plain_fed f.answer) f.room f.tuner) (fed_is w os)
-      ∙ sym (run-is-call b es c table rs os d room replies driver-bytes ok (command_of nine) e m)
+      ∙ sym (run_is_call b es c table rs os d room replies driver-bytes ok (command_of nine) e m)
 
   -- one that is refused 11 made a call
   record Cuts : Type 0 where
@@ -379,34 +379,34 @@ module _ (b : List ℕ) (es : List Entry) (c : Carried b es) (table rs os d room
     abbrev own : Lent
     own = lent cuts.exported os room b
 
-    own-typed : typed cuts.exported ≡ true
-    own-typed = (made-typed b es c table rs os d room replies driver-bytes cuts.driver (command_of nine) cuts.exported cuts.makes).0
+    own_typed : typed cuts.exported ≡ true
+    own_typed = (made_typed b es c table rs os d room replies driver-bytes cuts.driver (command_of nine) cuts.exported cuts.makes).0
 
-    own-left : (os : List ℕ) → onward (plain_fed (feed_over table chunk rs os stream d b room).answer) (feed_over table chunk rs os stream d b room).room (feed_over table chunk rs os stream d b room).tuner
+    own_left : (os : List ℕ) → onward (plain_fed (feed_over table chunk rs os stream d b room).answer) (feed_over table chunk rs os stream d b room).room (feed_over table chunk rs os stream d b room).tuner
         ≡ leaves (lent cuts.exported os room b) b
-    own-left os = fed_call cuts.completes cuts.driver cuts.exported cuts.makes os
+    own_left os = fed_call cuts.completes cuts.driver cuts.exported cuts.makes os
 
-    own-eleven : (leaves own b).reply.refusal ≡ STEP
-    own-eleven = sym (ap (λ (l : Left). l.reply.refusal) (own-left os)) ∙ h
+    own_eleven : (leaves own b).reply.refusal ≡ STEP
+    own_eleven = sym (ap (λ (l : Left). l.reply.refusal) (own_left os)) ∙ h
 
     own_index : (leaves own b).reply.index ≡ (feed_over table chunk rs os stream d b room).answer.index
-    own_index = sym (ap (λ (l : Left). l.reply.index) (own-left os))
+    own_index = sym (ap (λ (l : Left). l.reply.index) (own_left os))
 
     own_read : (os : List ℕ) → entries_of (lent cuts.exported os room b) b ≡ fed_entries (feed_over table chunk rs os stream d b room)
-    own_read os = sym (ap (λ (l : Left). read_by l.reply l.room) (own-left os))
+    own_read os = sym (ap (λ (l : Left). read_by l.reply l.room) (own_left os))
 
     -- (e) "11 also gives the failing entry's index", of a fed command
-    pub fed-index : progress_in (fed_entries (feed_over table chunk rs os stream d b room)) ≡ Refused11 (feed_over table chunk rs os stream d b room).answer.index
-    fed-index = ap progress_in (sym (own_read os)) ∙ index_told b es c own own-typed own-eleven ∙ ap Refused11 own_index
+    pub fed_index : progress_in (fed_entries (feed_over table chunk rs os stream d b room)) ≡ Refused11 (feed_over table chunk rs os stream d b room).answer.index
+    fed_index = ap progress_in (sym (own_read os)) ∙ index_told b es c own own_typed own_eleven ∙ ap Refused11 own_index
 
     -- (c) "A cut call made the steps of the uncut one up to the failing step, then at most the repeater's closing": the same bytes fed with the failing step done
-    pub fed-cut : Cut (feed_over table chunk rs os stream d b room).answer.index (fed_entries (feed_over table chunk rs os stream d b room))
+    pub fed_cut : Cut (feed_over table chunk rs os stream d b room).answer.index (fed_entries (feed_over table chunk rs os stream d b room))
         (fed_entries (feed_over table chunk rs (set os (feed_over table chunk rs os stream d b room).answer.index 0) stream d b room))
-    fed-cut =
+    fed_cut =
         let i : ℕ = (feed_over table chunk rs os stream d b room).answer.index in
         subst (λ (l : List Entry). Cut i (fed_entries (feed_over table chunk rs os stream d b room)) l) (own_read (set os i 0))
         (subst (λ (l : List Entry). Cut i l (entries_of (uncut i own) b)) (own_read os)
-        (subst (λ (j : ℕ). Cut j (entries_of own b) (entries_of (uncut j own) b)) own_index (cut_uncut b es c own own-typed own-eleven)))
+        (subst (λ (j : ℕ). Cut j (entries_of own b) (entries_of (uncut j own) b)) own_index (cut_uncut b es c own own_typed own_eleven)))
 
   -- (d) "A reload answered done leaves all 27 registers and the shadow at the last attempted bytes", of command 7
   pub fed_reload : Completes stream chunk → (driver_of d).ok ≡ true → command_of nine ≡ Reload → (feed_over table chunk rs os stream d b room).answer.refusal ≡ 0

@@ -23,7 +23,7 @@ use Rattle.carried.specs.Exported.{Exported, Left, leaves, left, read_by, stands
 use Rattle.carried.specs.Fed.{Completes, Makes, fed_entries, plain_fed}
 use Rattle.carried.specs.Fed.Makes.{tunes, rates, gains, steps, narrows, corrects, reloads}
 use Rattle.carried.proofs.Crashed.{ended_alike, recovered, recovered_sure}
-use Rattle.carried.proofs.Fed.{fed_call, made-typed}
+use Rattle.carried.proofs.Fed.{fed_call, made_typed}
 use Rattle.carried.proofs.Holding.{carried_recorded}
 
 -- with other replies a command makes the same call with those
@@ -57,7 +57,7 @@ module _ (b : List ℕ) (es : List Entry) (c : Carried b es) (table d : List ℕ
         outcomes = k.outcomes;
         replies = k.replies;
         numbers =
-            (made-typed b es c table s.replies s.outcomes d s.room k.numbers driver-bytes ok (command_of (gathered (pending_of stream) chunk)) (exported_with s.replies d e)
+            (made_typed b es c table s.replies s.outcomes d s.room k.numbers driver-bytes ok (command_of (gathered (pending_of stream) chunk)) (exported_with s.replies d e)
             (makes_with table qs d (command_of (gathered (pending_of stream) chunk)) e makes s.replies)).0;
         taken = sym (ap (λ (z : Left). stands z.reply) (same_left s k.numbers)) ∙ k.taken;
       }
@@ -88,19 +88,19 @@ module _ (b : List ℕ) (es : List Entry) (c : Carried b es) (table d : List ℕ
     kept : Kept e b os rs (memory s)
     kept = record { known = known_so os rs s known; vain = vain }
 
-    touched-so : Touched (get_or b 1 0) (step_at (length os) (heard e b (memory s))) mid now
-    touched-so = subst (λ (l : List Entry). Touched (get_or b 1 0) (step_at (length os) l) mid now) (same_heard s known.numbers) touched
+    touched_so : Touched (get_or b 1 0) (step_at (length os) (heard e b (memory s))) mid now
+    touched_so = subst (λ (l : List Entry). Touched (get_or b 1 0) (step_at (length os) l) mid now) (same_heard s known.numbers) touched
 
     -- the tuner's bytes that the feeding leaves end a sequence of demand 3 whose entries were played on the chip as it is now
-    pub fed-recovered : Carried (fed_with table chunk stream d b s).tuner (es ++ fed_entries (fed_with table chunk stream d b s))
+    pub fed_recovered : Carried (fed_with table chunk stream d b s).tuner (es ++ fed_entries (fed_with table chunk stream d b s))
         × Played (get_or b 1 0) (es ++ fed_entries (fed_with table chunk stream d b s)) before now
-    fed-recovered =
+    fed_recovered =
         subst (λ (z : Left). Carried z.bytes (es ++ read_by z.reply z.room) × Played (get_or b 1 0) (es ++ read_by z.reply z.room) before now)
         (sym (same_left s known.numbers))
-        (recovered b es c e os rs ds (rounds_so os rs ds driven) (memory s) kept before start mid now played done touched-so)
+        (recovered b es c e os rs ds (rounds_so os rs ds driven) (memory s) kept before start mid now played done touched_so)
 
-    pub fed-recovered-sure : (i : ℕ) → i < 27 → get_or (fed_with table chunk stream d b s).tuner (51 + i) 1 ≡ 0
+    pub fed_recovered_sure : (i : ℕ) → i < 27 → get_or (fed_with table chunk stream d b s).tuner (51 + i) 1 ≡ 0
         → now (5 + i) ≡ get_or (fed_with table chunk stream d b s).tuner (2 + i) 0
-    fed-recovered-sure =
+    fed_recovered_sure =
         subst (λ (z : Left). (i : ℕ) → i < 27 → get_or z.bytes (51 + i) 1 ≡ 0 → now (5 + i) ≡ get_or z.bytes (2 + i) 0) (sym (same_left s known.numbers))
-        (recovered_sure b es c e os rs ds (rounds_so os rs ds driven) (memory s) kept before start mid now played done touched-so)
+        (recovered_sure b es c e os rs ds (rounds_so os rs ds driven) (memory s) kept before start mid now played done touched_so)

@@ -28,7 +28,7 @@ use Rattle.wire.specs.Parts.{parts_from}
 use Rattle.carried.specs.Carried.{Carried}
 use Rattle.carried.specs.Exported.{Left, Lent, amiss, aside_entries_of, entries_of, leaves, order_of, typed}
 use Rattle.carried.specs.Holding.{Holds}
-use Rattle.carried.proofs.Demand.{address_byte, aside_entries_lem, away_entries, behind, doubtful_byte, doubtful_byte_of, entries_read, flag_none, shadow_byte, shadow_byte_of, sure-holds}
+use Rattle.carried.proofs.Demand.{address_byte, aside_entries_lem, away_entries, behind, doubtful_byte, doubtful_byte_of, entries_read, flag_none, shadow_byte, shadow_byte_of, sure_holds}
 use Rattle.carried.proofs.Passed.{Passed, every_passed, ranged_after, turned}
 use Rattle.carried.proofs.Passed.Passed.{away, made}
 use Rattle.carried.proofs.Steady.{typed_given}
@@ -56,7 +56,7 @@ pub carried_recorded : (b : List ℕ) (es : List Entry) → Carried b es → Rec
 carried_recorded b es c = let p = behind b es c in record { tuner = p.tuner; bytes = p.bytes; ranges = p.ranges }
 
 pub carried_holds : (b : List ℕ) (es : List Entry) → Carried b es → (before now : Regs) → Played (get_or b 1 0) es before now → Holds b now
-carried_holds b es c before now p = sure-holds b es c before now p
+carried_holds b es c before now p = sure_holds b es c before now p
 
 -- document 02, #110: "Played .. on a chip holding anything, it leaves those registers as the sections did". So the bytes hold of a spare chip too, once the restore list of
 -- all the sections was played on it, whatever that chip held
@@ -99,13 +99,13 @@ module _ (t : Tuner) (r : Ranged t) where
   small = omega (arith, r.address)
 
   module _ (k : Call) (n : ℕ) (z : Bool) (l : Left) where
-    passed-recorded : Ranged (tuner_after k t) → Passed t k n z l → Recorded l.bytes
-    passed-recorded after (away y told reply bytes) = record { tuner = t; bytes = bytes; ranges = r }
-    passed-recorded after (made y told reply room bytes) = record { tuner = tuner_after k t; bytes = bytes; ranges = after }
+    passed_recorded : Ranged (tuner_after k t) → Passed t k n z l → Recorded l.bytes
+    passed_recorded after (away y told reply bytes) = record { tuner = t; bytes = bytes; ranges = r }
+    passed_recorded after (made y told reply room bytes) = record { tuner = tuner_after k t; bytes = bytes; ranges = after }
 
-    passed-address : Ranged (tuner_after k t) → (tuner_after k t).chip.address ≡ t.chip.address → Passed t k n z l → get_or l.bytes 1 0 ≡ get_or (tuner_bytes t) 1 0
-    passed-address after same (away y told reply bytes) = ap (λ (d : List ℕ). get_or d 1 0) bytes
-    passed-address after same (made y told reply room bytes) =
+    passed_address : Ranged (tuner_after k t) → (tuner_after k t).chip.address ≡ t.chip.address → Passed t k n z l → get_or l.bytes 1 0 ≡ get_or (tuner_bytes t) 1 0
+    passed_address after same (away y told reply bytes) = ap (λ (d : List ℕ). get_or d 1 0) bytes
+    passed_address after same (made y told reply room bytes) =
         ap (λ (d : List ℕ). get_or d 1 0) bytes ∙ address_byte (tuner_after k t) after ∙ same ∙ sym (address_byte t r)
 
   module _ (chip after : Regs) (holds : Holds (tuner_bytes t) chip) where
@@ -115,28 +115,28 @@ module _ (t : Tuner) (r : Ranged t) where
         let same : (q : ℕ) → after q ≡ chip q = subst (λ (x : List Entry). Played (get_or (tuner_bytes t) 1 0) x chip after) e p in
         same (5 + i) ∙ holds i l d
 
-    at-chip : (es : List Entry) → Played (get_or (tuner_bytes t) 1 0) es chip after → Played t.chip.address es chip after
-    at-chip es p = subst (λ (a : ℕ). Played a es chip after) (address_byte t r) p
+    at_chip : (es : List Entry) → Played (get_or (tuner_bytes t) 1 0) es chip after → Played t.chip.address es chip after
+    at_chip es p = subst (λ (a : ℕ). Played a es chip after) (address_byte t r) p
 
-    one-passed : (k : Lent) → typed k.exported ≡ true → Played (get_or (tuner_bytes t) 1 0) (entries_of k (tuner_bytes t)) chip after
+    one_passed : (k : Lent) → typed k.exported ≡ true → Played (get_or (tuner_bytes t) 1 0) (entries_of k (tuner_bytes t)) chip after
         → Passed t (call (order_of k.exported) k.outcomes k.room) (turned k.exported k.next t) (amiss k.exported) (leaves k (tuner_bytes t))
         → Holds (leaves k (tuner_bytes t)).bytes after
-    one-passed k h p (away y told reply bytes) =
+    one_passed k h p (away y told reply bytes) =
         subst (λ (d : List ℕ). Holds d after) (sym bytes)
         (unread (entries_of k (tuner_bytes t)) p (away_entries (leaves k (tuner_bytes t)) (turned k.exported k.next t) reply))
-    one-passed k h p (made y told reply room bytes) =
+    one_passed k h p (made y told reply room bytes) =
         let inner : Call = call (order_of k.exported) k.outcomes k.room in
         let all : entries_of k (tuner_bytes t) ≡ entries inner t = entries_read t r inner h (leaves k (tuner_bytes t)) reply room in
         subst (λ (d : List ℕ). Holds d after) (sym bytes)
         (outward (tuner_after inner t) (ranged_after t r inner h) after
         (one.one_more t small r.lists.doubtful r.lists.shadow chip after (inward t r chip holds) inner (typed_given inner.order t h)
-        (subst (λ (x : List Entry). Played t.chip.address x chip after) all (at-chip (entries_of k (tuner_bytes t)) p))))
+        (subst (λ (x : List Entry). Played t.chip.address x chip after) all (at_chip (entries_of k (tuner_bytes t)) p))))
 
-    beside-passed : (a : Aside) → aside_given a.other ≡ true → Played (get_or (tuner_bytes t) 1 0) (aside_entries_of a) chip after → Holds (tuner_bytes t) after
-    beside-passed a g p =
+    beside_passed : (a : Aside) → aside_given a.other ≡ true → Played (get_or (tuner_bytes t) 1 0) (aside_entries_of a) chip after → Holds (tuner_bytes t) after
+    beside_passed a g p =
         outward t r after
-        (one.aside-more t small r.lists.doubtful r.lists.shadow chip after (inward t r chip holds) a g
-        (subst (λ (x : List Entry). Played t.chip.address x chip after) (aside_entries_lem a g) (at-chip (aside_entries_of a) p)))
+        (one.aside_more t small r.lists.doubtful r.lists.shadow chip after (inward t r chip holds) a g
+        (subst (λ (x : List Entry). Played t.chip.address x chip after) (aside_entries_lem a g) (at_chip (aside_entries_of a) p)))
 
 -- ---- the theorems
 
@@ -146,14 +146,14 @@ module _ (b : List ℕ) (w : Recorded b) where
   recorded_next k h =
       let inner : Call = call (order_of k.exported) k.outcomes k.room in
       subst (λ (d : List ℕ). Recorded (leaves k d).bytes) (sym w.bytes)
-      (passed-recorded w.tuner w.ranges inner _ _ _ (ranged_after w.tuner w.ranges inner h)
+      (passed_recorded w.tuner w.ranges inner _ _ _ (ranged_after w.tuner w.ranges inner h)
       (every_passed w.tuner w.ranges k.exported k.outcomes k.room k.next h))
 
   pub address_stays : (k : Lent) → typed k.exported ≡ true → get_or (leaves k b).bytes 1 0 ≡ get_or b 1 0
   address_stays k h =
       let inner : Call = call (order_of k.exported) k.outcomes k.room in
       subst (λ (d : List ℕ). get_or (leaves k d).bytes 1 0 ≡ get_or d 1 0) (sym w.bytes)
-      (passed-address w.tuner w.ranges inner _ _ _ (ranged_after w.tuner w.ranges inner h)
+      (passed_address w.tuner w.ranges inner _ _ _ (ranged_after w.tuner w.ranges inner h)
       (one.address_stays w.tuner (small w.tuner w.ranges) inner (typed_given inner.order w.tuner h))
       (every_passed w.tuner w.ranges k.exported k.outcomes k.room k.next h))
 
@@ -163,10 +163,10 @@ module _ (b : List ℕ) (w : Recorded b) where
     one_more k h =
         subst (λ (d : List ℕ). Holds d chip → Played (get_or d 1 0) (entries_of k d) chip after → Holds (leaves k d).bytes after) (sym w.bytes)
         (λ held p.
-        one-passed w.tuner w.ranges chip after held k h p (every_passed w.tuner w.ranges k.exported k.outcomes k.room k.next h)) holds
+        one_passed w.tuner w.ranges chip after held k h p (every_passed w.tuner w.ranges k.exported k.outcomes k.room k.next h)) holds
 
     -- and those that take none, which leave the bytes
-    pub aside-more : (a : Aside) → aside_given a.other ≡ true → Played (get_or b 1 0) (aside_entries_of a) chip after → Holds b after
-    aside-more a g =
+    pub aside_more : (a : Aside) → aside_given a.other ≡ true → Played (get_or b 1 0) (aside_entries_of a) chip after → Holds b after
+    aside_more a g =
         subst (λ (d : List ℕ). Holds d chip → Played (get_or d 1 0) (aside_entries_of a) chip after → Holds d after) (sym w.bytes)
-        (λ held p. beside-passed w.tuner w.ranges chip after held a g p) holds
+        (λ held p. beside_passed w.tuner w.ranges chip after held a g p) holds

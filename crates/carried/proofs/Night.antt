@@ -25,7 +25,7 @@ use Rattle.carried.specs.Carried.Carried.{fresh as first, next as more, between 
 use Rattle.carried.specs.Exported.{aside_entries_of, leaves, read_by}
 use Rattle.carried.specs.Night.{Night, appended}
 use Rattle.carried.specs.Night.Night.{fresh, next, between}
-use Rattle.carried.proofs.Demand.{aside_entries_lem, section-read}
+use Rattle.carried.proofs.Demand.{aside_entries_lem, section_read}
 
 -- it is the same sequence
 pub night_carried : (b : List ℕ) (es : List Entry) (file : List ℕ) → Night b es file → Carried b es
@@ -64,5 +64,5 @@ aside_parted a g some =
 pub night_read : (b : List ℕ) (es : List Entry) (file : List ℕ) → Night b es file → Reads file es
 night_read b es file (fresh kind address nominal out small h) = (chain_empty [] refl, entries_empty [] refl)
 night_read b es file (next c xs old n k h) =
-    reads_more old xs (night_read c xs old n) (leaves k c).reply (leaves k c).room (section-read c xs (night_carried c xs old n) k h)
+    reads_more old xs (night_read c xs old n) (leaves k c).reply (leaves k c).room (section_read c xs (night_carried c xs old n) k h)
 night_read b es file (between c xs old n a g) = reads_more old xs (night_read c xs old n) (call_reply (aside_result a)) (aside_result a).room (aside_parted a g)

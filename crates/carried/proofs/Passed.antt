@@ -213,39 +213,39 @@ module _ (t : Tuner) (r : Ranged t) where
     argument = argument_of (row_of o t)
 
     -- by an argument's number, by 8, and by what the call itself answers
-    argument-says : Told argument (pathless o) false
-    argument-says = record { setup = argument_told (λ n. eqb n SETUP) ones o t ∙ and_true (pathless o); step = argument_told (λ n. eqb n STEP) elevens o t ∙ and_false (pathless o); never = argument_told (λ n. eqb n 5) fives o t ∙ and_false (pathless o) }
+    argument_says : Told argument (pathless o) false
+    argument_says = record { setup = argument_told (λ n. eqb n SETUP) ones o t ∙ and_true (pathless o); step = argument_told (λ n. eqb n STEP) elevens o t ∙ and_false (pathless o); never = argument_told (λ n. eqb n 5) fives o t ∙ and_false (pathless o) }
 
     unrefused : eqb argument 0 ≡ true → pathless o ≡ false
-    unrefused e = sym argument-says.setup ∙ ap (λ (n : ℕ). eqb n 1) (eqb-true argument 0 e)
+    unrefused e = sym argument_says.setup ∙ ap (λ (n : ℕ). eqb n 1) (eqb-true argument 0 e)
 
-    short-says : eqb argument 0 ≡ true → Told ROOM (pathless o) false
-    short-says e = record { setup = sym (unrefused e); step = refl; never = refl }
+    short_says : eqb argument 0 ≡ true → Told ROOM (pathless o) false
+    short_says e = record { setup = sym (unrefused e); step = refl; never = refl }
 
-    call-says : sound_for o t ≡ true → eqb argument 0 ≡ true → Told (number_of (result_of o os room t).answer) (pathless o) (stops (result_of o os room t).answer)
-    call-says good e =
+    call_says : sound_for o t ≡ true → eqb argument 0 ≡ true → Told (number_of (result_of o os room t).answer) (pathless o) (stops (result_of o os room t).answer)
+    call_says good e =
         record {
           setup = number_told (λ n. eqb n SETUP) ones o os room t fields h good e ∙ and_false (stops (result_of o os room t).answer) ∙ sym (unrefused e);
           step = number_told (λ n. eqb n STEP) elevens o os room t fields h good e ∙ and_true (stops (result_of o os room t).answer);
           never = number_told (λ n. eqb n 5) fives o os room t fields h good e ∙ and_false (stops (result_of o os room t).answer);
         }
 
-    by-ready : sound_for o t ≡ true → (a : Bool) → eqb argument 0 ≡ a → (z : Bool) → ltb (length out) 78 ≡ z
+    by_ready : sound_for o t ≡ true → (a : Bool) → eqb argument 0 ≡ a → (z : Bool) → ltb (length out) 78 ≡ z
         → Passed t (call o os room) (ready_of true argument (length out) 78) (pathless o)
         (by_after (unless_refused (ready_of true argument (length out) 78) (λ n. refusal n room out) (handed (result_of o os room t) out)) (tuner_bytes t))
     unfolding unless_refused ready_of
-    by-ready good true e true z = rw (e, z) (away_after (call o os room) 8 room out (pathless o) refl (short-says e))
-    by-ready good true e false z =
-        rw (e, z) (made_into (call o os room) out (pathless o) h (ltb-false (length out) 78 z) (call-says good e))
-    by-ready good false e z w = rw (e, e) (away_after (call o os room) argument room out (pathless o) e argument-says)
+    by_ready good true e true z = rw (e, z) (away_after (call o os room) 8 room out (pathless o) refl (short_says e))
+    by_ready good true e false z =
+        rw (e, z) (made_into (call o os room) out (pathless o) h (ltb-false (length out) 78 z) (call_says good e))
+    by_ready good false e z w = rw (e, e) (away_after (call o os room) argument room out (pathless o) e argument_says)
 
-    over-row : (row : Tuner → Course Tuner) → sound_for o t ≡ sound t → row_of o t ≡ row t
+    over_row : (row : Tuner → Course Tuner) → sound_for o t ≡ sound t → row_of o t ≡ row t
         → Passed t (call o os room) (slotted o out t) (pathless o) (by_after (over_tuner row os (tuner_bytes t) room out) (tuner_bytes t))
     unfolding over_tuner
-    over-row row same-sound same_row =
+    over_row row same-sound same_row =
         let left : result_of o os room t ≡ left_by (sound t) (row t) os t.chip t room =
         result_row t os room o ∙ (λ i. left_by (same-sound i) (same_row i) os t.chip t room) in
-        rw (read, ← left, ← same_row) (by-ready (same-sound ∙ given_sound) (eqb argument 0) refl (ltb (length out) 78) refl)
+        rw (read, ← left, ← same_row) (by_ready (same-sound ∙ given_sound) (eqb argument 0) refl (ltb (length out) 78) refl)
 
   -- the calls on both records, which write both next ones into slices of their own
   module _ (o : Order) (os room driver left out : List ℕ) (h : typed_order o ≡ true) (argument : Tuner → Driver → ℕ) (res : Tuner → Driver → Called Both)
@@ -257,24 +257,24 @@ module _ (t : Tuner) (r : Ranged t) where
     abbrev number : ℕ
     number = argument_of (row_of o t)
 
-    away-rates : (n : ℕ) (one : Bool) → eqb n 0 ≡ false → Told n one false → Passed t (call o os room) n one (by_rates (rates_refused n room left out) (tuner_bytes t))
-    away-rates n one z e = away z e refl (rw z)
+    away_rates : (n : ℕ) (one : Bool) → eqb n 0 ≡ false → Told n one false → Passed t (call o os room) n one (by_rates (rates_refused n room left out) (tuner_bytes t))
+    away_rates n one z e = away z e refl (rw z)
 
-    made-rates : (one : Bool) → 78 ≤ length out → Told (number_of (result_of o os room t).answer) one (stops (result_of o os room t).answer)
+    made_rates : (one : Bool) → 78 ≤ length out → Told (number_of (result_of o os room t).answer) one (stops (result_of o os room t).answer)
         → Passed t (call o os room) 0 one (by_rates (rates_made (res t d) left out) (tuner_bytes t))
-    made-rates one l e = subst (λ (x : Called Tuner). Passed t (call o os room) 0 one (by_after (handed x out) (tuner_bytes t))) same-result (made_into (call o os room) out one h l e)
+    made_rates one l e = subst (λ (x : Called Tuner). Passed t (call o os room) 0 one (by_after (handed x out) (tuner_bytes t))) same-result (made_into (call o os room) out one h l e)
 
     by_both : (k : Bool) → (driver_of driver).ok ≡ k → (a : Bool) → eqb number 0 ≡ a → (y : Bool) → ltb (length left) 29 ≡ y → (z : Bool) → ltb (length out) 78 ≡ z
         → Passed t (call o os room) (both_ready (k && true) number (length left) (length out)) (not k || pathless o)
         (by_rates (unless_refused (both_ready (k && true) number (length left) (length out)) (λ n. rates_refused n room left out) (rates_made (res t d) left out)) (tuner_bytes t))
     unfolding unless_refused both_ready
-    by_both false q a e y w z v = away-rates 1 true refl (record { setup = refl; step = refl; never = refl })
-    by_both true q true e true w z v = rw (e, w) (away-rates 8 (pathless o) refl (short-says o os room out h e))
-    by_both true q true e false w true v = rw (e, w, v) (away-rates 8 (pathless o) refl (short-says o os room out h e))
+    by_both false q a e y w z v = away_rates 1 true refl (record { setup = refl; step = refl; never = refl })
+    by_both true q true e true w z v = rw (e, w) (away_rates 8 (pathless o) refl (short_says o os room out h e))
+    by_both true q true e false w true v = rw (e, w, v) (away_rates 8 (pathless o) refl (short_says o os room out h e))
     by_both true q true e false w false v =
         let good : sound_for o t ≡ true = same-sound ∙ rw (given_sound, driver_sound driver q) in
-        rw (e, w, v) (made-rates (pathless o) (ltb-false (length out) 78 v) (call-says o os room out h good e))
-    by_both true q false e y w z v = rw (e, e) (away-rates number (pathless o) e (argument-says o os room out h))
+        rw (e, w, v) (made_rates (pathless o) (ltb-false (length out) 78 v) (call_says o os room out h good e))
+    by_both true q false e y w z v = rw (e, e) (away_rates number (pathless o) e (argument_says o os room out h))
 
     over_both_lem : Passed t (call o os room) (pairwise o driver left out t) (not (driver_of driver).ok || pathless o) (by_rates (over_both argument res driver (tuner_bytes t) room left out) (tuner_bytes t))
     unfolding over_both
@@ -388,14 +388,14 @@ module _ (t : Tuner) (r : Ranged t) where
 
   pub every_passed : (e : Exported) (os room out : List ℕ) → typed e ≡ true → Passed t (call (order_of e) os room) (turned e out t) (amiss e) (left_of e os room out (tuner_bytes t))
   unfolding over_tuning
-  every_passed (Own Initialize) os room out h = over-row (Tuned Initialize) os room out h (tuner.course_of Initialize) refl refl
-  every_passed (Own Reload) os room out h = over-row (Tuned Reload) os room out h (tuner.course_of Reload) refl refl
-  every_passed (Own (Bandwidth hz)) os room out h = over-row (Tuned (Bandwidth hz)) os room out h (tuner.course_of (Bandwidth hz)) refl refl
-  every_passed (Own (IfFreq hz)) os room out h = over-row (Tuned (IfFreq hz)) os room out h (tuner.course_of (IfFreq hz)) refl refl
-  every_passed (Own (Gain db)) os room out h = over-row (Tuned (Gain db)) os room out h (tuner.course_of (Gain db)) refl refl
-  every_passed (Own (GainIndex k)) os room out h = over-row (Tuned (GainIndex k)) os room out h (tuner.course_of (GainIndex k)) refl refl
-  every_passed (Own (InputPath path)) os room out h = over-row (Tuned (InputPath path)) os room out h (tuner.course_of (InputPath path)) refl refl
-  every_passed (Own (Tune hz rs)) os room out h = over-row (Tuned (Tune hz rs)) os room out h (tuner.course_of (Tune hz rs)) refl refl
+  every_passed (Own Initialize) os room out h = over_row (Tuned Initialize) os room out h (tuner.course_of Initialize) refl refl
+  every_passed (Own Reload) os room out h = over_row (Tuned Reload) os room out h (tuner.course_of Reload) refl refl
+  every_passed (Own (Bandwidth hz)) os room out h = over_row (Tuned (Bandwidth hz)) os room out h (tuner.course_of (Bandwidth hz)) refl refl
+  every_passed (Own (IfFreq hz)) os room out h = over_row (Tuned (IfFreq hz)) os room out h (tuner.course_of (IfFreq hz)) refl refl
+  every_passed (Own (Gain db)) os room out h = over_row (Tuned (Gain db)) os room out h (tuner.course_of (Gain db)) refl refl
+  every_passed (Own (GainIndex k)) os room out h = over_row (Tuned (GainIndex k)) os room out h (tuner.course_of (GainIndex k)) refl refl
+  every_passed (Own (InputPath path)) os room out h = over_row (Tuned (InputPath path)) os room out h (tuner.course_of (InputPath path)) refl refl
+  every_passed (Own (Tune hz rs)) os room out h = over_row (Tuned (Tune hz rs)) os room out h (tuner.course_of (Tune hz rs)) refl refl
   every_passed (Own (Notch on)) os room out h = notch_row on os room
   every_passed (Own GainTold) os room out h = told_over GainTold os room _ refl
   every_passed (Own IfTold) os room out h = told_over IfTold os room _ refl
@@ -403,7 +403,7 @@ module _ (t : Tuner) (r : Ranged t) where
   every_passed (Rate rate table driver left) os room out h =
       over_both_lem (SampleRate rate table (driver_of driver).driver) os room driver left out h _ (λ u v. rate_result rate (plan_by table v.frequency) os u v room) refl refl refl
   every_passed (Correct ppm driver) os room out h = correct_row ppm driver os room out
-  every_passed (Path path rs) os room out h = over-row (BoardPath path rs) os room out h (board_row (path_of path) rs) refl refl
+  every_passed (Path path rs) os room out h = over_row (BoardPath path rs) os room out h (board_row (path_of path) rs) refl refl
   every_passed (Hop hz table rs driver left) os room out h =
       over_both_lem (BoardTune hz table rs (driver_of driver).driver) os room driver left out h (hop_argument table hz) (λ u v. hop_result (plan_by table hz) hz rs os u v room) refl refl refl
 

@@ -37,7 +37,7 @@ use Rattle.carried.proofs.Steady.{typed_given}
 use Rattle.carried.proofs.Passed.{Passed, next_ranged}
 use Rattle.carried.proofs.Passed.Passed.{away, made}
 use Rattle.carried.proofs.Demand.{address, answered, calls, inner, number, pass, ranges, same_tuner, t}
-use Rattle.carried.proofs.Demand.{on_station, on_station_hop, reload_done, shadow_byte, sure-holds}
+use Rattle.carried.proofs.Demand.{on_station, on_station_hop, reload_done, shadow_byte, sure_holds}
 
 module _ (b : List ℕ) (es : List Entry) (c : Carried b es) where
   -- a tuning that is answered 0, whatever its status said of the divider: at what was asked, at twice it, or at half of it
@@ -69,22 +69,22 @@ module _ (b : List ℕ) (es : List Entry) (c : Carried b es) where
   module _ (os room out : List ℕ) (done : (leaves (lent (Own Reload) os room out) b).reply.refusal ≡ 0) (sure : (i : ℕ) → i < 27 → get_or b (51 + i) 1 ≡ 0)
       (before now after : Regs) (played : Played (get_or b 1 0) es before now)
       (again : Played (get_or b 1 0) (entries_of (lent (Own Reload) os room out) b) now after) where
-    pub reload-keeps : (i : ℕ) → i < 27 → after (5 + i) ≡ now (5 + i)
-    reload-keeps i l =
+    pub reload_keeps : (i : ℕ) → i < 27 → after (5 + i) ≡ now (5 + i)
+    reload_keeps i l =
         let reload : List Entry = entries_of (lent (Own Reload) os room out) b in
         let both = played_append (tuner_at (get_or b 1 0)) es reload before now after played again in
-        (reload_done b es c os room out done before after both i l).0 ∙ sym (shadow_byte b es c i l) ∙ sym (sure-holds b es c before now played i l (sure i l))
+        (reload_done b es c os room out done before after both i l).0 ∙ sym (shadow_byte b es c i l) ∙ sym (sure_holds b es c before now played i l (sure i l))
 
-    five-kept : (r : ℕ) → stands_by r ≡ true → after r ≡ now r
-    five-kept =
-        each_five (λ r. after r ≡ now r) (reload-keeps 11 (omega arith)) (reload-keeps 13 (omega arith)) (reload-keeps 15 (omega arith))
-        (reload-keeps 16 (omega arith)) (reload-keeps 17 (omega arith))
+    five_kept : (r : ℕ) → stands_by r ≡ true → after r ≡ now r
+    five_kept =
+        each_five (λ r. after r ≡ now r) (reload_keeps 11 (omega arith)) (reload_keeps 13 (omega arith)) (reload_keeps 15 (omega arith))
+        (reload_keeps 16 (omega arith)) (reload_keeps 17 (omega arith))
 
-    pub reload-keeps-vco : (reference : ℕ) → vco_in reference after ≡ vco_in reference now
-    reload-keeps-vco reference = same_vco reference after now five-kept
+    pub reload_keeps_vco : (reference : ℕ) → vco_in reference after ≡ vco_in reference now
+    reload_keeps_vco reference = same_vco reference after now five_kept
 
-    pub reload-keeps-hz : (reference : ℕ) → hz_in reference after ≡ hz_in reference now
-    reload-keeps-hz reference = same_hz reference after now five-kept
+    pub reload_keeps_hz : (reference : ℕ) → hz_in reference after ≡ hz_in reference now
+    reload_keeps_hz reference = same_hz reference after now five_kept
 
   -- what a call leaves of the record that the bytes are
   left_same : (k : Lent) (h : typed k.exported ≡ true) → ((x : Tuner) → Same x (tuner_after (inner b es c k h) x))
@@ -127,19 +127,19 @@ module _ (b : List ℕ) (es : List Entry) (c : Carried b es) (hz : ℕ) where
     carried_on : Carried last all
     carried_on = next middle (es ++ entries_of k b) (next b es c k h) (reloading os room out) refl
 
-    still-same : Same (tuner_of b).tuner (tuner_of last).tuner
-    still-same =
+    still_same : Same (tuner_of b).tuner (tuner_of last).tuner
+    still_same =
         same_then (tuner_of b).tuner (tuner_of middle).tuner (tuner_of last).tuner (left_same b es c k h kept)
         (left_same middle (es ++ entries_of k b) (next b es c k h) (reloading os room out) refl (λ x. reload_same x os room))
 
-    still-address : get_or last 1 0 ≡ get_or b 1 0
-    still-address = address_of last all carried_on ∙ still-same.address ∙ sym (address_of b es c)
+    still_address : get_or last 1 0 ≡ get_or b 1 0
+    still_address = address_of last all carried_on ∙ still_same.address ∙ sym (address_of b es c)
 
     at_first : (f : ℕ) (now : Regs) → Within (f + (tuner_of last).tuner.ifreq) (tuner_of last).tuner.corrected now
         → Within (f + (tuner_of b).tuner.ifreq) (tuner_of b).tuner.corrected now
     at_first f now on =
-        subst (λ (r : ℕ). Within (f + (tuner_of b).tuner.ifreq) r now) still-same.corrected
-        (subst (λ (i : ℕ). Within (f + i) (tuner_of last).tuner.corrected now) still-same.ifreq on)
+        subst (λ (r : ℕ). Within (f + (tuner_of b).tuner.ifreq) r now) still_same.corrected
+        (subst (λ (i : ℕ). Within (f + i) (tuner_of last).tuner.corrected now) still_same.ifreq on)
 
   pub again_on_station : (rs os room out : List ℕ) → (small : every is_byte rs ≡ true) → (os' room' out' rs'' os'' room'' out'' : List ℕ) → every is_byte rs'' ≡ true
       → let first = lent (Own (Tune hz rs)) os room out in
@@ -155,10 +155,10 @@ module _ (b : List ℕ) (es : List Entry) (c : Carried b es) (hz : ℕ) where
       let kept : (x : Tuner) → Same x (tuner_after (inner b es c first small) x) = (λ x. tune_same x os room hz rs) in
       let end : List ℕ = last first small kept os' room' out' in
       let so_far : List Entry = all first small kept os' room' out' in
-      let same = still-same first small kept os' room' out' in
+      let same = still_same first small kept os' room' out' in
       let again : Lent = lent (Own (Tune hz rs'')) os'' room'' out'' in
       let there : Played (get_or end 1 0) (so_far ++ entries_of again end) before now =
-      subst (λ (a : ℕ). Played a (so_far ++ entries_of again end) before now) (sym (still-address first small kept os' room' out')) played in
+      subst (λ (a : ℕ). Played a (so_far ++ entries_of again end) before now) (sym (still_address first small kept os' room' out')) played in
       at_first first small kept os' room' out' hz now
       (on_station end so_far (carried_on first small kept os' room' out') hz rs'' os'' room'' out'' small'' e (fine ∙ ap power_of (sym same.kind)) before now there)
 
@@ -178,10 +178,10 @@ module _ (b : List ℕ) (es : List Entry) (c : Carried b es) (hz : ℕ) where
       let kept : (x : Tuner) → Same x (tuner_after (inner b es c first small) x) = (λ x. hop_same x os room hz table rs (driver_of driver).driver) in
       let end : List ℕ = last first small kept os' room' out' in
       let so_far : List Entry = all first small kept os' room' out' in
-      let same = still-same first small kept os' room' out' in
+      let same = still_same first small kept os' room' out' in
       let again : Lent = lent (Hop hz table rs'' driver'' slot'') os'' room'' out'' in
       let there : Played (get_or end 1 0) (so_far ++ entries_of again end) before now =
-      subst (λ (a : ℕ). Played a (so_far ++ entries_of again end) before now) (sym (still-address first small kept os' room' out')) played in
+      subst (λ (a : ℕ). Played a (so_far ++ entries_of again end) before now) (sym (still_address first small kept os' room' out')) played in
       let status : fine_of (get_or (drop (path_replies (tuner_of end).tuner.kind (plan_by table hz).plan.path) rs'') 4 0) ≡ power_of (tuner_of end).tuner.kind =
       subst (λ (x : Kind). fine_of (get_or (drop (path_replies x (plan_by table hz).plan.path) rs'') 4 0) ≡ power_of x) (sym same.kind) fine in
       at_first first small kept os' room' out' (plan_by table hz).plan.hz now

@@ -210,18 +210,18 @@ module _ (test : ℕ → Bool) (bare : Bare test) where
   rest_number (Stopped index) h = refl
 
   module _ (t : Tuner) (os room : List ℕ) where
-    steps-number : (number : ℕ) (whole : Answer) (ss : List Step) (keep : Trace → Tuner) → late whole ≡ true → test number ≡ false → (b : Bool)
+    steps_number : (number : ℕ) (whole : Answer) (ss : List Step) (keep : Trace → Tuner) → late whole ≡ true → test number ≡ false → (b : Bool)
         → test (number_of (cond b (performed whole keep room (trace os ss t.chip)) (called t room 0 (Refused number))).answer)
         ≡ (stops (cond b (performed whole keep room (trace os ss t.chip)) (called t room 0 (Refused number))).answer && test STEP)
-    steps-number number whole ss keep p n true = late_number whole (trace os ss t.chip).progress p
-    steps-number number whole ss keep p n false = n
+    steps_number number whole ss keep p n true = late_number whole (trace os ss t.chip).progress p
+    steps_number number whole ss keep p n false = n
 
     pub row_number : (row : Course Tuner) → Steady Fielded t row → eqb (argument_of row) 0 ≡ true
         → test (number_of (left_by true row os t.chip t room).answer) ≡ (stops (left_by true row os t.chip t room).answer && test STEP)
     unfolding left_by call_of
     row_number row (resting next answer p k g) h = rest_number answer h
     row_number row (stepping argument n m rs whole ss keep p b g) h =
-        steps-number (refusal_with true argument n m (length room) (length os) (length rs)) whole ss keep p (rw h (lent_number n m (length room) (length os) (length rs)))
+        steps_number (refusal_with true argument n m (length room) (length os) (length rs)) whole ss keep p (rw h (lent_number n m (length room) (length os) (length rs)))
         (eqb (refusal_with true argument n m (length room) (length os) (length rs)) 0)
 
 -- ---- each row

@@ -75,8 +75,8 @@ module _ (os : List ℕ) where
         (λ i. logged (sets (sets room 0 (entries_bytes es)) (16 * q i) (entry_bytes e)) (seen_snoc no_tries es e i))
         ∙ ap (λ (l : List ℕ). logged l (lock_tries_from no_tries (es ++ (e ∷ [])))) (entry_next room es e h)
 
-    sim-step : (s : Step) (t : Trace) → Kept t → step in_room os s (laid_out room t) ≡ laid_out room (step in_list os s t)
-    sim-step s t k = go (acts s t.progress t.opened) refl
+    sim_step : (s : Step) (t : Trace) → Kept t → step in_room os s (laid_out room t) ≡ laid_out room (step in_list os s t)
+    sim_step s t k = go (acts s t.progress t.opened) refl
       where
         ok : Bool
         ok = ok_for os t.count s
@@ -102,7 +102,7 @@ module _ (os : List ℕ) where
     unfolding run every
     sim [] t h k = refl
     sim (s ∷ ss) t h k =
-        ap (run in_room os ss) (sim-step s t k)
+        ap (run in_room os ss) (sim_step s t k)
         ∙ sim ss (step in_list os s t) (and_right (eight s) (every eight ss) h) (kept_step s t (and_left (eight s) (every eight ss) h) k)
 
     -- the room's law: a program's run in the room is its trace, laid out
@@ -116,9 +116,9 @@ module _ (os : List ℕ) where
         → on_room f mid ≡ run in_room os ss (line c (logged room no_tries) 0 Going false) → on_room f mid ≡ laid_out room (trace os ss c)
     stands ss c f mid h e = e ∙ laid_out_lem ss c h
 
-    pub kept-trace : (ss : List Step) (c : Chip) → every eight ss ≡ true → Kept (trace os ss c)
+    pub kept_trace : (ss : List Step) (c : Chip) → every eight ss ≡ true → Kept (trace os ss c)
     unfolding trace
-    kept-trace ss c h = kept_run ss (line c [] 0 Going false) h (record { counted = refl; eights = tt })
+    kept_trace ss c h = kept_run ss (line c [] 0 Going false) h (record { counted = refl; eights = tt })
 
     -- and with its trailer: what a call hands back
     pub handed : {R : Type 0} (ss : List Step) (c : Chip) (keep : Trace → R) (whole : Answer) (r : R) (f : Flow) (mid chip_after : List ℕ) (answer : Answer)
@@ -134,7 +134,7 @@ module _ (os : List ℕ) where
         let out : mid ≡ sets room 0 (entries_bytes t.log) = ap (λ (w : Line Logged). w.log.room) all in
         let progress : f.log.progress ≡ t.progress = ap (λ (w : Line Logged). w.progress) all in
         let full : chip_after ≡ sets room 0 (section_bytes t.log) =
-        p ∙ (λ i. sealed (out i) (count i)) ∙ section_laid room t.log (kept-trace ss c h).eights in
+        p ∙ (λ i. sealed (out i) (count i)) ∙ section_laid room t.log (kept_trace ss c h).eights in
         let told : answer ≡ answer_of whole t.progress = q ∙ ap (answer_of whole) progress in
         λ i. called (same i) (full i) (count i) (told i)
 

@@ -48,11 +48,11 @@ module _ (x : Command) (table rs os d t room : List ℕ) where
     pub both_ok : (dr.ok && tr.ok) ≡ true → ((driver_of d).ok && (tuner_of t).ok) ≡ true
     both_ok h = sym read_is ∙ h
 
-    pub driver-size : (dr.ok && tr.ok) ≡ true → length d ≡ 29
-    driver-size h = driver_exact d (and_left (driver_of d).ok (tuner_of t).ok (both_ok h))
+    pub driver_size : (dr.ok && tr.ok) ≡ true → length d ≡ 29
+    driver_size h = driver_exact d (and_left (driver_of d).ok (tuner_of t).ok (both_ok h))
 
-    pub tuner-size : (dr.ok && tr.ok) ≡ true → length t ≡ 78
-    tuner-size h = tuner_exact t (and_right (driver_of d).ok (tuner_of t).ok (both_ok h))
+    pub tuner_size : (dr.ok && tr.ok) ≡ true → length t ≡ 78
+    tuner_size h = tuner_exact t (and_right (driver_of d).ok (tuner_of t).ok (both_ok h))
 
 -- all of a slice, copied over as many bytes
 pub copied : (l zeros wrote : List ℕ) → length l ≡ length zeros → wrote ≡ sets zeros 0 l → wrote ≡ l
@@ -80,13 +80,13 @@ padded_cut bs h =
     let size : length (zero_padded 8 bs) ≡ 8 = simp (length-append, length-replicate) (omega arith) in
     let one : 9 - length bs ≡ 8 - length bs + 1 = omega arith in
     ap (λ (n : ℕ). take 8 (bs ++ replicate n 0)) one
-    ∙ ap (λ (xs : List ℕ). take 8 (bs ++ xs)) (last-zero (8 - length bs))
+    ∙ ap (λ (xs : List ℕ). take 8 (bs ++ xs)) (last_zero (8 - length bs))
     ∙ ap (take 8) (sym (append_assoc bs (replicate (8 - length bs) 0) (0 ∷ [])))
     ∙ take_at (zero_padded 8 bs) (0 ∷ []) 8 size
   where
-    last-zero : (n : ℕ) → replicate {A = ℕ} (n + 1) 0 ≡ replicate n 0 ++ (0 ∷ [])
-    last-zero zero = refl
-    last-zero (suc n) = let e : suc n + 1 ≡ suc (n + 1) = omega arith in ap (λ (m : ℕ). replicate m 0) e ∙ ap (λ (xs : List ℕ). 0 ∷ xs) (last-zero n)
+    last_zero : (n : ℕ) → replicate {A = ℕ} (n + 1) 0 ≡ replicate n 0 ++ (0 ∷ [])
+    last_zero zero = refl
+    last_zero (suc n) = let e : suc n + 1 ≡ suc (n + 1) = omega arith in ap (λ (m : ℕ). replicate m 0) e ∙ ap (λ (xs : List ℕ). 0 ∷ xs) (last_zero n)
 
 -- the whole of nine bytes
 pub padded_nine : (bs : List ℕ) → length bs ≡ 9 → zero_padded 9 bs ≡ bs

@@ -180,15 +180,15 @@ module _ (table rs os d t room : List ℕ) (driver-bytes : Bytes d) (good-tuner 
     abbrev pub left : Called Tuner
     left = left_by true (course_of o T) os T.chip T room
 
-    pub over-is : over_tuner (course_of o) os t room t ≡ handed left t
+    pub over_is : over_tuner (course_of o) os t room t ≡ handed left t
     unfolding over_tuner
-    over-is =
+    over_is =
         rw (tuner_ok, good-tuner) (tuner_taken (course_of o T) taken os T.chip T room t (length t) (omega (arith, tuner_exact t tuner_ok)))
 
-    handed-run : (a : After) (s : LockTries) → a ≡ over_tuner (course_of o) os t room t → s ≡ lock_tries_by x rs os T room
+    handed_run : (a : After) (s : LockTries) → a ≡ over_tuner (course_of o) os t room t → s ≡ lock_tries_by x rs os T room
         → hops (tuned_of a.answer s) a.room d a.next ≡ run_over x table rs os d t room
-    handed-run a s e f =
-        ap (λ (b : After). hops (tuned_of b.answer s) b.room d b.next) (e ∙ over-is)
+    handed_run a s e f =
+        ap (λ (b : After). hops (tuned_of b.answer s) b.room d b.next) (e ∙ over_is)
         ∙ ap (λ (l : List ℕ). hops (tuned_of (call_reply left) s) left.room l (next_of tuner_bytes left.answer left.count left.next t))
         (driver_same d driver-bytes driver_ok left.answer left.count)
         ∙ ap (λ (c : Called Both). hops_by (rates_made c d t) s) (beside_left D (course_of o T) os T.chip T room ∙ ap (λ (w : Course Both). left_by true w os T.chip (both T D) room) (sym row))
@@ -196,12 +196,12 @@ module _ (table rs os d t room : List ℕ) (driver-bytes : Bytes d) (good-tuner 
         ∙ run_is x known
 
     -- a call of the tuner that tells nothing of the lock
-    pub by-tuner : lock_tries_by x rs os T room ≡ no_tries → (y : Command) → y ≡ x → (given : List ℕ) → given ≡ t
+    pub by_tuner : lock_tries_by x rs os T room ≡ no_tries → (y : Command) → y ≡ x → (given : List ℕ) → given ≡ t
         → (q : Reply) (lent wrote : List ℕ) → after q lent wrote ≡ over_tuner (course_of o) os given room t → (r : TuneReply) → r ≡ tuned_of q no_tries
         → hops r lent d wrote ≡ run_over y table rs os d t room
-    by-tuner none y is given same q lent wrote e r f =
+    by_tuner none y is given same q lent wrote e r f =
         ap (λ (z : TuneReply). hops z lent d wrote) f
-        ∙ handed-run (after q lent wrote) no_tries (e ∙ ap (λ (b : List ℕ). over_tuner (course_of o) os b room t) same) (sym none)
+        ∙ handed_run (after q lent wrote) no_tries (e ∙ ap (λ (b : List ℕ). over_tuner (course_of o) os b room t) same) (sym none)
         ∙ ap (λ (z : Command). run_over z table rs os d t room) (sym is)
 
   -- a tuning
@@ -212,11 +212,11 @@ module _ (table rs os d t room : List ℕ) (driver-bytes : Bytes d) (good-tuner 
   by_tuning_lem hz y is given same r lent wrote e =
       let row : Tuner → Course Tuner = course_of (order.Order.Tune hz rs) in
       ap (λ (z : Tuned). hops z.answer z.room d z.next) (e ∙ ap (λ (b : List ℕ). over_tuning row os b room t) same)
-      ∙ handed-run (Frequency hz) (order.Order.Tune hz rs) refl refl refl (over_tuner row os t room t) (lock_tries_over row os t room t) refl (seen-is hz)
+      ∙ handed_run (Frequency hz) (order.Order.Tune hz rs) refl refl refl (over_tuner row os t room t) (lock_tries_over row os t room t) refl (seen_is hz)
       ∙ ap (λ (z : Command). run_over z table rs os d t room) (sym is)
     where
-      seen-is : (hz : ℕ) → lock_tries_over (course_of (order.Order.Tune hz rs)) os t room t ≡ lock_tries_of (order.Order.Tune hz rs) os T room
-      seen-is hz =
+      seen_is : (hz : ℕ) → lock_tries_over (course_of (order.Order.Tune hz rs)) os t room t ≡ lock_tries_of (order.Order.Tune hz rs) os T room
+      seen_is hz =
           rw (tuner_ok, good-tuner) (seen_taken (course_of (order.Order.Tune hz rs) T) refl os T.chip room (length t) (omega (arith, tuner_exact t tuner_ok)))
 
   -- a rate, on both records

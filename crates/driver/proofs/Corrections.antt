@@ -30,47 +30,47 @@ module _ (nominal corrected other : ℕ) (had ppm : ℤ) where
   refusal = correction_refusal nominal corrected other had ppm
 
   -- what was found of the records, and of the references that they would have
-  module _ (s : Bool) (x : ℕ) (by-tuner : s ≡ sound_by nominal corrected) (by-driver : x ≡ xtal_by other had) where
-    pub not-whole : (s && leb 1 x) ≡ false → 1 ≡ refusal
+  module _ (s : Bool) (x : ℕ) (by_tuner : s ≡ sound_by nominal corrected) (by-driver : x ≡ xtal_by other had) where
+    pub not_whole : (s && leb 1 x) ≡ false → 1 ≡ refusal
     unfolding correction_refusal
-    not-whole h = rw (← by-tuner, ← by-driver, h)
+    not_whole h = rw (← by_tuner, ← by-driver, h)
 
     module _ (whole : (s && leb 1 x) ≡ true) (y z : ℕ) (by_one : y ≡ xtal_by nominal ppm) (by-other : z ≡ xtal_by other ppm) where
       pub not_taken : (leb 1 y && leb 1 z) ≡ false → 4 ≡ refusal
       unfolding correction_refusal
-      not_taken h = rw (← by-tuner, ← by-driver, whole, ← by_one, ← by-other, h)
+      not_taken h = rw (← by_tuner, ← by-driver, whole, ← by_one, ← by-other, h)
 
       pub taken : (leb 1 y && leb 1 z) ≡ true → 0 ≡ refusal
       unfolding correction_refusal
-      taken h = rw (← by-tuner, ← by-driver, whole, ← by_one, ← by-other, h)
+      taken h = rw (← by_tuner, ← by-driver, whole, ← by_one, ← by-other, h)
 
   -- what is stored and answered, by the number that was found
   module _ (n : ℕ) (is : n ≡ refusal) where
     module _ (no : n ≡ 0 → ⊥) where
-      pub reference-stays : corrected ≡ kept_reference nominal corrected other had ppm
+      pub reference_stays : corrected ≡ kept_reference nominal corrected other had ppm
       unfolding kept_reference
-      reference-stays = rw (← is, ne_eqb n 0 no)
+      reference_stays = rw (← is, ne_eqb n 0 no)
 
-      pub ppm-stays : had ≡ kept_ppm nominal corrected other had ppm
+      pub ppm_stays : had ≡ kept_ppm nominal corrected other had ppm
       unfolding kept_ppm
-      ppm-stays = rw (← is, ne_eqb n 0 no)
+      ppm_stays = rw (← is, ne_eqb n 0 no)
 
-      pub answers-no : Refused n ≡ correction_answer nominal corrected other had ppm
+      pub answers_no : Refused n ≡ correction_answer nominal corrected other had ppm
       unfolding correction_answer
-      answers-no = rw (← is, ne_eqb n 0 no)
+      answers_no = rw (← is, ne_eqb n 0 no)
 
     module _ (yes : n ≡ 0) where
-      pub reference-changes : (v : ℕ) → v ≡ xtal_by nominal ppm → v ≡ kept_reference nominal corrected other had ppm
+      pub reference_changes : (v : ℕ) → v ≡ xtal_by nominal ppm → v ≡ kept_reference nominal corrected other had ppm
       unfolding kept_reference
-      reference-changes v e = e ∙ rw (← is, eq-eqb n 0 yes)
+      reference_changes v e = e ∙ rw (← is, eq-eqb n 0 yes)
 
-      pub ppm-changes : ppm ≡ kept_ppm nominal corrected other had ppm
+      pub ppm_changes : ppm ≡ kept_ppm nominal corrected other had ppm
       unfolding kept_ppm
-      ppm-changes = rw (← is, eq-eqb n 0 yes)
+      ppm_changes = rw (← is, eq-eqb n 0 yes)
 
-      pub answers-yes : Done 0 ≡ correction_answer nominal corrected other had ppm
+      pub answers_yes : Done 0 ≡ correction_answer nominal corrected other had ppm
       unfolding correction_answer
-      answers-yes = rw (← is, eq-eqb n 0 yes)
+      answers_yes = rw (← is, eq-eqb n 0 yes)
 
 -- its number, by whether the records are whole and the references taken
 abbrev number : Bool → Bool → ℕ

@@ -25,18 +25,18 @@ module _ (board nominal : ℕ) (ppm : ℤ) (frequency rate : ℕ) (b : BoardRead
     unfolding driver_of
     on = sym (ap (λ (x : BoardRead). made_on x nominal ppm frequency rate) e) ∙ ap (λ (x : BoardRead). made_on x nominal ppm frequency rate) read
 
-    pub new-low : nominal < 1 → nothing_made SETUP ≡ driver_of board nominal ppm frequency rate
-    new-low h = rw (lt-leb 1 nominal h) at on
+    pub new_low : nominal < 1 → nothing_made SETUP ≡ driver_of board nominal ppm frequency rate
+    new_low h = rw (lt-leb 1 nominal h) at on
 
-    pub new-high : 1 ≤ nominal → 4_294_967_295 < nominal → nothing_made SETUP ≡ driver_of board nominal ppm frequency rate
-    new-high h k = rw (le-leb 1 nominal h, lt-leb nominal 4_294_967_295 k) at on
+    pub new_high : 1 ≤ nominal → 4_294_967_295 < nominal → nothing_made SETUP ≡ driver_of board nominal ppm frequency rate
+    new_high h k = rw (le-leb 1 nominal h, lt-leb nominal 4_294_967_295 k) at on
 
     module _ (low : 1 ≤ nominal) (high : nominal ≤ 4_294_967_295) (xtal : ℕ) (worked : xtal ≡ xtal_by nominal ppm) where
-      pub new-bad : xtal < 1 → nothing_made CORRECTION ≡ driver_of board nominal ppm frequency rate
-      new-bad h = rw (le-leb 1 nominal low, le-leb nominal 4_294_967_295 high, ← worked, lt-leb 1 xtal h) at on
+      pub new_bad : xtal < 1 → nothing_made CORRECTION ≡ driver_of board nominal ppm frequency rate
+      new_bad h = rw (le-leb 1 nominal low, le-leb nominal 4_294_967_295 high, ← worked, lt-leb 1 xtal h) at on
 
-      pub new-good : 1 ≤ xtal → made (Done 0) (driver named nominal ppm frequency rate 0) ≡ driver_of board nominal ppm frequency rate
-      new-good h = rw (le-leb 1 nominal low, le-leb nominal 4_294_967_295 high, ← worked, le-leb 1 xtal h) at on
+      pub new_good : 1 ≤ xtal → made (Done 0) (driver named nominal ppm frequency rate 0) ≡ driver_of board nominal ppm frequency rate
+      new_good h = rw (le-leb 1 nominal low, le-leb nominal 4_294_967_295 high, ← worked, le-leb 1 xtal h) at on
 
 -- `corrected_xtal_hz`
 pub xtal_refused : (xtal y : ℕ) → xtal ≡ y → xtal < 1 → Refused SETUP ≡ xtal_answer y

@@ -91,12 +91,12 @@ board_path_eight kind path rs =
 
 -- a rate's call: what it is refused by, and what it is performed with
 module _ (os room : List ℕ) (rate : ℕ) (t : Tuner) (d : Driver) (p : Planned) (s : Bool) (xtal ratio argument given : ℕ)
-    (by-tuner : s ≡ sound t) (by-driver : xtal ≡ xtal_of d) (by_rate : ratio ≡ rate_number rate xtal) (by-table : argument ≡ cond (eqb p.refusal TABLE) 19 ratio)
+    (by_tuner : s ≡ sound t) (by-driver : xtal ≡ xtal_of d) (by_rate : ratio ≡ rate_number rate xtal) (by-table : argument ≡ cond (eqb p.refusal TABLE) 19 ratio)
     (by_all : given ≡ refusal_with (s && leb 1 xtal) argument 17 0 (length room) (length os) 0) where
   number : given ≡ refusal_with (sound t && sound_driver d) (rate_argument rate p d) 17 0 (length room) (length os) 0
   number =
       by_all
-      ∙ (λ i. refusal_with (by-tuner i && leb 1 (by-driver i))
+      ∙ (λ i. refusal_with (by_tuner i && leb 1 (by-driver i))
       ((by-table ∙ ap (λ (n : ℕ). cond (eqb p.refusal TABLE) 19 n) (by_rate ∙ ap (rate_number rate) by-driver)) i) 17 0 (length room) (length os) 0)
 
   pub rate_refused : (given ≡ 0 → ⊥) → called (both t d) room 0 (Refused given) ≡ rate_result rate p os t d room
@@ -148,10 +148,10 @@ pub path_none : (p : PathRead) (os rs : List ℕ) (t : Tuner) (room : List ℕ) 
 unfolding left_by
 path_none p os rs t room e = rw e (either_one (sound t) t room)
 
-module _ (p : PathRead) (path : Path) (os rs room : List ℕ) (t : Tuner) (s : Bool) (given : ℕ) (by-path : p ≡ path-read.Is path) (by-tuner : s ≡ sound t)
+module _ (p : PathRead) (path : Path) (os rs room : List ℕ) (t : Tuner) (s : Bool) (given : ℕ) (by-path : p ≡ path-read.Is path) (by_tuner : s ≡ sound t)
     (by_all : given ≡ refusal_with s 0 10 3 (length room) (length os) (length rs)) where
   path_number_lem : given ≡ refusal_with (sound t) 0 10 3 (length room) (length os) (length rs)
-  path_number_lem = by_all ∙ (λ i. refusal_with (by-tuner i) 0 10 3 (length room) (length os) (length rs))
+  path_number_lem = by_all ∙ (λ i. refusal_with (by_tuner i) 0 10 3 (length room) (length os) (length rs))
 
   pub path_refused : (given ≡ 0 → ⊥) → called t room 0 (Refused given) ≡ board_left p os rs t room
   unfolding left_by

@@ -76,9 +76,9 @@ module _ (argument : Tuner → Driver → ℕ) (result : Tuner → Driver → Ca
         ∙ ap (λ (x : ℕ). both_ready (dr.ok && tr.ok) x (length driver) (length tuner)) argued
         ∙ (λ i. both_ready ((is-driver i).ok && (is-tuner i).ok) (argument (is-tuner i).tuner (is-driver i).driver) (length driver) (length tuner))
 
-    pub refused-by : (r : Reply) → (n ≡ 0 → ⊥) → r ≡ reply_of (Refused n) 0 → rates r room driver tuner ≡ over_both argument result d t room driver tuner
+    pub refused_by_lem : (r : Reply) → (n ≡ 0 → ⊥) → r ≡ reply_of (Refused n) 0 → rates r room driver tuner ≡ over_both argument result d t room driver tuner
     unfolding over_both
-    refused-by r h e =
+    refused_by_lem r h e =
         ap (λ (x : Reply). rates x room driver tuner) e ∙ refused number (λ n. rates_refused n room driver tuner) made n number_is h
 
     pub handed_back : n ≡ 0
@@ -144,8 +144,8 @@ module _ (ppm : ℤ) (t d : List ℕ) (tr : TunerRead) (dr : DriverRead) (is-tun
       → (r : Reply) (wrote-tuner wrote-driver : List ℕ) → r ≡ reply_of a 0 → wrote-tuner ≡ next_of tuner_bytes a 0 t' t → wrote-driver ≡ next_of driver_bytes a 0 d' d
       → corrects r wrote-tuner wrote-driver ≡ correct_over ppm t d
   unfolding correct_over
-  corrected_back h t' d' a e r wt wd by-reply by-tuner by-driver =
-      (λ i. corrects (by-reply i) (by-tuner i) (by-driver i))
+  corrected_back h t' d' a e r wt wd by-reply by_tuner by-driver =
+      (λ i. corrects (by-reply i) (by_tuner i) (by-driver i))
       ∙ ap (λ (x : Called Both). corrects_made x t d) (e ∙ (λ i. correction_call ppm (is-tuner i).tuner (is-driver i).driver))
       ∙ rw (sym read_is ∙ h)
 

@@ -181,7 +181,7 @@ module _ (os : List ℕ) (hz rate xtal : ℕ) (inverted : Bool) (c : Chip) where
   unfolding every
   filtered_own =
       run_keeps os (λ (u : Trace). every tuners u.log ≡ true) chips (λ s u q a p. every_append tuners u.log (emit s u.chip (ok_for os u.count s) ∷ []) p (own s u q)) (filter_steps hz rate) start
-      filter-chips refl
+      filter_chips refl
     where
       own : (s : Step) (u : Trace) → chips s ≡ true → every tuners (emit s u.chip (ok_for os u.count s) ∷ []) ≡ true
       own Open u q = refl
@@ -190,16 +190,16 @@ module _ (os : List ℕ) (hz rate xtal : ℕ) (inverted : Bool) (c : Chip) where
       own (Mask r v m) u q = refl
       own (Plain e) u q = absurd (true≢false (sym q))
 
-      chip-updates : (us : List Update) → every chips (updates us) ≡ true
-      chip-updates [] = refl
-      chip-updates (u ∷ us) = chip-updates us
+      chip_updates : (us : List Update) → every chips (updates us) ≡ true
+      chip_updates [] = refl
+      chip_updates (u ∷ us) = chip_updates us
 
-      chip-bracket : (us : List Update) → every chips (while_open (updates us)) ≡ true
-      chip-bracket us = every_append chips (updates us) (Close ∷ []) (chip-updates us) refl
+      chip_bracket : (us : List Update) → every chips (while_open (updates us)) ≡ true
+      chip_bracket us = every_append chips (updates us) (Close ∷ []) (chip_updates us) refl
 
-      filter-chips : every chips (filter_steps hz rate) ≡ true
-      filter-chips =
-          every_append chips (while_open (updates (if_updates hz))) (while_open (updates (bandwidth_updates rate))) (chip-bracket (if_updates hz)) (chip-bracket (bandwidth_updates rate))
+      filter_chips : every chips (filter_steps hz rate) ≡ true
+      filter_chips =
+          every_append chips (while_open (updates (if_updates hz))) (while_open (updates (bandwidth_updates rate))) (chip_bracket (if_updates hz)) (chip_bracket (bandwidth_updates rate))
 
   -- after any entries
   pub cut_rate : (es : List Entry) → goes (trace os (sample_rate_steps hz rate xtal inverted) c).progress ≡ false
@@ -218,14 +218,14 @@ module _ (os : List ℕ) (hz rate xtal : ℕ) (inverted : Bool) (c : Chip) where
           ∙ ap (λ (l : List Entry). last_at l r) (sym (append_assoc es filtered.log x.0))
           ∙ last_append demodulator Never (es ++ filtered.log) x.0 (place 1 r)) in
           let d = x.2.0 (before 0x15) in
-          inr (record { ddc = ap mark_of (at 0x15 ∙ d.1); offset = offset-of at x.2.1 })
+          inr (record { ddc = ap mark_of (at 0x15 ∙ d.1); offset = offset_of at x.2.1 })
         where
-          offset-of : ((r : ℕ) → last_at (es ++ log) r ≡ last_from demodulator (last_in demodulator (es ++ filtered.log) (place 1 r)) x.0 (place 1 r)) → Vain 0x1b x.0 ⊎ Whole x.0
+          offset_of : ((r : ℕ) → last_at (es ++ log) r ≡ last_from demodulator (last_in demodulator (es ++ filtered.log) (place 1 r)) x.0 (place 1 r)) → Vain 0x1b x.0 ⊎ Whole x.0
               → (if_mark (es ++ log) ≡ 1) ⊎ ((if_mark (es ++ log) ≡ 2) × (if_word (demod_byte (es ++ log)) ≡ value))
-          offset-of at (inl v) =
+          offset_of at (inl v) =
               let y = v (last_in demodulator (es ++ filtered.log) (place 1 0x1b)) in
               inl (vain_mark (last_at (es ++ log)) 0x1b y.0 (at 0x1b ∙ y.1) if_places refl)
-          offset-of at (inr w) =
+          offset_of at (inr w) =
               let a = at 0x19 ∙ (w (last_in demodulator (es ++ filtered.log) (place 1 0x19))).0 in
               let b = at 0x1a ∙ (w (last_in demodulator (es ++ filtered.log) (place 1 0x1a))).1 in
               let d = at 0x1b ∙ (w (last_in demodulator (es ++ filtered.log) (place 1 0x1b))).2 in

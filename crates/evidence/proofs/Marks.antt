@@ -121,12 +121,12 @@ centre_exactly address r xtal es = (to, λ p. rw (p.0, p.1, le-ltb lo off p.2))
         absurd (omega arith)
     by false e two h = ltb-false lo off e
 
-    sure-both : (b : Bool) → eqb both 2 ≡ b → cond (eqb both 2 && ltb lo off) 1 both ≡ 2 → both ≡ 2
-    sure-both true e h = eqb-true both 2 e
-    sure-both false e h = rw e at h
+    sure_both : (b : Bool) → eqb both 2 ≡ b → cond (eqb both 2 && ltb lo off) 1 both ≡ 2 → both ≡ 2
+    sure_both true e h = eqb-true both 2 e
+    sure_both false e h = rw e at h
 
     to : cond (eqb both 2 && ltb lo off) 1 both ≡ 2 → (lo_mark address es ≡ 2) × (if_mark es ≡ 2) × (off ≤ lo)
     to h =
-        let two : both ≡ 2 = sure-both (eqb both 2) refl h in
+        let two : both ≡ 2 = sure_both (eqb both 2) refl h in
         let p = both_two (lo_mark address es) (if_mark es) two in
         (p.0, p.1, by (ltb lo off) refl two h)

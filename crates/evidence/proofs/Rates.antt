@@ -82,54 +82,54 @@ module _ (os : List ℕ) (hz rate xtal : ℕ) (inverted : Bool) (c : Chip) (goin
         ∙ last_append demodulator (last_in demodulator es (place 1 r)) mid.log (map ended (setup hz rate xtal inverted)) (place 1 r)
         ∙ h (last_from demodulator (last_in demodulator es (place 1 r)) mid.log (place 1 r))
 
-    pub if-high : last_at all 0x19 ≡ Tried (if_value_of hz xtal / 2 ^ 16 % 2 ^ 8) true
+    pub if_high : last_at all 0x19 ≡ Tried (if_value_of hz xtal / 2 ^ 16 % 2 ^ 8) true
     unfolding last_from demod_names demod_settles covers shakes
-    if-high = settled 0x19 (if_value_of hz xtal / 2 ^ 16 % 2 ^ 8) (λ l. refl)
+    if_high = settled 0x19 (if_value_of hz xtal / 2 ^ 16 % 2 ^ 8) (λ l. refl)
 
-    pub if-mid : last_at all 0x1a ≡ Tried (if_value_of hz xtal / 2 ^ 8 % 2 ^ 8 % 2 ^ 8) true
+    pub if_mid : last_at all 0x1a ≡ Tried (if_value_of hz xtal / 2 ^ 8 % 2 ^ 8 % 2 ^ 8) true
     unfolding last_from demod_names demod_settles covers shakes
-    if-mid = settled 0x1a (if_value_of hz xtal / 2 ^ 8 % 2 ^ 8 % 2 ^ 8) (λ l. refl)
+    if_mid = settled 0x1a (if_value_of hz xtal / 2 ^ 8 % 2 ^ 8 % 2 ^ 8) (λ l. refl)
 
-    pub if-low : last_at all 0x1b ≡ Tried (if_value_of hz xtal % 2 ^ 8 % 2 ^ 8) true
+    pub if_low : last_at all 0x1b ≡ Tried (if_value_of hz xtal % 2 ^ 8 % 2 ^ 8) true
     unfolding last_from demod_names demod_settles covers shakes
-    if-low = settled 0x1b (if_value_of hz xtal % 2 ^ 8 % 2 ^ 8) (λ l. refl)
+    if_low = settled 0x1b (if_value_of hz xtal % 2 ^ 8 % 2 ^ 8) (λ l. refl)
 
-    pub ddc-told : last_at all 0x15 ≡ Tried (ddc_byte inverted % 2 ^ 8) true
+    pub ddc_told : last_at all 0x15 ≡ Tried (ddc_byte inverted % 2 ^ 8) true
     unfolding last_from demod_names demod_settles covers shakes
-    ddc-told = settled 0x15 (ddc_byte inverted % 2 ^ 8) (λ l. refl)
+    ddc_told = settled 0x15 (ddc_byte inverted % 2 ^ 8) (λ l. refl)
 
     -- the ratio as it is sent, in four bytes
     abbrev sent : ℕ
     sent = sent_of (ratio_of rate xtal)
 
-    ratio-first : last_at all 0x9f ≡ Tried (sent / 2 ^ 16 / 2 ^ 8) true
+    ratio_first : last_at all 0x9f ≡ Tried (sent / 2 ^ 16 / 2 ^ 8) true
     unfolding last_from demod_names demod_settles covers shakes
-    ratio-first = settled 0x9f (sent / 2 ^ 16 / 2 ^ 8) (λ l. refl)
+    ratio_first = settled 0x9f (sent / 2 ^ 16 / 2 ^ 8) (λ l. refl)
 
-    ratio-second : last_at all 0xa0 ≡ Tried (sent / 2 ^ 16 % 2 ^ 8) true
+    ratio_second : last_at all 0xa0 ≡ Tried (sent / 2 ^ 16 % 2 ^ 8) true
     unfolding last_from demod_names demod_settles covers shakes
-    ratio-second = settled 0xa0 (sent / 2 ^ 16 % 2 ^ 8) (λ l. refl)
+    ratio_second = settled 0xa0 (sent / 2 ^ 16 % 2 ^ 8) (λ l. refl)
 
-    ratio-third : last_at all 0xa1 ≡ Tried (sent % 2 ^ 16 / 2 ^ 8) true
+    ratio_third : last_at all 0xa1 ≡ Tried (sent % 2 ^ 16 / 2 ^ 8) true
     unfolding last_from demod_names demod_settles covers shakes
-    ratio-third = settled 0xa1 (sent % 2 ^ 16 / 2 ^ 8) (λ l. refl)
+    ratio_third = settled 0xa1 (sent % 2 ^ 16 / 2 ^ 8) (λ l. refl)
 
-    ratio-fourth : last_at all 0xa2 ≡ Tried (sent % 2 ^ 16 % 2 ^ 8) true
+    ratio_fourth : last_at all 0xa2 ≡ Tried (sent % 2 ^ 16 % 2 ^ 8) true
     unfolding last_from demod_names demod_settles covers shakes
-    ratio-fourth = settled 0xa2 (sent % 2 ^ 16 % 2 ^ 8) (λ l. refl)
+    ratio_fourth = settled 0xa2 (sent % 2 ^ 16 % 2 ^ 8) (λ l. refl)
 
-    pub rate-sure : rate_mark all ≡ 2
-    rate-sure =
+    pub rate_sure : rate_mark all ≡ 2
+    rate_sure =
         (sure_exactly (lasts (last_at all) rate_places)).1
-        ((sent / 2 ^ 16 / 2 ^ 8, ratio-first), ((sent / 2 ^ 16 % 2 ^ 8, ratio-second), ((sent % 2 ^ 16 / 2 ^ 8, ratio-third), ((sent % 2 ^ 16 % 2 ^ 8, ratio-fourth), tt))))
+        ((sent / 2 ^ 16 / 2 ^ 8, ratio_first), ((sent / 2 ^ 16 % 2 ^ 8, ratio_second), ((sent % 2 ^ 16 / 2 ^ 8, ratio_third), ((sent % 2 ^ 16 % 2 ^ 8, ratio_fourth), tt))))
 
-    pub ratio-told : ratio_in (demod_byte all) ≡ sent
-    ratio-told = rw (ratio-first, ratio-second, ratio-third, ratio-fourth) (omega arith)
+    pub ratio_told : ratio_in (demod_byte all) ≡ sent
+    ratio_told = rw (ratio_first, ratio_second, ratio_third, ratio_fourth) (omega arith)
 
     -- the rate that is told is the true one of #104
     pub rate_told : rate_in xtal (demod_byte all) ≡ true_of rate xtal
     unfolding rate_in true_of
-    rate_told = ap (λ (r : ℕ). cond (eqb r 0) 0 (xtal * 2 ^ 22 / r)) ratio-told ∙ go (eqb sent 0) refl
+    rate_told = ap (λ (r : ℕ). cond (eqb r 0) 0 (xtal * 2 ^ 22 / r)) ratio_told ∙ go (eqb sent 0) refl
       where
         go : (b : Bool) → eqb sent 0 ≡ b → cond (eqb sent 0) 0 (xtal * 2 ^ 22 / sent) ≡ xtal * 2 ^ 22 / sent
         go true e = rw (e, eqb-true sent 0 e) (sym (div-zero (xtal * 2 ^ 22)))

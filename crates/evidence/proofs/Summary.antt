@@ -271,15 +271,15 @@ module _ (address : ℕ) where
     abbrev some : List Entry
     some = ks ++ demod_summary ws
 
-    folded-demod : (r : ℕ) → among r demod_places ≡ true → last_at some r ≡ last_at ws r
-    folded-demod r h = demod_again ws ks r h ∙ go (last_at ws r) refl
+    folded_demod : (r : ℕ) → among r demod_places ≡ true → last_at some r ≡ last_at ws r
+    folded_demod r h = demod_again ws ks r h ∙ go (last_at ws r) refl
       where
         go : (x : Last) → last_at ws r ≡ x → known (last_at ws r) (last_at ks r) ≡ last_at ws r
         go Never e = rw e (dropped_never (place 1 r) ws ks d Never e)
         go (Tried byte ok) e = rw e
 
-    folded-chip : (r : ℕ) → among r oscillator ≡ true → chip.last_in address some r ≡ chip.last_in address ws r
-    folded-chip r h =
+    folded_chip : (r : ℕ) → among r oscillator ≡ true → chip.last_in address some r ≡ chip.last_in address ws r
+    folded_chip r h =
         last_append (tuner_at address) Never ks (demod_summary ws) r
         ∙ quiet_all (tuner_at address) demod_one r (chip_quiet address r) (last_at ws) demod_places (chip.last_in address ks r)
         ∙ sym (dropped_chip r h ws ks d Never)
@@ -292,8 +292,8 @@ module _ (address : ℕ) where
         ∙ summary_heard (last_at ws) demod_places (heard_from address (heard 0 0) ks)
         ∙ sym (dropped_heard ws ks d (heard 0 0)) in (
           record {
-            chip = agree_by (chip.last_in address some) (chip.last_in address ws) oscillator folded-chip;
-            demod = agree_by (last_at some) (last_at ws) demod_places folded-demod;
+            chip = agree_by (chip.last_in address some) (chip.last_in address ws) oscillator folded_chip;
+            demod = agree_by (last_at some) (last_at ws) demod_places folded_demod;
           },
           ap (λ (h : Heard). h.mark) same,
           ap (λ (h : Heard). h.count) same,

@@ -20,8 +20,8 @@ use Rattle.transcript.proofs.Exact.{written_then_read}
 use Rattle.transcript.proofs.Reading.{both, found}
 use Rattle.packets.specs.Packets.{became, expands, w_index_of, is_demod, packets, packets_of, setup, sync, w_value_of}
 use Rattle.packets.specs.Heard.{entry_in, packets_stand, sync_in}
-use Rattle.packets.proofs.Units.{bare_core, core, no_stray, unit-read, unit-stands}
-use Rattle.packets.proofs.Begins.{Transfer, became_transfer, entry_expands, entry-fits, kind_within, most_bytes, own_packets, size_within, unit-begins}
+use Rattle.packets.proofs.Units.{bare_core, core, no_stray, unit_read, unit_stands}
+use Rattle.packets.proofs.Begins.{Transfer, became_transfer, entry_expands, entry_fits_lem, kind_within, most_bytes, own_packets, size_within, unit_begins}
 use Rattle.packets.proofs.Written.{stays}
 use Rattle.refusals.specs.Lent.{lent_to}
 use Rattle.expansion.specs.Expansion.{all_expand, all_heard, expand_into, expanded, heard_entries, read_into, transfers}
@@ -81,8 +81,8 @@ unfolding all_heard heard_entries
 more t f es h free r =
     let rest = expanded es in
     let all = packets t ++ rest in
-    let there : packets_stand all ≡ true = unit-stands t h.fit h.low h.high h.fine rest in
-    let one : entry_in all ≡ core t = unit-read t h.fit h.low h.high h.fine rest free in
+    let there : packets_stand all ≡ true = unit_stands t h.fit h.low h.high h.fine rest in
+    let one : entry_in all ≡ core t = unit_read t h.fit h.low h.high h.fine rest free in
     let size : length (packets (entry_in all)) ≡ length (packets t) = ap (λ (e : Entry). length (packets e)) one ∙ ap length (core_packets t) in
     let some : eqb (length all) 0 ≡ false = ne_eqb (length all) 0 (λ z. omega (arith, (size_within all there).0, (size_within all there).1, z)) in
     let past : drop (length (packets (entry_in all))) all ≡ rest = ap (λ (k : ℕ). drop k all) size ∙ drop_at (packets t) rest (length (packets t)) refl in
@@ -166,8 +166,8 @@ one_more b es bytes there s =
     let kept : entry_in b ≡ became (entry_in b) = stays (entry_in b) (λ z. omega (arith, k.0, z)) in
     let size = size_within b there in
     record {
-      bytes = ap₂ ◌++◌ own s.bytes ∙ unit-begins b there bytes;
-      fit = (entry-fits b there bytes, s.fit);
+      bytes = ap₂ ◌++◌ own s.bytes ∙ unit_begins b there bytes;
+      fit = (entry_fits_lem b there bytes, s.fit);
       fine = rw (entry_expands b there) s.fine;
       same = rw (moved, ← kept, s.same);
       few = omega (arith, s.few, size.0, size.1, length-drop (length (packets (entry_in b))) b);

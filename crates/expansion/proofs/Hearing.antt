@@ -112,9 +112,9 @@ module _ (b : List ℕ) (at i : ℕ) where
     unfolding all_heard
     stray s = rw (more, long here, s)
 
-    pub stands-there : all_heard (4096 - i) l ≡ true → packets_stand l ≡ true
+    pub stands_there : all_heard (4096 - i) l ≡ true → packets_stand l ≡ true
     unfolding all_heard
-    stands-there t =
+    stands_there t =
         let q : packets_stand l && all_heard f (drop (length (packets (entry_in l))) l) ≡ true = rw (more, long here) at t in
         (both (packets_stand l) (all_heard f (drop (length (packets (entry_in l))) l)) q).0
 
@@ -125,23 +125,23 @@ module _ (b : List ℕ) (at i : ℕ) where
       pub inside : (8 ≤ k) × (at + k ≤ length b)
       inside = (omega (arith, (size_within l s).0, size), omega (arith, (size_within l s).1, size, length-drop at b))
 
-      pub heard-on : all_heard f (drop (at + k) b) ≡ all_heard (4096 - i) l
+      pub heard_on : all_heard f (drop (at + k) b) ≡ all_heard (4096 - i) l
       unfolding all_heard
-      heard-on = rw (more, long here, s, rest)
+      heard_on = rw (more, long here, s, rest)
 
-      entry-on : heard_entries (4096 - i) l ≡ entry_in l ∷ heard_entries f (drop (at + k) b)
+      entry_on : heard_entries (4096 - i) l ≡ entry_in l ∷ heard_entries f (drop (at + k) b)
       unfolding heard_entries
-      entry-on = rw (more, long here, rest)
+      entry_on = rw (more, long here, rest)
 
-      pub count-on : i + 1 + length (heard_entries f (drop (at + k) b)) ≡ i + length (heard_entries (4096 - i) l)
-      count-on = omega (arith, ap length entry-on)
+      pub count_on : i + 1 + length (heard_entries f (drop (at + k) b)) ≡ i + length (heard_entries (4096 - i) l)
+      count_on = omega (arith, ap length entry_on)
 
-      pub entry-stored : (out next : List ℕ) (e : Entry) → e ≡ bare (entry_in l) → next ≡ sets out (16 * i) (entry_bytes e)
+      pub entry_stored : (out next : List ℕ) (e : Entry) → e ≡ bare (entry_in l) → next ≡ sets out (16 * i) (entry_bytes e)
           → sets next (16 * (i + 1)) (entries_bytes (map bare (heard_entries f (drop (at + k) b)))) ≡ sets out (16 * i) (entries_bytes (map bare (heard_entries (4096 - i) l)))
       unfolding entries_bytes
-      entry-stored out next e p q =
+      entry_stored out next e p q =
           let room : 16 * i + length (entry_bytes (bare (entry_in l))) ≡ 16 * (i + 1) = omega (arith, length-entry_bytes (bare (entry_in l)) (one_eight l)) in
-          rw (entry-on, sets_append out (16 * i) (entry_bytes (bare (entry_in l))) (entries_bytes (map bare (heard_entries f (drop (at + k) b)))), room, q, p)
+          rw (entry_on, sets_append out (16 * i) (entry_bytes (bare (entry_in l))) (entries_bytes (map bare (heard_entries f (drop (at + k) b)))), room, q, p)
 
 -- all entries heard have eight data bytes
 heard_eights : (f : ℕ) (b : List ℕ) → Eights (map bare (heard_entries f b))

@@ -82,13 +82,13 @@ module _ {R : Type 0} (number : ℕ) (whole : Answer) (os : List ℕ) (ss : List
       index (Refused k) = 0
       index (Stopped k) = k
 
-      by-progress : (w : Progress) → (trace os ss c).progress ≡ w → answer_of whole w ≡ Stopped i → (trace os ss c).progress ≡ Refused11 i
-      by-progress Going e q = absurd (false≢true (sym s ∙ ap stops q))
-      by-progress (Refused11 k) e q = e ∙ ap Refused11 (ap index q)
+      by_progress : (w : Progress) → (trace os ss c).progress ≡ w → answer_of whole w ≡ Stopped i → (trace os ss c).progress ≡ Refused11 i
+      by_progress Going e q = absurd (false≢true (sym s ∙ ap stops q))
+      by_progress (Refused11 k) e q = e ∙ ap Refused11 (ap index q)
 
       go : (b : Bool) → eqb number 0 ≡ b → (eqb number 0 ≡ true) × ((trace os ss c).progress ≡ Refused11 i)
       go false e = absurd (false≢true (ap stops (sym (ap (λ (d : Called R). d.answer) (call_refused e)) ∙ h)))
-      go true e = (e, by-progress (trace os ss c).progress refl (sym (ap (λ (d : Called R). d.answer) (call_performed e)) ∙ h))
+      go true e = (e, by_progress (trace os ss c).progress refl (sym (ap (λ (d : Called R). d.answer) (call_performed e)) ∙ h))
 
   -- (c) for a call, "with the failing index the answer gives": its entries against those of the same call with outcome i done
   pub call_cut : (i : ℕ) → stops whole ≡ false → every fine ss ≡ true → call.answer ≡ Stopped i

@@ -20,7 +20,7 @@ use Rattle.attempts.specs.Namings.Last.{Never, Tried}
 use Rattle.attempts.proofs.Doubt.{InVain, doubt_any, doubt_exactly, sure_byte}
 use Rattle.attempts.proofs.Named.{other_kind}
 use Rattle.attempts.proofs.Lasts.{known, last_append, last_known}
-use Rattle.attempts.proofs.Played.{last_done, last-never, some_played}
+use Rattle.attempts.proofs.Played.{last_done, last_never, some_played}
 use Rattle.chip.specs.declared.Chip.{Chip}
 use Rattle.chip.specs.declared.Progress.TheVariants.{Going, Refused11}
 use Rattle.chip.specs.Chips.{mask_of, masked_byte}
@@ -89,26 +89,26 @@ module _ (init : List ℕ) (c : Chip) (es : List Entry) (history : History init 
 
   module _ (before after : Regs) (played : Played c.address es before after) where
     -- (b) "at each call's end a register whose last attempt was done holds the byte sent": any register, also past 0x1f
-    pub done-holds : (r byte : ℕ) → last_in c.address es r ≡ Tried byte true → after r ≡ byte
-    done-holds r byte h = last_done (tuner_at c.address) es before after played r byte h
+    pub done_holds : (r byte : ℕ) → last_in c.address es r ≡ Tried byte true → after r ≡ byte
+    done_holds r byte h = last_done (tuner_at c.address) es before after played r byte h
 
     -- a register that was never attempted holds what it held
-    pub never-kept : (r : ℕ) → last_in c.address es r ≡ Never → after r ≡ before r
-    never-kept r h = last-never (tuner_at c.address) es before after played r h
+    pub never_kept : (r : ℕ) → last_in c.address es r ≡ Never → after r ≡ before r
+    never_kept r h = last_never (tuner_at c.address) es before after played r h
 
     -- so a register without a doubtful mark holds the shadow's byte
-    pub sure-holds : (i : ℕ) → i < 27 → get_or c.doubtful i true ≡ false → after (5 + i) ≡ get_or c.shadow i 0
-    sure-holds i h d =
+    pub sure_holds : (i : ℕ) → i < 27 → get_or c.doubtful i true ≡ false → after (5 + i) ≡ get_or c.shadow i 0
+    sure_holds i h d =
         sure_byte (tuner_at c.address) es before after (5 + i) (get_or init i 0) played (sym (doubtful_exactly i h) ∙ d) ∙ sym (shadow_last i h)
 
     -- and a masked write is built on what the chip holds: the complaint of #106, "a masked update was built on a shadow the chip no longer had"
-    pub built-on : (i value mask : ℕ) → i < 27 → get_or c.doubtful i true ≡ false → masked_byte c (5 + i) value mask ≡ mask_of (after (5 + i)) value mask
-    built-on i value mask h d =
+    pub built_on : (i value mask : ℕ) → i < 27 → get_or c.doubtful i true ≡ false → masked_byte c (5 + i) value mask ≡ mask_of (after (5 + i)) value mask
+    built_on i value mask h d =
         let place : 5 + i - 5 ≡ i = omega arith in
-        ap (λ (b : ℕ). mask_of b value mask) (ap (λ (k : ℕ). get_or c.shadow k 0) place ∙ sym (sure-holds i h d))
+        ap (λ (b : ℕ). mask_of b value mask) (ap (λ (k : ℕ). get_or c.shadow k 0) place ∙ sym (sure_holds i h d))
 
   -- (f) there is such a chip, whatever the chip to start from; a failed write admits both the old and the new byte in each register that it
-  -- named (`failed-part` of crate attempts)
+  -- named (`failed_part` of crate attempts)
   pub some_chip : (before : Regs) → (after : Regs) × Played c.address es before after
   some_chip before = some_played (tuner_at c.address) es before
 

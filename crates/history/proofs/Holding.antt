@@ -127,38 +127,38 @@ module _ (c : Chip) where
 
   -- and a chip that it holds of is as if they had been played on it
   module _ (chip : Regs) (holds : Holds c chip) where
-    lands-one : (n : ℕ) → n < 27 → mark n ≡ false → Lands c.address (wrote n) chip chip
-    lands-one n h m = record { kept = λ r t. refl; sent = λ r t d. go r t (eqb r (5 + n)) refl }
+    lands_one : (n : ℕ) → n < 27 → mark n ≡ false → Lands c.address (wrote n) chip chip
+    lands_one n h m = record { kept = λ r t. refl; sent = λ r t d. go r t (eqb r (5 + n)) refl }
       where
         go : (r : ℕ) → names c.address (wrote n) r ≡ true → (b : Bool) → eqb r (5 + n) ≡ b → chip r ≡ sent_to (wrote n) r
         go r t true e = subst (λ (q : ℕ). chip q ≡ sent_to (wrote n) q) (sym (eqb-true r (5 + n) e)) (holds n h m ∙ sym (byte_sent n))
         go r t false e = absurd (true≢false (sym t ∙ apart n r e))
 
-    played-one : (n : ℕ) → n < 27 → Played c.address (one n) chip chip
-    played-one n h = go (mark n) refl
+    played_one : (n : ℕ) → n < 27 → Played c.address (one n) chip chip
+    played_one n h = go (mark n) refl
       where
         go : (m : Bool) → mark n ≡ m → Played c.address (cond m [] (wrote n ∷ [])) chip chip
         go true e = λ r. refl
-        go false e = (chip, lands-one n h e, λ r. refl)
+        go false e = (chip, lands_one n h e, λ r. refl)
 
-    pub recall-played : (n : ℕ) → n ≤ 27 → Played c.address (recall n) chip chip
+    pub recall_played : (n : ℕ) → n ≤ 27 → Played c.address (recall n) chip chip
     unfolding recall
-    recall-played zero h = λ r. refl
-    recall-played (suc n) h = played_append (tuner_at c.address) (recall n) (one n) chip chip chip (recall-played n (omega arith)) (played-one n (omega arith))
+    recall_played zero h = λ r. refl
+    recall_played (suc n) h = played_append (tuner_at c.address) (recall n) (one n) chip chip chip (recall_played n (omega arith)) (played_one n (omega arith))
 
   module _ (small : c.address ≤ 255) (marks : length c.doubtful ≡ 27) (bytes : length c.shadow ≡ 27) (chip after : Regs) (holds : Holds c chip) where
     holds_on : (d : Chip) (es : List Entry) → d.address ≡ c.address → Tracks c.shadow d (recall 27 ++ es) → Played c.address es chip after → Holds d after
     holds_on d es same t p =
         tracked_holds c.shadow d (recall 27 ++ es) t chip after
         (subst (λ (a : ℕ). Played a (recall 27 ++ es) chip after) (sym same)
-        (played_append (tuner_at c.address) (recall 27) es chip chip after (recall-played chip holds 27 (omega arith)) p))
+        (played_append (tuner_at c.address) (recall 27) es chip chip after (recall_played chip holds 27 (omega arith)) p))
 
     -- so the record that a program leaves holds of every chip that its entries were played on, wherever the program stopped
-    pub trace-holds : (os : List ℕ) (ss : List Step) → every fine ss ≡ true → Played c.address (trace os ss c).log chip after → Holds (trace os ss c).chip after
-    trace-holds os ss f p =
+    pub trace_holds : (os : List ℕ) (ss : List Step) → every fine ss ≡ true → Played c.address (trace os ss c).log chip after → Holds (trace os ss c).chip after
+    trace_holds os ss f p =
         holds_on (trace os ss c).chip (trace os ss c).log (trace_address os ss c)
         (tracks_trace c.shadow c (recall 27) os ss f (recall_tracks small marks bytes)) p
 
     -- and a program that attempts no register leaves it as it was
-    pub beside-holds : (k : Chip) (os : List ℕ) (ss : List Step) → every beside ss ≡ true → Played c.address (trace os ss k).log chip after → Holds c after
-    beside-holds k os ss b p = holds_on c (trace os ss k).log refl (tracks_aside c.shadow c (recall 27) k os ss b (recall_tracks small marks bytes)) p
+    pub beside_holds : (k : Chip) (os : List ℕ) (ss : List Step) → every beside ss ≡ true → Played c.address (trace os ss k).log chip after → Holds c after
+    beside_holds k os ss b p = holds_on c (trace os ss k).log refl (tracks_aside c.shadow c (recall 27) k os ss b (recall_tracks small marks bytes)) p

@@ -137,12 +137,12 @@ module _ (os : List ℕ) where
     now = Tried (get_or bs i 0) true
 
     -- chunks one after the other
-    chunks-last : (ks : List Chunk) → every within ks ≡ true → (t : Trace) → t.chip.address ≡ address
+    chunks_last : (ks : List Chunk) → every within ks ≡ true → (t : Trace) → t.chip.address ≡ address
         → (run in_list os (map (chunk_step bs) ks) t).progress ≡ Going
         → last_in address (run in_list os (map (chunk_step bs) ks) t).log (5 + i) ≡ cond (covers ks i) now (last_in address t.log (5 + i))
     unfolding run every covers attempted_by
-    chunks-last [] w t a g = refl
-    chunks-last (k ∷ ks) w t a g =
+    chunks_last [] w t a g = refl
+    chunks_last (k ∷ ks) w t a g =
         let s : Step = chunk_step bs k in
         let next : Trace = step in_list os s t in
         let still : next.progress ≡ Going = going_before os (map (chunk_step bs) ks) next g in
@@ -153,15 +153,15 @@ module _ (os : List ℕ) where
         ∙ last_snoc (tuner_at address) t.log (emit s t.chip true) (5 + i)
         ∙ ap (λ (j : ℕ). last_by address (written j (k.size + 1) (chunk_bytes bs k.at k.size) true) (5 + i) (last_in address t.log (5 + i))) a
         ∙ chunk_last address bs long k (and_left (within k) (every within ks) w) i (last_in address t.log (5 + i)) in
-        chunks-last ks (and_right (within k) (every within ks) w) next same g
+        chunks_last ks (and_right (within k) (every within ks) w) next same g
         ∙ ap (cond (covers ks i) now) one
         ∙ pick_pick (in_chunk k i) (covers ks i) now (last_in address t.log (5 + i))
 
     -- a part of the table behind its repeater
-    tuner-last : (from to : ℕ) (t : Trace) → t.chip.address ≡ address → (run in_list os (tuner_write bs from to) t).progress ≡ Going
+    tuner_last : (from to : ℕ) (t : Trace) → t.chip.address ≡ address → (run in_list os (tuner_write bs from to) t).progress ≡ Going
         → last_in address (run in_list os (tuner_write bs from to) t).log (5 + i)
         ≡ cond (covers (drop from (take to chunk_table)) i) now (last_in address t.log (5 + i))
-    tuner-last from to t a g =
+    tuner_last from to t a g =
         let ks : List Chunk = drop from (take to chunk_table) in
         let ss : List Step = map (chunk_step bs) ks in
         let opened : Trace = step in_list os Open t in
@@ -171,7 +171,7 @@ module _ (os : List ℕ) where
         let progress : sent.progress ≡ Going = sym (close_progress in_list os sent) ∙ sym (ap (λ (u : Trace). u.progress) whole) ∙ g in
         ap (λ (u : Trace). last_in address u.log (5 + i)) whole
         ∙ quiet address Close sent (5 + i) (λ ok. other_kind address (emit Close sent.chip ok) (5 + i) refl)
-        ∙ chunks-last ks (table_part from to) opened same progress
+        ∙ chunks_last ks (table_part from to) opened same progress
         ∙ ap (cond (covers ks i) now) (quiet address Open t (5 + i) (λ ok. other_kind address (emit Open t.chip ok) (5 + i) refl))
 
 -- every register's last attempt in a reload that was done
@@ -185,9 +185,9 @@ reload_last os c bs long g i h =
     let progress : (run in_list os (tuner_write bs 3 5) mid).progress ≡ Going = sym (ap (λ (u : Trace). u.progress) whole) ∙ g in
     let same : mid.chip.address ≡ c.address = run_address in_list os (tuner_write bs 0 3) start in
     let first : last_in c.address mid.log (5 + i) ≡ cond (covers (drop 0 (take 3 chunk_table)) i) (Tried (get_or bs i 0) true) Never =
-    tuner-last os c.address bs long i 0 3 start refl (going_before os (tuner_write bs 3 5) mid progress) in
+    tuner_last os c.address bs long i 0 3 start refl (going_before os (tuner_write bs 3 5) mid progress) in
     ap (λ (u : Trace). last_in c.address u.log (5 + i)) whole
-    ∙ tuner-last os c.address bs long i 3 5 mid same progress
+    ∙ tuner_last os c.address bs long i 3 5 mid same progress
     ∙ ap (cond (covers (drop 3 (take 5 chunk_table)) i) (Tried (get_or bs i 0) true)) first
     ∙ pick_pick (covers (drop 0 (take 3 chunk_table)) i) (covers (drop 3 (take 5 chunk_table)) i) (Tried (get_or bs i 0) true) Never
     ∙ ap (λ (b : Bool). cond b (Tried (get_or bs i 0) true) Never) (all_covered i h)

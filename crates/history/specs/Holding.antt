@@ -1,5 +1,5 @@
 -- A record that holds of a chip, however both came about. Demand 3: "doubtful are exactly those never attempted or last attempted in vain", and "at each call's end
--- a register whose last attempt was done holds the byte sent". At the end of a sequence from a fresh record that is proved (proofs/Demand.antt, `sure-holds`); here it is
+-- a register whose last attempt was done holds the byte sent". At the end of a sequence from a fresh record that is proved (proofs/Demand.antt, `sure_holds`); here it is
 -- what is given, so of a spare chip after a restore list too.
 -- Assumes nothing.
 use Rattle.std.specs.Prelude.{ℕ, ◌+◌, ◌<◌, ◌≡◌, true, false, get_or}

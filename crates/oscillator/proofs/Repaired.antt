@@ -59,31 +59,31 @@ module _ (kind : Kind) (lo r : ℕ) (p : Plan) (is : plan_of kind lo r ≡ Plann
     same_vco : vco_in r unrepaired ≡ vco_in r reg
     same_vco = refl
 
-    at-lo : number ≡ p.number → Within lo r reg
-    at-lo e =
+    at_lo : number ≡ p.number → Within lo r reg
+    at_lo e =
         let m : lo * divider_in unrepaired ≡ lo * divider_in reg = ap (λ (x : ℕ). lo * x) (asked ∙ ap (λ (x : ℕ). 2 ^ suc x) (sym e) ∙ sym stands) in
         record { below = omega (arith, at_first.below, m, same_vco); above = omega (arith, at_first.above, m, same_vco) }
 
-    at-twice : p.number ≡ suc number → Within (2 * lo) r reg
-    at-twice e =
+    at_twice : p.number ≡ suc number → Within (2 * lo) r reg
+    at_twice e =
         let up : divider_in unrepaired ≡ 2 * divider_in reg =
         asked ∙ ap (λ (x : ℕ). 2 ^ suc x) e ∙ pow-succ' 2 (suc number) ∙ ap (λ (x : ℕ). 2 * x) (sym stands) in
         let m : lo * divider_in unrepaired ≡ lo * (2 * divider_in reg) = ap (λ (x : ℕ). lo * x) up in
         record { below = omega (arith, at_first.below, m, same_vco); above = omega (arith, at_first.above, m, same_vco) }
 
-    at-half : number ≡ suc p.number → AtHalf lo r reg
-    at-half e =
+    at_half : number ≡ suc p.number → AtHalf lo r reg
+    at_half e =
         let down : divider_in reg ≡ 2 * divider_in unrepaired =
         stands ∙ ap (λ (x : ℕ). 2 ^ suc x) e ∙ pow-succ' 2 (suc p.number) ∙ ap (λ (x : ℕ). 2 * x) (sym asked) in
         let m : lo * divider_in reg ≡ lo * (2 * divider_in unrepaired) = ap (λ (x : ℕ). lo * x) down in
         record { below = omega (arith, at_first.below, m, same_vco); above = omega (arith, at_first.above, m, same_vco) }
 
-    pub by-status : (power fine : ℕ) → (fine ≡ power → number ≡ p.number) → (power < fine → number ≡ p.number - 1) → (fine < power → number ≡ p.number + 1)
+    pub by_status : (power fine : ℕ) → (fine ≡ power → number ≡ p.number) → (power < fine → number ≡ p.number - 1) → (fine < power → number ≡ p.number + 1)
         → ByStatus power fine lo r reg
-    by-status power fine same less more =
+    by_status power fine same less more =
         record {
-          right = λ e. at-lo (same e);
-          twice = λ l h. at-twice (omega (arith, less l, not_the_first h));
-          least = λ l h. at-lo (omega (arith, less l, first_of_all h));
-          half = λ l. at-half (omega (arith, more l));
+          right = λ e. at_lo (same e);
+          twice = λ l h. at_twice (omega (arith, less l, not_the_first h));
+          least = λ l h. at_lo (omega (arith, less l, first_of_all h));
+          half = λ l. at_half (omega (arith, more l));
         }

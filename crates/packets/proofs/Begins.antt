@@ -204,38 +204,38 @@ module _ (b : List ℕ) (h : packets_stand b ≡ true) where
   data_long = length-take-le sent (drop 8 b) (omega (arith, length-drop 8 b, (standing b h).room))
 
   module _ (bytes : Bytes b) where
-    setup-begins : setup (entry_in b) ≡ take 8 b
+    setup_begins : setup (entry_in b) ≡ take 8 b
     unfolding entry_in setup w_value_of w_index_of
-    setup-begins = sym (setup_back e) ∙ ap (le_bytes 8) (standing b h).same ∙ one_number 8 0 b bytes (omega (arith, (standing b h).long))
+    setup_begins = sym (setup_back e) ∙ ap (le_bytes 8) (standing b h).same ∙ one_number 8 0 b bytes (omega (arith, (standing b h).long))
 
-    data-begins : take sent (entry_in b).bytes ≡ take sent (drop 8 b)
+    data_begins : take sent (entry_in b).bytes ≡ take sent (drop 8 b)
     unfolding entry_in
-    data-begins =
+    data_begins =
         ap (take sent) (laid_zeros (take sent (drop 8 b)) (omega (arith, data_long, few)))
         ∙ take_at (take sent (drop 8 b)) (drop (length (take sent (drop 8 b))) zeros8) sent data_long
 
-    read-begins : followed (entry_in b) ≡ take behind rest
+    read_begins : followed (entry_in b) ≡ take behind rest
     unfolding entry_in
-    read-begins = follows (is_demod e.kind) (sync_in rest) rest refl (bytes_drop (8 + sent) b bytes)
+    read_begins = follows (is_demod e.kind) (sync_in rest) rest refl (bytes_drop (8 + sent) b bytes)
 
     begun : packets (entry_in b) ≡ take (length (packets (entry_in b))) b
     unfolding packets entry_in
     begun =
-        ap₂ ◌++◌ setup-begins (ap₂ ◌++◌ data-begins read-begins)
+        ap₂ ◌++◌ setup_begins (ap₂ ◌++◌ data_begins read_begins)
         ∙ sym (append_assoc (take 8 b) (take sent (drop 8 b)) (take behind rest))
         ∙ ap (λ (l : List ℕ). l ++ take behind rest) (sym (take-add 8 sent b))
         ∙ sym (take-add (8 + sent) behind b)
         ∙ ap (λ (k : ℕ). take k b) (sym size_is)
 
     -- the bytes are the entry's packets and what follows them
-    pub unit-begins : packets (entry_in b) ++ drop (length (packets (entry_in b))) b ≡ b
-    unit-begins =
+    pub unit_begins : packets (entry_in b) ++ drop (length (packets (entry_in b))) b ≡ b
+    unit_begins =
         ap (λ (l : List ℕ). l ++ drop (length (packets (entry_in b))) b) begun ∙ take-append-drop (length (packets (entry_in b))) b
 
     -- and the entry fits the table
-    pub entry-fits : entry_fits (entry_in b) ≡ true
+    pub entry_fits_lem : entry_fits (entry_in b) ≡ true
     unfolding entry_fits entry_in
-    entry-fits =
+    entry_fits_lem =
         let f = named_fine (word b) in
         let k = named_kind (word b) in
         let o : ℕ = cond (is_demod e.kind && not (sync_in rest)) 1 0 in

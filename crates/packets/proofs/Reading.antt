@@ -138,21 +138,21 @@ module _ (b : List ℕ) where
         → in_table (named (word b)).kind (named (word b)).n && eqb (le_value (setup (named (word b)))) (word b) ≡ t
     tested t x v p q h = rw (same, ← p, ← q, ← words) h
 
-    sent-same : sent ≡ k
-    sent-same = ap (λ (u : Entry). sent_by u.kind u.n) same ∙ sym sends
+    sent_same : sent ≡ k
+    sent_same = ap (λ (u : Entry). sent_by u.kind u.n) same ∙ sym sends
 
-    pub heard-other : (x : Bool) (v : ℕ) → x ≡ in_table e.kind e.n → v ≡ le_value (setup e) → x && eqb v w ≡ false → nothing ≡ heard_in b
+    pub heard_other : (x : Bool) (v : ℕ) → x ≡ in_table e.kind e.n → v ≡ le_value (setup e) → x && eqb v w ≡ false → nothing ≡ heard_in b
     unfolding heard_in packets_stand
-    heard-other x v p q h = rw (tested false x v p q h, and-false)
+    heard_other x v p q h = rw (tested false x v p q h, and-false)
 
-    pub heard-cut : length b < 8 + k → nothing ≡ heard_in b
+    pub heard_cut : length b < 8 + k → nothing ≡ heard_in b
     unfolding heard_in packets_stand
-    heard-cut h = rw (lt-leb (8 + sent) (length b) (omega (arith, sent-same)), and-false)
+    heard_cut h = rw (lt-leb (8 + sent) (length b) (omega (arith, sent_same)), and-false)
 
-    pub heard-told : (x : Bool) (v : ℕ) → x ≡ in_table e.kind e.n → v ≡ le_value (setup e) → x && eqb v w ≡ true → 8 ≤ length b → 8 + k ≤ length b
+    pub heard_told : (x : Bool) (v : ℕ) → x ≡ in_table e.kind e.n → v ≡ le_value (setup e) → x && eqb v w ≡ true → 8 ≤ length b → 8 + k ≤ length b
         → heard_with e k b ≡ heard_in b
-    heard-told x v p q h l r =
-        ap₂ (λ (u : Entry) (i : ℕ). heard_with u i b) (sym same) (sym sent-same) ∙ whole l (tested true x v p q h) (omega (arith, sent-same))
+    heard_told x v p q h l r =
+        ap₂ (λ (u : Entry) (i : ℕ). heard_with u i b) (sym same) (sym sent_same) ∙ whole l (tested true x v p q h) (omega (arith, sent_same))
 
     pub few : (x : Bool) (v : ℕ) → x ≡ in_table e.kind e.n → x && eqb v w ≡ true → k ≤ 8
     few x v p h = omega (arith, table_most e.kind e.n (sym p ∙ (both x (eqb v w) h).0), sent_most e.kind e.n, sends)

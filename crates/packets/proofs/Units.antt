@@ -291,9 +291,9 @@ module _ (e : Entry) (fit : entry_fits e ≡ true) (low : 2 ≤ e.kind) (high : 
     unfolding sync_in
     no_stray = rw (worded, ne_eqb (le_value (setup e)) (le_value sync) (λ same. told_of.other (ap le_value setup_same ∙ same)), and-false)
 
-    pub unit-stands : packets_stand all ≡ true
+    pub unit_stands : packets_stand all ≡ true
     unfolding packets_stand in_table
-    unit-stands =
+    unit_stands =
         let c = columns e fit in
         rw (
           names,
@@ -304,9 +304,9 @@ module _ (e : Entry) (fit : entry_fits e ≡ true) (low : 2 ≤ e.kind) (high : 
           le-leb (8 + sent) (length all) long,
         )
 
-    pub unit-read : sync_in r ≡ false → entry_in all ≡ core e
+    pub unit_read : sync_in r ≡ false → entry_in all ≡ core e
     unfolding entry_in
-    unit-read clean =
+    unit_read clean =
         rw (
           names,
           last,

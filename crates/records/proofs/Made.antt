@@ -53,9 +53,9 @@ module _ (b : List ℕ) where
     unfolding tuner_of is_tuner made_of
     no_length h = rw (made, ne_eqb (length b) 78 h)
 
-    pub no-fit : (f : Bool) → length b ≡ 78 → f ≡ tuner_fits (parts_from 0 tuner_widths b) → f ≡ false → tuner_read false m.tuner ≡ tuner_of b
+    pub no_fit : (f : Bool) → length b ≡ 78 → f ≡ tuner_fits (parts_from 0 tuner_widths b) → f ≡ false → tuner_read false m.tuner ≡ tuner_of b
     unfolding tuner_of is_tuner made_of
-    no-fit f h e never = rw (made, eq-eqb (length b) 78 h, ← e, never)
+    no_fit f h e never = rw (made, eq-eqb (length b) 78 h, ← e, never)
 
   pub whole : (f : Bool) (t : Tuner) → length b ≡ 78 → f ≡ tuner_fits (parts_from 0 tuner_widths b) → f ≡ true → t ≡ tuner_from (parts_from 0 tuner_widths b)
       → tuner_read true t ≡ tuner_of b

@@ -134,10 +134,10 @@ pub sent_some : (rate xtal : ℕ) → rate_number rate xtal ≡ 0 → 0 < sent_o
 sent_some rate xtal e =
     let least : 4 ≤ ratio_of rate xtal = (held (ratio_of rate xtal) (taken rate xtal e).ratio).least in
     let is : sent_of (ratio_of rate xtal) ≡ ratio_of rate xtal / 4 * 4 = sent_taken rate xtal e in
-    above-none (sent_of (ratio_of rate xtal)) (ratio_of rate xtal) is least
+    above_none (sent_of (ratio_of rate xtal)) (ratio_of rate xtal) is least
   where
-    above-none : (s r : ℕ) → s ≡ r / 4 * 4 → 4 ≤ r → 0 < s
-    above-none s r e h = omega (arith, e, h)
+    above_none : (s r : ℕ) → s ≡ r / 4 * 4 → 4 ≤ r → 0 < s
+    above_none s r e h = omega (arith, e, h)
 
 -- "The true rate must be shown to be at least the rate asked wherever #103 accepts"
 pub true_least : (rate xtal : ℕ) → rate_number rate xtal ≡ 0 → rate ≤ true_of rate xtal

@@ -13,7 +13,7 @@ use Rattle.transcript.specs.declared.Entry.{Entry}
 use Rattle.attempts.specs.Attempts.{Last, Played, Regs, byte_in, done, doubt_in, last_by, last_from, last_in, names, sent_to, tuner_at}
 use Rattle.attempts.specs.Namings as any
 use Rattle.attempts.specs.Namings.Last.{Never, Tried}
-use Rattle.attempts.proofs.Played.{last_done, last-never}
+use Rattle.attempts.proofs.Played.{last_done, last_never}
 use Rattle.attempts.proofs.Doubt.{sure_byte}
 use Rattle.restore.specs.Restore.{Run, held_in, in_run, list_of, runs, slot, sure_in, times, runs_with, write_of}
 use Rattle.restore.proofs.Runs.{doubt_none, few, at_doubt, of_run, sure_one}
@@ -150,7 +150,7 @@ module _ (address : ℕ) (es : List Entry) where
 
     -- "and the others as they were"
     pub untouched : (r : ℕ) → sure_in address es r ≡ false → after r ≡ before r
-    untouched r d = last-never (tuner_at address) (list_of address es) before after then r (unsaid r d)
+    untouched r d = last_never (tuner_at address) (list_of address es) before after then r (unsaid r d)
 
   -- "it never needs more than 14 writes": 27 registers, and between two runs a register that is not sure or a run of seven
   pub most : length (list_of address es) ≤ 14

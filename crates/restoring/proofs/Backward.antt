@@ -72,11 +72,11 @@ module _ (s p : List ℕ) (end : ℕ) (is : p ≡ take (end - 0) s) (some : 0 < 
     front : take (start_of p) p ≡ take start s
     front = ap₂ (λ (k : ℕ) (l : List ℕ). take k l) (sym start_is) whole ∙ take-take start end s (omega (arith, lower))
 
-    pub chain-on : chain (take start s) ≡ chain (take end s)
-    chain-on = sym (ap chain (sym whole) ∙ chain_step p (omega (arith, long)) ∙ rw (good, front))
+    pub chain_on : chain (take start s) ≡ chain (take end s)
+    chain_on = sym (ap chain (sym whole) ∙ chain_step p (omega (arith, long)) ∙ rw (good, front))
 
-    entries-on : chain_entries (take end s) ≡ chain_entries (take start s) ++ entries_in count (drop start p)
-    entries-on =
+    entries_on : chain_entries (take end s) ≡ chain_entries (take start s) ++ entries_in count (drop start p)
+    entries_on =
         ap chain_entries (sym whole)
         ∙ entries_step p (omega (arith, long))
         ∙ ap₂ (λ (l : List ℕ) (es : List Entry). chain_entries l ++ es) front (handed p good ∙ ap₂ (λ (k i : ℕ). entries_in k (drop i p)) (sym count_is) (sym start_is))
@@ -87,11 +87,11 @@ module _ (s p : List ℕ) (end : ℕ) (is : p ≡ take (end - 0) s) (some : 0 < 
     turned all l next both was =
         ap (all (chain_entries (take start s))) was
         ∙ both (chain_entries (take start s)) (entries_in count (drop start p)) l
-        ∙ ap (λ (es : List Entry). all es l) (sym entries-on)
+        ∙ ap (λ (es : List Entry). all es l) (sym entries_on)
 
-    pub told-on : (address : ℕ) (l next : List Known) → next ≡ over (known_in address (entries_in count (drop start p))) 0 l
+    pub told_on : (address : ℕ) (l next : List Known) → next ≡ over (known_in address (entries_in count (drop start p))) 0 l
         → over (known_in address (chain_entries (take start s))) 0 next ≡ over (known_in address (chain_entries (take end s))) 0 l
-    told-on address l next was = turned (λ es. over (known_in address es) 0) l next (over_both_lem address) was
+    told_on address l next was = turned (λ es. over (known_in address es) 0) l next (over_both_lem address) was
 
 -- the start of the slice
 module _ (s : List ℕ) (end : ℕ) (none_left : end ≡ 0) (same : chain (take end s) ≡ chain s) where

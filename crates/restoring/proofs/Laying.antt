@@ -173,8 +173,8 @@ module _ (sure : ℕ → Bool) where
         go false t first second = at_doubt sure n i t ∙ second ∙ sym (at_doubt sure m i t)
 
     -- the first of the runs that are left
-    pub one-run : (i m j : ℕ) → i < 32 → sure i ≡ true → m ≡ run_len sure 7 i → j ≡ next_sure sure (32 - (i + m)) (i + m) → left sure i ≡ run_of i m ∷ left sure j
-    one-run i m j h t size next =
+    pub one_run : (i m j : ℕ) → i < 32 → sure i ≡ true → m ≡ run_len sure 7 i → j ≡ next_sure sure (32 - (i + m)) (i + m) → left sure i ≡ run_of i m ∷ left sure j
+    one_run i m j h t size next =
         let more : 32 - i ≡ suc (31 - i) = omega arith in
         let some = run_some sure 6 i t in
         ap (λ (k : ℕ). runs sure k i) more
@@ -182,8 +182,8 @@ module _ (sure : ℕ → Bool) where
         ∙ ap (λ (k : ℕ). run_of i k ∷ runs sure (31 - i) (i + k)) (sym size)
         ∙ ap (λ (ws : List Run). run_of i m ∷ ws) (enough (31 - i) (32 - (i + m)) (i + m) (omega arith) (omega arith) ∙ sym (skipped (i + m) j next))
 
-    pub run-size : (i m : ℕ) → sure i ≡ true → m ≡ run_len sure 7 i → (0 < m) × (m ≤ 7)
-    run-size i m t size = (omega (arith, run_some sure 6 i t), omega (arith, run_most sure 7 i))
+    pub run_size : (i m : ℕ) → sure i ≡ true → m ≡ run_len sure 7 i → (0 < m) × (m ≤ 7)
+    run_size i m t size = (omega (arith, run_some sure 6 i t), omega (arith, run_most sure 7 i))
 
 -- ---- their writes in a room
 

@@ -51,12 +51,12 @@ module _ (ms bs : List ℕ) (r mark byte : ℕ) where
         ∙ ap₂ (λ (t u : Known). set (known_all ms bs) r (newer t u)) (told_at ms bs r same) said
 
     -- what is told already stays
-    pub told-before : 0 < get_or ms r 0 → known_all ms bs ≡ over (only r (known_as mark byte)) 0 (known_all ms bs)
-    told-before some =
+    pub told_before : 0 < get_or ms r 0 → known_all ms bs ≡ over (only r (known_as mark byte)) 0 (known_all ms bs)
+    told_before some =
         sym (here ∙ ap (set (known_all ms bs) r) (stays (known_as (get_or ms r 0) (get_or bs r 0)) (known_as mark byte) some ∙ sym (told_at ms bs r same)) ∙ set-get_or (known_all ms bs) r none)
 
-    pub told-now : get_or ms r 0 ≡ 0 → 0 < mark → known_all (set ms r mark) (set bs r byte) ≡ over (only r (known_as mark byte)) 0 (known_all ms bs)
-    told-now h some =
+    pub told_now : get_or ms r 0 ≡ 0 → 0 < mark → known_all (set ms r mark) (set bs r byte) ≡ over (only r (known_as mark byte)) 0 (known_all ms bs)
+    told_now h some =
         sym (here ∙ ap (set (known_all ms bs) r) (fresh (known_as (get_or ms r 0) (get_or bs r 0)) (known_as mark byte) h some) ∙ told_set ms bs r mark byte same)
 
 -- ---- one entry

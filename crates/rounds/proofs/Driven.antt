@@ -241,11 +241,11 @@ module _ (a : Ask) where
         (subst (λ (j : ℕ). Agree a (length os) j s u) (sym (ap took told-s.entries ∙ told-s.replies)) (agreed a os rs s u known k))
 
     -- one round more
-    told-round : (e : Entry) → step_at (length os) (made a s) ≡ e ∷ [] → (o : ℕ) (bs : List ℕ) → length bs ≡ cond (is_read e.kind && eqb o 0) e.n 0
+    told_round : (e : Entry) → step_at (length os) (made a s) ≡ e ∷ [] → (o : ℕ) (bs : List ℕ) → length bs ≡ cond (is_read e.kind && eqb o 0) e.n 0
         → every is_byte bs ≡ true → (u : Script) → Knows a (os ++ (o ∷ [])) (rs ++ bs) u → Continued a os rs es u
         → Continued a (os ++ (o ∷ [])) (rs ++ bs) (es ++ (ended e o bs ∷ [])) u
     unfolding took
-    told-round e here o bs b small u k told-u =
+    told_round e here o bs b small u k told-u =
         let i : ℕ = length os in
         let p : List Entry = take i (made a u) in
         let at : At i (made a u) e = at_step i (made a u) e (sym (known_alike u (known_before a os rs o bs u k)).here ∙ here) in
@@ -283,7 +283,7 @@ module _ (a : Ask) where
   unfolding took
   told os rs es begun u k = record { entries = refl; replies = refl }
   told xs ys zs (round os rs es r s known e here o bs b small) u k =
-      told-round os rs es s known (told os rs es r s known) e here o bs b small u k (told os rs es r u (known_before a os rs o bs u k))
+      told_round os rs es s known (told os rs es r s known) e here o bs b small u k (told os rs es r u (known_before a os rs o bs u k))
 
   -- so whatever stands after it, the entries so far are those of the call with the whole script, and so is the step to take next
   pub known_suffices : (os rs : List ℕ) (es : List Entry) → Rounds a os rs es → (s u : Script) → Knows a os rs s → Knows a os rs u
@@ -364,8 +364,8 @@ module _ (address : ℕ) where
       (now, lands_vain x now now (v x 0 (omega arith)) (λ r t. refl), played_vain xs now (λ d j l. v d (suc j) (omega (arith, l))))
 
   module _ (a : Ask) (os rs : List ℕ) (es : List Entry) (known : Rounds a os rs es) (s : Script) (kept : Kept a os rs s) where
-    vain-later : Vains (drop (length os) (made a s))
-    vain-later d j l =
+    vain_later : Vains (drop (length os) (made a s))
+    vain_later d j l =
         let at : ℕ = length os + j in
         let h : at < length (made a s) = omega (arith, length-drop (length os) (made a s), l) in
         subst Vain (sym (get_or-drop (length os) (made a s) j d))
@@ -383,7 +383,7 @@ module _ (address : ℕ) where
         rest : (xs : List Entry) → drop (length os) (made a s) ≡ xs → Played address xs mid now
         rest [] q = subst (λ (l : List Entry). Touched address (map bare (take 1 l)) mid now) q t
         rest (x ∷ xs) q =
-            let v : Vains (x ∷ xs) = subst Vains q vain-later in (
+            let v : Vains (x ∷ xs) = subst Vains q vain_later in (
               now,
               lands_vain x mid now (v x 0 (omega arith)) (subst (λ (l : List Entry). Touched address (map bare (take 1 l)) mid now) q t),
               played_vain xs now (λ d j l. v d (suc j) (omega (arith, l))),

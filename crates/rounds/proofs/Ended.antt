@@ -82,12 +82,12 @@ module _ (os us : List ℕ) (i k : ℕ) (agree : take i os ≡ take i us) where
 
   -- two reads that are the same but for their data
   module _ (d e : Entry) (r : is_read d.kind ≡ true) (b : bare d ≡ bare e) (ss ts : List Step) (q : shuts ss ≡ shuts ts) (t : Trace) (n : t.count ≡ length t.log) where
-    read-ends : (at : ℕ) → at ≤ took t.log → (at + d.n ≤ k → d ≡ e)
+    read_ends : (at : ℕ) → at ≤ took t.log → (at + d.n ≤ k → d ≡ e)
         → (at + d.n ≤ k → (v : Trace) → v.count ≡ length v.log → at + d.n ≤ took v.log → length (run in_list os ss v).log ≤ i
         → took (run in_list os ss v).log ≤ k → run in_list os ss v ≡ run in_list us ts v)
         → length (run in_list os ss (step in_list os (Plain d) t)).log ≤ i → took (run in_list os ss (step in_list os (Plain d) t)).log ≤ k
         → run in_list os ss (step in_list os (Plain d) t) ≡ run in_list us ts (step in_list us (Plain e) t)
-    read-ends at m one rest h j = go (goes t.progress) refl (ok_for os t.count (Plain d)) refl
+    read_ends at m one rest h j = go (goes t.progress) refl (ok_for os t.count (Plain d)) refl
       where
         here : goes t.progress ≡ true → (ok : Bool) → ok_for os t.count (Plain d) ≡ ok → taken in_list os ok (Plain d) t ≡ step in_list os (Plain d) t
         here a ok o = ap (λ (c : Bool). taken in_list os c (Plain d) t) (sym o) ∙ active in_list os (Plain d) t a
@@ -150,7 +150,7 @@ module _ (os us : List ℕ) (i k : ℕ) (agree : take i os ≡ take i us) where
   unfolding run
   ends_run none t n m h j = refl
   ends_run (same {ss = ss} {ts = ts} s x a) t n m h j = same_ends s ss ts t n (λ v c l f g. ends_run a v c (omega arith) f g) h j
-  ends_run (read {at = at} {ss = ss} {ts = ts} d e r b x q f a) t n m h j = read-ends d e r b ss ts q t n at m f (λ l v c p y z. ends_run (a l) v c p y z) h j
+  ends_run (read {at = at} {ss = ss} {ts = ts} d e r b x q f a) t n m h j = read_ends d e r b ss ts q t n at m f (λ l v c p y z. ends_run (a l) v c p y z) h j
 
   -- the whole traces are the same
   ends_trace : {qs : List ℕ} {ss ts : List Step} → Alike k qs 0 ss ts → (c : Chip) → length (trace os ss c).log ≤ i → took (trace os ss c).log ≤ k → trace os ss c ≡ trace us ts c
@@ -160,17 +160,17 @@ module _ (os us : List ℕ) (i k : ℕ) (agree : take i os ≡ take i us) where
   -- ---- a row
 
   module _ (R : Type 0) (c : Chip) (old : R) (room wide : List ℕ) where
-    same-performed : (whole : Answer) (keep : Trace → R) (t u : Trace) → t ≡ u → Ends (performed whole keep room t) (performed whole keep wide u)
-    same-performed whole keep t u e = subst (λ (v : Trace). Ends (performed whole keep room t) (performed whole keep wide v)) e (record { next = refl; answer = refl; count = refl })
+    same_performed : (whole : Answer) (keep : Trace → R) (t u : Trace) → t ≡ u → Ends (performed whole keep room t) (performed whole keep wide u)
+    same_performed whole keep t u e = subst (λ (v : Trace). Ends (performed whole keep room t) (performed whole keep wide v)) e (record { next = refl; answer = refl; count = refl })
 
-    pub rows-ended : (all others : List ℕ) (row other : Course R) → Kin k all others R row other → (s : Bool)
+    pub rows_ended : (all others : List ℕ) (row other : Course R) → Kin k all others R row other → (s : Bool)
         → (asked_by s row (length os) (length room)).number ≡ 0 → (asked_by s other (length us) (length wide)).number ≡ 0
         → length (entries_by (asked_by s row (length os) (length room)) os c) ≤ i → took (entries_by (asked_by s row (length os) (length room)) os c) ≤ k
         → Ends (left_by s row os c old room) (left_by s other us c old wide)
     unfolding left_by
-    rows-ended all others row other (still next answer) true p q h j = record { next = refl; answer = refl; count = refl }
-    rows-ended all others row other (still next answer) false p q h j = record { next = refl; answer = refl; count = refl }
-    rows-ended all others row other (moved argument n m qs ps whole ss ts keep l a) s p q h j =
+    rows_ended all others row other (still next answer) true p q h j = record { next = refl; answer = refl; count = refl }
+    rows_ended all others row other (still next answer) false p q h j = record { next = refl; answer = refl; count = refl }
+    rows_ended all others row other (moved argument n m qs ps whole ss ts keep l a) s p q h j =
         let z : ℕ = refusal_with s argument n m (length room) (length os) (length qs) in
         let w : ℕ = refusal_with s argument n m (length wide) (length us) (length ps) in
         let log : call_entries z os ss c ≡ (trace os ss c).log = ap (λ (x : ℕ). call_entries x os ss c) p in
@@ -178,7 +178,7 @@ module _ (os us : List ℕ) (i k : ℕ) (agree : take i os ≡ take i us) where
         ends_trace a c (subst (λ (es : List Entry). length es ≤ i) log h) (subst (λ (es : List Entry). took es ≤ k) log j) in
         subst (λ (x : Called R). Ends x (call_of w whole us ts c keep old wide)) (sym (progress_on z whole os ss c keep old room p))
         (subst (λ (y : Called R). Ends (performed whole keep room (trace os ss c)) y) (sym (progress_on w whole us ts c keep old wide q))
-        (same-performed whole keep (trace os ss c) (trace us ts c) same))
+        (same_performed whole keep (trace os ss c) (trace us ts c) same))
 
 -- ---- every call
 
@@ -209,7 +209,7 @@ module _ (os rs : List ℕ) (es : List Entry) (s u : Script) where
       subst (λ (z : Called Tuner). Ends z (result (call y u.outcomes u.room) t)) (sym (result_row t s.outcomes s.room x))
       (subst (λ (z : Called Tuner). Ends (left_by (sound_for x t) (row_of x t) s.outcomes t.chip t s.room) z)
       (ap (λ (b : Bool). left_by b (row_of y t) u.outcomes t.chip t u.room) good ∙ sym (result_row t u.outcomes u.room y))
-      (rows-ended s.outcomes u.outcomes (length os) (length rs) (outcomes (On o t) r k l h) Tuner t.chip t s.room u.room s.replies u.replies
+      (rows_ended s.outcomes u.outcomes (length os) (length rs) (outcomes (On o t) r k l h) Tuner t.chip t s.room u.room s.replies u.replies
       (row_of x t) (row_of y t) (order_kin (length rs) s.replies u.replies (replies (On o t) r k l h) o t) (sound_for x t) k.taken refused
       (taken_all (On o t) os s h) (read_all (On o t) r k l h)))
 
@@ -221,7 +221,7 @@ module _ (os rs : List ℕ) (es : List Entry) (s u : Script) where
   ended_rate rate table d t r k l h =
       let a : Ask = On (SampleRate rate table d) t in
       let row = rate_row rate (plan_by table d.frequency) t d in
-      rows-ended s.outcomes u.outcomes (length os) (length rs) (outcomes a r k l h) Both t.chip (both t d) s.room u.room s.replies u.replies row row
+      rows_ended s.outcomes u.outcomes (length os) (length rs) (outcomes a r k l h) Both t.chip (both t d) s.room u.room s.replies u.replies row row
       (kin_refl (length rs) s.replies u.replies Both row (mute_rate (if_for t.ifreq rate) rate (xtal_of d) (plan_by table d.frequency).plan.inverted))
       (sound t && sound_driver d) k.taken l.taken (taken_all a os s h) (read_all a r k l h)
 
@@ -232,7 +232,7 @@ module _ (os rs : List ℕ) (es : List Entry) (s u : Script) where
   ended_hop hz table own d t r k l h =
       let a : Ask = On (BoardTune hz table own d) t in
       let at = plan_by table hz in
-      rows-ended s.outcomes u.outcomes (length os) (length rs) (outcomes a r k l h) Both t.chip (both t d) s.room u.room s.replies u.replies
+      rows_ended s.outcomes u.outcomes (length os) (length rs) (outcomes a r k l h) Both t.chip (both t d) s.room u.room s.replies u.replies
       (hop_row at hz s.replies t d) (hop_row at hz u.replies t d)
       (moved _ _ _ s.replies u.replies _ _ _ _ (λ n. n)
       (hop_alike (length rs) s.replies u.replies (replies a r k l h) t.kind t.chip.address at.plan (plan_for t at.plan.hz)))
@@ -242,6 +242,6 @@ module _ (os rs : List ℕ) (es : List Entry) (s u : Script) where
       → Ends (aside_result (aside (other_with s.replies o) s.outcomes s.room)) (aside_result (aside (other_with u.replies o) u.outcomes u.room))
   unfolding free_result
   ended_beside o r k l h =
-      rows-ended s.outcomes u.outcomes (length os) (length rs) (outcomes (Beside o) r k l h) (Unit {0}) no_chip tt s.room u.room s.replies u.replies
+      rows_ended s.outcomes u.outcomes (length os) (length rs) (outcomes (Beside o) r k l h) (Unit {0}) no_chip tt s.room u.room s.replies u.replies
       (aside_row (other_with s.replies o)) (aside_row (other_with u.replies o)) (other_kin (length rs) s.replies u.replies (replies (Beside o) r k l h) o) true
       k.taken l.taken (taken_all (Beside o) os s h) (read_all (Beside o) r k l h)

@@ -62,8 +62,8 @@ module _ (qs : List ℕ) where
 
   module _ (os : List ℕ) (k : ℕ) where
     -- after a failed step
-    order-stopped : (ss : List Step) (t : Trace) → goes t.progress ≡ false → InOrder qs 0 t.log → InOrder qs 0 (run in_list os ss t).log
-    order-stopped ss t g o = subst (InOrder qs 0) (sym (stopped_log os ss t g)) (go (t.opened && shuts ss))
+    order_stopped : (ss : List Step) (t : Trace) → goes t.progress ≡ false → InOrder qs 0 t.log → InOrder qs 0 (run in_list os ss t).log
+    order_stopped ss t g o = subst (InOrder qs 0) (sym (stopped_log os ss t g)) (go (t.opened && shuts ss))
       where
         go : (b : Bool) → InOrder qs 0 (t.log ++ cond b (shutting os t) [])
         go true = order_past t.log (repeater 0 (ok_for os t.count Close)) o refl
@@ -97,19 +97,19 @@ module _ (qs : List ℕ) where
             (subst (λ (u : Trace). took (run in_list os ss u).log ≤ k) (sym (active in_list os s t a)) h)
             (order_past t.log (emit s t.chip ok) o quiet))
 
-    order-read : (at : ℕ) (d : Entry) (ss : List Step) → is_read d.kind ≡ true → Fills qs at d.n d.bytes → (at + d.n ≤ k → Rest (at + d.n) ss)
+    order_read : (at : ℕ) (d : Entry) (ss : List Step) → is_read d.kind ≡ true → Fills qs at d.n d.bytes → (at + d.n ≤ k → Rest (at + d.n) ss)
         → (t : Trace) → Counts at t → took (run in_list os ss (step in_list os (Plain d) t)).log ≤ k → InOrder qs 0 t.log
         → InOrder qs 0 (run in_list os ss (step in_list os (Plain d) t)).log
-    order-read at d ss r f rest t c h o = go (goes t.progress) refl (ok_for os t.count (Plain d)) refl
+    order_read at d ss r f rest t c h o = go (goes t.progress) refl (ok_for os t.count (Plain d)) refl
       where
         here : goes t.progress ≡ true → (ok : Bool) → ok_for os t.count (Plain d) ≡ ok → taken in_list os ok (Plain d) t ≡ step in_list os (Plain d) t
         here a ok e = ap (λ (b : Bool). taken in_list os b (Plain d) t) (sym e) ∙ active in_list os (Plain d) t a
 
         go : (b : Bool) → goes t.progress ≡ b → (ok : Bool) → ok_for os t.count (Plain d) ≡ ok → InOrder qs 0 (run in_list os ss (step in_list os (Plain d) t)).log
-        go false a ok e = subst (λ (u : Trace). InOrder qs 0 (run in_list os ss u).log) (idle in_list os (Plain d) t a) (order-stopped ss t a o)
+        go false a ok e = subst (λ (u : Trace). InOrder qs 0 (run in_list os ss u).log) (idle in_list os (Plain d) t a) (order_stopped ss t a o)
         go true a false e =
             subst (λ (u : Trace). InOrder qs 0 (run in_list os ss u).log) (here a false e)
-            (order-stopped ss (taken in_list os false (Plain d) t) refl (order_next 0 t.log (with_outcome d false) o (λ x. failed_fills (0 + took t.log) d r)))
+            (order_stopped ss (taken in_list os false (Plain d) t) refl (order_next 0 t.log (with_outcome d false) o (λ x. failed_fills (0 + took t.log) d r)))
         go true a true e =
             let v : Trace = taken in_list os true (Plain d) t in
             let more : took v.log ≡ took t.log + d.n = took_read t.log d r in
@@ -122,12 +122,12 @@ module _ (qs : List ℕ) where
             (rest known v (λ g. omega arith) all
             (order_next 0 t.log (with_outcome d true) o (λ x. done_fills (0 + took t.log) d r (subst (λ (j : ℕ). Fills qs j d.n d.bytes) place f))))
 
-    order-run : {at : ℕ} {ss ts : List Step} → Alike k qs at ss ts → Rest at ss
+    order_run : {at : ℕ} {ss ts : List Step} → Alike k qs at ss ts → Rest at ss
     unfolding run
-    order-run none t c h o = o
-    order-run {at} (same {ss = ss} s m a) t c h o = order_same at s ss m (λ u. order-run a u) t c h o
-    order-run {at} (read {ss = ss} d e r b f q x a) t c h o = order-read at d ss r f (λ l u. order-run (a l) u) t c h o
+    order_run none t c h o = o
+    order_run {at} (same {ss = ss} s m a) t c h o = order_same at s ss m (λ u. order_run a u) t c h o
+    order_run {at} (read {ss = ss} d e r b f q x a) t c h o = order_read at d ss r f (λ l u. order_run (a l) u) t c h o
 
-    pub order-trace : {ss ts : List Step} → Alike k qs 0 ss ts → (c : Chip) → took (trace os ss c).log ≤ k → InOrder qs 0 (trace os ss c).log
+    pub order_trace : {ss ts : List Step} → Alike k qs 0 ss ts → (c : Chip) → took (trace os ss c).log ≤ k → InOrder qs 0 (trace os ss c).log
     unfolding trace took
-    order-trace a c h = order-run a (line c [] 0 Going false) (λ g. refl) h tt
+    order_trace a c h = order_run a (line c [] 0 Going false) (λ g. refl) h tt

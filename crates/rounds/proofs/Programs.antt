@@ -158,13 +158,13 @@ module _ (k : ℕ) (qs ps : List ℕ) (known : take k qs ≡ take k ps) where
     known_bytes : (at n : ℕ) → b + at + n ≤ k → reply_bytes mine at n ≡ reply_bytes others at n
     known_bytes at n l = reply_part b at n qs ∙ ap (sets zeros8 0) (known_part k (b + at) qs ps known n l) ∙ sym (reply_part b at n ps)
 
-    tries-alike : (left i : ℕ) → Alike k qs (b + (5 + 3 * i)) (tries_from address mine left i ++ (Close ∷ zs)) (tries_from address others left i ++ (Close ∷ zs))
+    tries_alike : (left i : ℕ) → Alike k qs (b + (5 + 3 * i)) (tries_from address mine left i ++ (Close ∷ zs)) (tries_from address others left i ++ (Close ∷ zs))
     unfolding tries_from every
-    tries-alike zero i = alike_refl (Close ∷ zs) quiet
-    tries-alike (suc left) i =
+    tries_alike zero i = alike_refl (Close ∷ zs) quiet
+    tries_alike (suc left) i =
         let tail : List Step = Close ∷ zs in
         let next : b + (5 + 3 * (i + 1)) ≡ b + (5 + 3 * i) + 3 = omega arith in
-        let later = subst (λ (at : ℕ). Alike k qs at (tries_from address mine left (i + 1) ++ tail) (tries_from address others left (i + 1) ++ tail)) next (tries-alike left (i + 1)) in
+        let later = subst (λ (at : ℕ). Alike k qs at (tries_from address mine left (i + 1) ++ tail) (tries_from address others left (i + 1) ++ tail)) next (tries_alike left (i + 1)) in
         same (Plain (pointer address)) refl
         (read (read_entry address 3 (reply_bytes mine (5 + 3 * i) 3)) (read_entry address 3 (reply_bytes others (5 + 3 * i) 3)) refl refl
         (λ h. reply_part b (5 + 3 * i) 3 qs)
@@ -176,9 +176,9 @@ module _ (k : ℕ) (qs ps : List ℕ) (known : take k qs ≡ take k ps) where
         (alike_refl (updates locked ++ tail) quiet)
         (joined (after_try i) (tries_from address mine left (i + 1)) (tries_from address others left (i + 1)) tail (alike_front (after_try i) (mute_after i) later))))
 
-    pll-alike : (number : ℕ) → Alike k qs b (pll_steps address kind number mine ++ (Close ∷ zs)) (pll_steps address kind number others ++ (Close ∷ zs))
+    pll_alike : (number : ℕ) → Alike k qs b (pll_steps address kind number mine ++ (Close ∷ zs)) (pll_steps address kind number others ++ (Close ∷ zs))
     unfolding reply_bytes
-    pll-alike number =
+    pll_alike number =
         let tail : List Step = Close ∷ zs in
         let repair : ℕ → List Step = (λ byte. updates (repair_updates kind number byte)) in
         let rest : List Step = repair (get_or mine 4 0) ++ tries_from address mine 10 0 in
@@ -190,20 +190,20 @@ module _ (k : ℕ) (qs ps : List ℕ) (known : take k qs ≡ take k ps) where
         (λ (l : b + 5 ≤ k). subst (λ (x : ℕ). Alike k qs (b + 5) (rest ++ tail) ((repair x ++ tries_from address others 10 0) ++ tail))
         (known_at k b qs ps known 4 (omega arith))
         (joined (repair (get_or mine 4 0)) (tries_from address mine 10 0) (tries_from address others 10 0) tail
-        (alike_front (repair (get_or mine 4 0)) (mute_updates (repair_updates kind number (get_or mine 4 0))) (tries-alike 10 0))))))
+        (alike_front (repair (get_or mine 4 0)) (mute_updates (repair_updates kind number (get_or mine 4 0))) (tries_alike 10 0))))))
 
-    pub tune-alike : (notch : Bool) (pll : Pll) (hz : ℕ)
+    pub tune_alike : (notch : Bool) (pll : Pll) (hz : ℕ)
         → Alike k qs b (tune_steps address kind notch pll hz mine ++ zs) (tune_steps address kind notch pll hz others ++ zs)
     unfolding inner_steps every
-    tune-alike notch Refused hz = alike_refl (tune_steps address kind notch Refused hz mine ++ zs) quiet
-    tune-alike notch (Planned p) hz =
+    tune_alike notch Refused hz = alike_refl (tune_steps address kind notch Refused hz mine ++ zs) quiet
+    tune_alike notch (Planned p) hz =
         let first : List Step = updates (mux_updates notch (range_of hz) ++ pll_updates p) in
         let left : List Step = pll_steps address kind p.number mine in
         let right : List Step = pll_steps address kind p.number others in
         same Open refl
         (subst (λ (x : List Step). Alike k qs b (((first ++ left) ++ (Close ∷ [])) ++ zs) x) (sym (append_assoc (first ++ right) (Close ∷ []) zs))
         (subst (λ (x : List Step). Alike k qs b x ((first ++ right) ++ (Close ∷ zs))) (sym (append_assoc (first ++ left) (Close ∷ []) zs))
-        (joined first left right (Close ∷ zs) (alike_front first refl (pll-alike p.number)))))
+        (joined first left right (Close ∷ zs) (alike_front first refl (pll_alike p.number)))))
 
   -- ---- the board-level tune
 
@@ -219,6 +219,6 @@ module _ (k : ℕ) (qs ps : List ℕ) (known : take k qs ≡ take k ps) where
       go : (x : Kind) (route : Route)
           → Alike k qs 0 (path_part x route qs ++ (tune_steps address x p.notch by p.hz (drop (path_replies x route) qs) ++ ddc))
           (path_part x route ps ++ (tune_steps address x p.notch by p.hz (drop (path_replies x route) ps) ++ ddc))
-      go R820T route = tune-alike 0 address R820T ddc quiet p.notch by p.hz
-      go R828D Direct = tune-alike 0 address R828D ddc quiet p.notch by p.hz
-      go R828D (By path) = path_alike R828D path _ _ (tune-alike 3 address R828D ddc quiet p.notch by p.hz)
+      go R820T route = tune_alike 0 address R820T ddc quiet p.notch by p.hz
+      go R828D Direct = tune_alike 0 address R828D ddc quiet p.notch by p.hz
+      go R828D (By path) = path_alike R828D path _ _ (tune_alike 3 address R828D ddc quiet p.notch by p.hz)

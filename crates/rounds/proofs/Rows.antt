@@ -44,8 +44,8 @@ use Rattle.writes.specs.Lists.{gain_updates, path_updates}
 use Rattle.rounds.specs.Scripts.{InOrder, Same, gpio_with, order_with, other_with, took, tuner_with}
 use Rattle.rounds.proofs.Alike.{Alike, alike_refl, alike_trace, mute, same_all}
 use Rattle.rounds.proofs.Alike.Alike.{none}
-use Rattle.rounds.proofs.Order.{order-trace}
-use Rattle.rounds.proofs.Programs.{bit_alike, hop_alike, mute_bracket, output_alike, path_alike, tune-alike}
+use Rattle.rounds.proofs.Order.{order_trace}
+use Rattle.rounds.proofs.Programs.{bit_alike, hop_alike, mute_bracket, output_alike, path_alike, tune_alike}
 
 -- two rows of one call, by all replies and by others of which k are the same: the same but for replies that are as many if those are, and programs that are
 -- alike
@@ -89,7 +89,7 @@ module _ (os : List ℕ) (k : ℕ) (all others : List ℕ) (c : Chip) where
   entries_order number ss ts a h = go (eqb number 0) h
     where
       go : (b : Bool) → took (cond b (trace os ss c).log []) ≤ k → InOrder all 0 (cond b (trace os ss c).log [])
-      go true l = order-trace all os k a c l
+      go true l = order_trace all os k a c l
       go false l = tt
 
   pub rows_order : (R : Type 0) (row other : Course R) → Kin k all others R row other → (sound : Bool) (room : ℕ)
@@ -152,7 +152,7 @@ module _ (k : ℕ) (qs ps : List ℕ) (known : take k qs ≡ take k ps) where
   tuner_kin (GainIndex j) t = kin_refl k qs ps Tuner _ (mute_bracket (gain_updates (clamped j)))
   tuner_kin (InputPath path) t = kin_refl k qs ps Tuner _ (mute_row (path_of path) t.kind t)
   tuner_kin (Tune hz own) t =
-      moved _ _ _ qs ps _ _ _ _ (λ l. l) (whole_of _ _ (tune-alike k qs ps known 0 t.chip.address t.kind [] refl t.notch (plan_for t hz) hz))
+      moved _ _ _ qs ps _ _ _ _ (λ l. l) (whole_of _ _ (tune_alike k qs ps known 0 t.chip.address t.kind [] refl t.notch (plan_for t hz) hz))
   tuner_kin (Notch on) t = still _ _
   tuner_kin GainTold t = still _ _
   tuner_kin IfTold t = still _ _

@@ -130,29 +130,29 @@ module _ (c : Chip) (es : List Entry) (w : Tracks init_array c es) (os : List �
 
   module _ (going : sent.progress ≡ Going) where
     -- the last attempt of each register is the chunk's
-    last-there : (i : ℕ) → i < 27 → last_in sent.chip.address (es ++ sent.log) (5 + i) ≡ Tried (get_or init_array i 0) true
-    last-there i h =
+    last_there : (i : ℕ) → i < 27 → last_in sent.chip.address (es ++ sent.log) (5 + i) ≡ Tried (get_or init_array i 0) true
+    last_there i h =
         let before : Last = last_in c.address es (5 + i) in
         ap (λ (a : ℕ). last_in a (es ++ sent.log) (5 + i)) same_address
         ∙ last_append (tuner_at c.address) Never es sent.log (5 + i)
         ∙ last_known (tuner_at c.address) before sent.log (5 + i)
         ∙ ap (λ (l : Last). known l before) (reload_last os c init_array refl going i h)
 
-    shadow-there : sent.chip.shadow ≡ init_array
-    shadow-there =
+    shadow_there : sent.chip.shadow ≡ init_array
+    shadow_there =
         each_same sent.chip.shadow init_array 0 tracked.bytes
-        (λ i h. tracked.shadow i (omega (arith, h, tracked.bytes)) ∙ ap (byte_in (get_or init_array i 0)) (last-there i (omega (arith, h, tracked.bytes))))
+        (λ i h. tracked.shadow i (omega (arith, h, tracked.bytes)) ∙ ap (byte_in (get_or init_array i 0)) (last_there i (omega (arith, h, tracked.bytes))))
 
-    marks-there : sent.chip.doubtful ≡ replicate 27 false
-    marks-there =
+    marks_there : sent.chip.doubtful ≡ replicate 27 false
+    marks_there =
         each_same sent.chip.doubtful (replicate 27 false) true tracked.marks
         (λ i h.
         tracked.doubtful i (omega (arith, h, tracked.marks))
-        ∙ ap doubt_in (last-there i (omega (arith, h, tracked.marks)))
+        ∙ ap doubt_in (last_there i (omega (arith, h, tracked.marks)))
         ∙ sym (get_or-replicate 27 i false true (omega (arith, h, tracked.marks))))
 
-    chip-there : sent.chip ≡ chip_of c.address init_array (replicate 27 false)
-    chip-there = (λ i. chip_of (same_address i) (shadow-there i) (marks-there i))
+    chip_there : sent.chip ≡ chip_of c.address init_array (replicate 27 false)
+    chip_there = (λ i. chip_of (same_address i) (shadow_there i) (marks_there i))
 
 -- ---- the whole program, on two records of one chip
 
@@ -177,7 +177,7 @@ module _ (c d : Chip) (es fs : List Entry) (v : Tracks init_array c es) (w : Tra
   same_trace : first.progress ≡ Going → first ≡ second
   same_trace going =
       let chips : first.chip ≡ second.chip =
-      chip-there c es v os going ∙ ap (λ (a : ℕ). chip_of a init_array (replicate 27 false)) one ∙ sym (chip-there d fs w os (sym same_progress ∙ going)) in
+      chip_there c es v os going ∙ ap (λ (a : ℕ). chip_of a init_array (replicate 27 false)) one ∙ sym (chip_there d fs w os (sym same_progress ∙ going)) in
       (λ i. line (chips i) (alike i).log (alike i).count (alike i).progress (alike i).opened)
 
   split : (x : Chip) → trace os init_steps x ≡ run in_list os rest (trace os (send_all init_array) x)

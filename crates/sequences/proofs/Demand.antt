@@ -3,7 +3,7 @@
 --
 -- In plain words: `Sequence t es` is such a sequence, of any calls that take or hand back a tuner record (refused ones too), with GPIO and demodulator
 -- calls between them; t is the record at its end and es its entries end to end, the very ones that the reader finds in the rooms that the
--- contracts hand back (`section-read`). `Played address es before after` says that a chip that held `before` may hold `tuner_after` once es were played
+-- contracts hand back (`section_read`). `Played address es before after` says that a chip that held `before` may hold `tuner_after` once es were played
 -- on it, by those premises and nothing more. Registers are 5 + i for the record's 27 places. That entries reach a chip over USB, and that no
 -- other host writes it, is premise. Assumes nothing.
 use Prim.Native.Nat.{ℕ, ◌+◌, ◌*◌, ◌≤◌, ◌<◌}
@@ -95,22 +95,22 @@ module _ (t : Tuner) (es : List Entry) (s : Sequence t es) where
 
   module _ (before now : Regs) (played : Played t.chip.address es before now) where
     -- (b) "at each call's end a register whose last attempt was done holds the byte sent": any register, also past 0x1f
-    pub done-holds : (r byte : ℕ) → last_in t.chip.address es r ≡ Tried byte true → now r ≡ byte
-    done-holds = demand.done-holds init_array t.chip es history before now played
+    pub done_holds : (r byte : ℕ) → last_in t.chip.address es r ≡ Tried byte true → now r ≡ byte
+    done_holds = demand.done_holds init_array t.chip es history before now played
 
     -- a register that was never attempted holds what it held
-    pub never-kept : (r : ℕ) → last_in t.chip.address es r ≡ Never → now r ≡ before r
-    never-kept = demand.never-kept init_array t.chip es history before now played
+    pub never_kept : (r : ℕ) → last_in t.chip.address es r ≡ Never → now r ≡ before r
+    never_kept = demand.never_kept init_array t.chip es history before now played
 
     -- so a register without a doubtful mark holds the shadow's byte
-    pub sure-holds : (i : ℕ) → i < 27 → get_or t.chip.doubtful i true ≡ false → now (5 + i) ≡ get_or t.chip.shadow i 0
-    sure-holds = demand.sure-holds init_array t.chip es history before now played
+    pub sure_holds : (i : ℕ) → i < 27 → get_or t.chip.doubtful i true ≡ false → now (5 + i) ≡ get_or t.chip.shadow i 0
+    sure_holds = demand.sure_holds init_array t.chip es history before now played
 
     -- and the next masked write is built on what the chip holds (#106)
-    pub built-on : (i value mask : ℕ) → i < 27 → get_or t.chip.doubtful i true ≡ false → masked_byte t.chip (5 + i) value mask ≡ mask_of (now (5 + i)) value mask
-    built-on = demand.built-on init_array t.chip es history before now played
+    pub built_on : (i value mask : ℕ) → i < 27 → get_or t.chip.doubtful i true ≡ false → masked_byte t.chip (5 + i) value mask ≡ mask_of (now (5 + i)) value mask
+    built_on = demand.built_on init_array t.chip es history before now played
 
-  -- (f) there is such a chip, whatever the chip to start from (and a failed write admits both the old and the new byte: `failed-part` of crate attempts)
+  -- (f) there is such a chip, whatever the chip to start from (and a failed write admits both the old and the new byte: `failed_part` of crate attempts)
   pub some_chip : (before : Regs) → (now : Regs) × Played t.chip.address es before now
   some_chip = demand.some_chip init_array t.chip es history
 
@@ -130,8 +130,8 @@ module _ (t : Tuner) (es : List Entry) (s : Sequence t es) where
     seen = view t k.outcomes k.room k.order g small
 
     -- the entries of this page are the contract's: where it made any, the reader finds them at the start of the room that it hands back
-    pub section-read : 0 < (result k t).count → Parted (take (16 * (result k t).count + 8) (result k t).room) [] (entries k t)
-    section-read = view_read t (result k t) (asked k t) k.outcomes k.room seen small
+    pub section_read : 0 < (result k t).count → Parted (take (16 * (result k t).count + 8) (result k t).room) [] (entries k t)
+    section_read = view_read t (result k t) (asked k t) k.outcomes k.room seen small
 
     -- (c) "A cut call made the steps of the uncut one up to the failing step, then at most the repeater's closing." The failing step is the one
     -- whose index the answer gives

@@ -17,7 +17,7 @@ use Rattle.r82xx.specs.declared.Tuner.{Tuner}
 use Rattle.history.specs.Holding.{Holds}
 use Rattle.history.specs.Programs.{beside}
 use Rattle.history.proofs.Calls.{call_performed, call_refused}
-use Rattle.history.proofs.Holding.{beside-holds, trace_address, trace-holds}
+use Rattle.history.proofs.Holding.{beside_holds, trace_address, trace_holds}
 use Rattle.sequences.specs.Asides.{Aside, aside_asked, aside_entries, aside_given, aside_row}
 use Rattle.sequences.specs.Calls.{Call, asked, entries, given, result, tuner_after}
 use Rattle.sequences.proofs.Asides.{aside_beside}
@@ -56,11 +56,11 @@ module _ (t : Tuner) (small : t.chip.address ≤ 255) where
         let same : (r : ℕ) → after r ≡ chip r = subst (λ (l : List Entry). Played t.chip.address l chip after) e p in
         λ i h d. same (5 + i) ∙ holds i h d
 
-    view-holds : (x : Called Tuner) (a : Asked) (os room : List ℕ) → View t x a os room → Played t.chip.address (call_entries a.number os a.steps t.chip) chip after
+    view_holds : (x : Called Tuner) (a : Asked) (os room : List ℕ) → View t x a os room → Played t.chip.address (call_entries a.number os a.steps t.chip) chip after
         → Holds x.next.chip after
-    view-holds x a os room (silent s) p =
+    view_holds x a os room (silent s) p =
         subst (λ (c : Chip). Holds c after) (sym s.kept) (unplayed (call_entries a.number os a.steps t.chip) (no_entries t x a os room s) p)
-    view-holds x a os room (moving m) p = go (eqb a.number 0) refl
+    view_holds x a os room (moving m) p = go (eqb a.number 0) refl
       where
         log : (b : Bool) → eqb a.number 0 ≡ b → call_entries a.number os a.steps t.chip ≡ cond b (trace os a.steps t.chip).log []
         log b e = ap (λ (z : Bool). cond z (trace os a.steps t.chip).log []) e
@@ -68,7 +68,7 @@ module _ (t : Tuner) (small : t.chip.address ≤ 255) where
         go : (b : Bool) → eqb a.number 0 ≡ b → Holds x.next.chip after
         go true e =
             subst (λ (c : Chip). Holds c after) (sym (chip_performed t x a os room m e))
-            (trace-holds t.chip small marks bytes chip after holds os a.steps m.steps.good
+            (trace_holds t.chip small marks bytes chip after holds os a.steps m.steps.good
             (subst (λ (l : List Entry). Played t.chip.address l chip after) (log true e) p))
         go false e =
             subst (λ (c : Chip). Holds c after) (sym (chip_refused t x a os room m e))
@@ -76,16 +76,16 @@ module _ (t : Tuner) (small : t.chip.address ≤ 255) where
 
     -- one law for every call that takes or hands back a tuner's record
     pub one_more : (k : Call) → given k.order t ≡ true → Played t.chip.address (entries k t) chip after → Holds (tuner_after k t).chip after
-    one_more k g p = view-holds (result k t) (asked k t) k.outcomes k.room (view t k.outcomes k.room k.order g small) p
+    one_more k g p = view_holds (result k t) (asked k t) k.outcomes k.room (view t k.outcomes k.room k.order g small) p
 
     beside_by : (os : List ℕ) (ss : List Step) → every beside ss ≡ true → (b : Bool)
         → Played t.chip.address (cond b (trace os ss no_chip).log []) chip after → Holds t.chip after
-    beside_by os ss k true p = beside-holds t.chip small marks bytes chip after holds no_chip os ss k p
+    beside_by os ss k true p = beside_holds t.chip small marks bytes chip after holds no_chip os ss k p
     beside_by os ss k false p = unplayed [] refl p
 
     -- and for those that take none, which leave it
-    pub aside-more : (a : Aside) → aside_given a.other ≡ true → Played t.chip.address (aside_entries a) chip after → Holds t.chip after
-    aside-more a g p =
+    pub aside_more : (a : Aside) → aside_given a.other ≡ true → Played t.chip.address (aside_entries a) chip after → Holds t.chip after
+    aside_more a g p =
         beside_by a.outcomes (aside_asked a).steps
         (subst (λ (ss : List Step). every beside ss ≡ true) (sym (asked_steps true (aside_row a.other) (length a.outcomes) (length a.room))) (aside_beside a.other g))
         (eqb (aside_asked a).number 0) p

@@ -71,19 +71,19 @@ module _ (t : Tuner) (hz z : ℕ) (rs os room : List ℕ) where
     left : result (call (Tuned (Tune hz rs)) outcomes room) t ≡ performed (Refused FREQUENCY) (lock_kept t) room run_of
     left = tune_by_plan t hz outcomes rs room ∙ ap (by_plan t hz outcomes rs room) p ∙ progress_on _ _ _ _ _ _ _ _ e
 
-    pub late-answer : (result (call (Tuned (Tune hz rs)) outcomes room) t).answer ≡ Refused FREQUENCY
-    late-answer =
+    pub late_answer : (result (call (Tuned (Tune hz rs)) outcomes room) t).answer ≡ Refused FREQUENCY
+    late_answer =
         ap (λ (c : Called Tuner). c.answer) left ∙ ap (answer_of (Refused FREQUENCY)) (left_progress t.chip.address hz z t.kind t.notch rs os t.chip)
 
     -- open, 11 writes, close
-    pub late-entries : entries (call (Tuned (Tune hz rs)) outcomes room) t ≡ mux_entries t hz (eqb z 0)
-    late-entries =
+    pub late_entries : entries (call (Tuned (Tune hz rs)) outcomes room) t ≡ mux_entries t hz (eqb z 0)
+    late_entries =
         let go : eqb (refusal_of t (hz_refusal hz t.ifreq) 53 35 (length room) (length outcomes) (length rs)) 0 ≡ true = eq-eqb _ 0 e in
         rw (go, p) (left_log t.chip.address hz z t.kind t.notch rs os t.chip)
 
     -- "and the mux's shadow": the record is the given one, with the chip's part as the mux's writes leave it
-    pub late-record : tuner_after (call (Tuned (Tune hz rs)) outcomes room) t ≡ with_chip t (chip_behind (mux_updates t.notch (range_of hz)) t.chip)
-    late-record =
+    pub late_record : tuner_after (call (Tuned (Tune hz rs)) outcomes room) t ≡ with_chip t (chip_behind (mux_updates t.notch (range_of hz)) t.chip)
+    late_record =
         ap (λ (c : Called Tuner). c.next) left
         ∙ ap (λ (l : List Entry). with_lock (with_chip t run_of.chip) (lock_by (lock_tries_in l) t.lock)) (left_log t.chip.address hz z t.kind t.notch rs os t.chip)
         ∙ ap (with_lock (with_chip t run_of.chip)) (no_tries_lem t hz (eqb z 0))

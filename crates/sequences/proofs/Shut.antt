@@ -1,5 +1,5 @@
 -- No call leaves the repeater open, whatever fails (`shut`), and none closes one that is not open (`only_open`): so behind a failing step the closing is there
--- exactly where the repeater is open (`closing-there`, `closing-not-there`).
+-- exactly where the repeater is open (`closing_there`, `closing_not_there`).
 -- Assumes nothing.
 use Prim.Native.Nat.{ℕ, zero, suc, ◌+◌}
 use mathlib.Core.Path.{◌≡◌, refl, sym, ap, subst, ◌∙◌}
@@ -416,8 +416,8 @@ module _ (t : Tuner) (es : List Entry) (s : Sequence t es) (k : Call) (g : given
   -- "Where a step fails the rest of the call is not taken, but an open repeater (its opening done) is closed (one entry)": told open by the entries up to the
   -- failing one, it is closed by the entry behind it
   module _ (i : ℕ) (c : Cut i (entries k t) (entries (uncut i k) t)) where
-    pub closing-there : opened_in (c.earlier ++ (c.last ∷ [])) ≡ true → (ok : Bool) × (c.closing ≡ repeater 0 ok ∷ [])
-    closing-there h = go c.closing c.closes refl
+    pub closing_there : opened_in (c.earlier ++ (c.last ∷ [])) ≡ true → (ok : Bool) × (c.closing ≡ repeater 0 ok ∷ [])
+    closing_there h = go c.closing c.closes refl
       where
         go : (l : List Entry) → Closing l → c.closing ≡ l → (ok : Bool) × (c.closing ≡ repeater 0 ok ∷ [])
         go l nothing e =
@@ -425,8 +425,8 @@ module _ (t : Tuner) (es : List Entry) (s : Sequence t es) (k : Call) (g : given
         go l (closed ok) e = (ok, e)
 
     -- told shut, there is none
-    pub closing-not-there : opened_in (c.earlier ++ (c.last ∷ [])) ≡ false → c.closing ≡ []
-    closing-not-there h = go c.closing c.closes refl
+    pub closing_not_there : opened_in (c.earlier ++ (c.last ∷ [])) ≡ false → c.closing ≡ []
+    closing_not_there h = go c.closing c.closes refl
       where
         early : List Entry
         early = c.earlier ++ (c.last ∷ [])

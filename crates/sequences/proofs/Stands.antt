@@ -158,16 +158,16 @@ module _ (os : List ℕ) where
     steady : (ss : List Step) (t : Trace) → every clears ss ≡ true → Steady t → Steady (run in_list os ss t)
     steady ss t g h = run_keeps os Steady clears keeps ss t g h
       where
-        by-going : (w : Progress) → goes w ≡ true → w ≡ Going
-        by-going Going e = refl
-        by-going (Refused11 k) e = absurd (false≢true e)
+        by_going : (w : Progress) → goes w ≡ true → w ≡ Going
+        by_going Going e = refl
+        by_going (Refused11 k) e = absurd (false≢true e)
 
         keeps : (s : Step) (u : Trace) → clears s ≡ true → acts s u.progress u.opened ≡ true → Steady u
             → Steady (taken in_list os (ok_for os u.count s) s u)
-        keeps Open u q e p = (p.0, λ z. p.1 (by-going u.progress e))
+        keeps Open u q e p = (p.0, λ z. p.1 (by_going u.progress e))
         keeps Close u q e p = p
         keeps (Send n bytes) u q e p = absurd (false≢true q)
-        keeps (Plain x) u q e p = (p.0, λ z. p.1 (by-going u.progress e))
+        keeps (Plain x) u q e p = (p.0, λ z. p.1 (by_going u.progress e))
         keeps (Mask r v m) u q e p = (
           (
             ap length (mask_shadow u.chip r v m ok) ∙ length-set u.chip.shadow (r - 5) (masked_byte u.chip r v m) ∙ p.0.0,
@@ -181,7 +181,7 @@ module _ (os : List ℕ) where
 
             by_place : (b : Bool) → eqb 13 (r - 5) ≡ b → (taken in_list os ok (Mask r v m) u).progress ≡ Going → Controlled (taken in_list os ok (Mask r v m) u)
             by_place false w z =
-                let before : Controlled u = p.1 (by-going u.progress e) in
+                let before : Controlled u = p.1 (by_going u.progress e) in
                 let other : 13 ≡ r - 5 → ⊥ = eqb-false 13 (r - 5) w in (
                   (λ h. before.0 (ap off (sym (ap (λ (l : List ℕ). get_or l 13 0) (mask_shadow u.chip r v m ok) ∙ get_or-set_other u.chip.shadow (r - 5) 13 (masked_byte u.chip r v m) 0 other)) ∙ h)),
                   ap (λ (l : List Bool). get_or l 13 true) (mask_doubt u.chip r v m ok) ∙ get_or-set_other u.chip.doubtful (r - 5) 13 (not ok) true other ∙ before.1,
@@ -231,26 +231,26 @@ module _ (address : ℕ) (kind : Kind) (notch : Bool) (p : Plan) (hz : ℕ) (rs 
 
   -- what follows the five writes: 0x10, 0x12 and 0x1a are touched alone, by the tries 0x12 and 0x1a, each with one value and mask
   module _ (f : Step → Bool) (plain : (e : Entry) → f (Plain e) ≡ true) (b : f (Mask 0x12 0x06 0xff) ≡ true) (c : f (Mask 0x1a 0x08 0x08) ≡ true) where
-    tries-pass : (left i : ℕ) → every f (tries_from address rs left i) ≡ true
+    tries_pass : (left i : ℕ) → every f (tries_from address rs left i) ≡ true
     unfolding tries_from every
-    tries-pass zero i = refl
-    tries-pass (suc left) i =
+    tries_pass zero i = refl
+    tries_pass (suc left) i =
         every_append f (try_read address rs i) (cond (locks_at rs i) (updates locked) (after_try i ++ tries_from address rs left (i + 1)))
         (rw (plain (pointer address), plain (read_entry address 3 (reply_bytes rs (5 + 3 * i) 3))))
         (pick_every f (locks_at rs i) (updates locked) (after_try i ++ tries_from address rs left (i + 1)) (rw c)
-        (every_append f (after_try i) (tries_from address rs left (i + 1)) (after-passes i) (tries-pass left (i + 1))))
+        (every_append f (after_try i) (tries_from address rs left (i + 1)) (after_passes i) (tries_pass left (i + 1))))
       where
         by_first : (y : Bool) → every f (updates (cond y (masked 0x12 0x06 0xff ∷ []) [])) ≡ true
         by_first true = rw b
         by_first false = refl
 
-        after-passes : (i : ℕ) → every f (after_try i) ≡ true
-        after-passes i = every_append f (updates (again i)) (Plain (wait 1) ∷ []) (by_first (eqb i 0)) (rw (plain (wait 1)))
+        after_passes : (i : ℕ) → every f (after_try i) ≡ true
+        after_passes i = every_append f (updates (again i)) (Plain (wait 1) ∷ []) (by_first (eqb i 0)) (rw (plain (wait 1)))
 
     module _ (a : (v : ℕ) → f (Mask 0x10 v 0xe0) ≡ true) (d : f Close ≡ true) where
-      repair-passes : every f (updates (repair_updates kind p.number (get_or rs 4 0))) ≡ true
+      repair_passes : every f (updates (repair_updates kind p.number (get_or rs 4 0))) ≡ true
       unfolding repair_updates every
-      repair-passes = go (ltb (power_of kind) (fine_of (get_or rs 4 0))) (ltb (fine_of (get_or rs 4 0)) (power_of kind))
+      repair_passes = go (ltb (power_of kind) (fine_of (get_or rs 4 0))) (ltb (fine_of (get_or rs 4 0)) (power_of kind))
         where
           go : (y z : Bool)
               → every f (updates (cond y (masked 0x10 ((p.number - 1) * 32) 0xe0 ∷ []) (cond z (masked 0x10 ((p.number + 1) * 32) 0xe0 ∷ []) []))) ≡ true
@@ -258,13 +258,13 @@ module _ (address : ℕ) (kind : Kind) (notch : Bool) (p : Plan) (hz : ℕ) (rs 
           go false true = rw (a ((p.number + 1) * 32))
           go false false = refl
 
-      tail-passes : every f tail ≡ true
+      tail_passes : every f tail ≡ true
       unfolding every
-      tail-passes =
+      tail_passes =
           every_append f (pll_steps address kind p.number rs) (Close ∷ [])
           (every_append f (status_steps address rs) (updates (repair_updates kind p.number (get_or rs 4 0)) ++ tries_from address rs 10 0)
           (rw (plain (wait 2), plain (pointer address), plain (read_entry address 5 (reply_bytes rs 0 5))))
-          (every_append f (updates (repair_updates kind p.number (get_or rs 4 0))) (tries_from address rs 10 0) repair-passes (tries-pass 10 0)))
+          (every_append f (updates (repair_updates kind p.number (get_or rs 4 0))) (tries_from address rs 10 0) repair_passes (tries_pass 10 0)))
           (rw d)
 
   -- the five writes, then the tail
@@ -287,54 +287,54 @@ module _ (os : List ℕ) (address : ℕ) (kind : Kind) (notch : Bool) (p : Plan)
     by_program : (ss : List Step) → tune_steps address kind notch (pll-variants.Planned p) hz rs ≡ ss → (run in_list os ss t).progress ≡ Going
     by_program ss e = ap (λ (l : List Step). (run in_list os l t).progress) (sym e) ∙ g
 
-    abbrev open-first : List Step
-    open-first = opening address kind notch p hz rs
+    abbrev open_first : List Step
+    open_first = opening address kind notch p hz rs
 
     abbrev rest : List Step
     rest = tail address kind notch p hz rs
 
     -- 0x14
-    pub whole-there : p.setting < 256 → Holds os 15 p.setting false end
+    pub whole_there : p.setting < 256 → Holds os 15 p.setting false end
     unfolding run every inner_steps
-    whole-there s =
-        let w = last_write os (open-first ++ (Mask 0x10 (p.number * 32) 0xe0 ∷ [])) 15 p.setting 0xff
+    whole_there s =
+        let w = last_write os (open_first ++ (Mask 0x10 (p.number * 32) 0xe0 ∷ [])) 15 p.setting 0xff
         (Mask 0x16 (p.sum / 256) 0xff ∷ Mask 0x15 (p.sum % 256) 0xff ∷ Mask 0x12 (cond (eqb p.fraction 0) 0x08 0x00) 0x08 ∷ rest) t (omega arith) long refl
-        (tail-passes address kind notch p hz rs (spares 15) (λ e. refl) refl refl (λ v. refl) refl) g in
+        (tail_passes address kind notch p hz rs (spares 15) (λ e. refl) refl refl (λ v. refl) refl) g in
         (w.1.0 ∙ whole_byte w.0 p.setting s, w.1.1)
 
     -- 0x16
-    pub high-there : p.sum < 65_536 → Holds os 17 (p.sum / 256) false end
+    pub high_there : p.sum < 65_536 → Holds os 17 (p.sum / 256) false end
     unfolding run every inner_steps
-    high-there s =
-        let w = last_write os (open-first ++ (Mask 0x10 (p.number * 32) 0xe0 ∷ Mask 0x14 p.setting 0xff ∷ [])) 17 (p.sum / 256) 0xff
+    high_there s =
+        let w = last_write os (open_first ++ (Mask 0x10 (p.number * 32) 0xe0 ∷ Mask 0x14 p.setting 0xff ∷ [])) 17 (p.sum / 256) 0xff
         (Mask 0x15 (p.sum % 256) 0xff ∷ Mask 0x12 (cond (eqb p.fraction 0) 0x08 0x00) 0x08 ∷ rest) t (omega arith) long refl
-        (tail-passes address kind notch p hz rs (spares 17) (λ e. refl) refl refl (λ v. refl) refl) g in
+        (tail_passes address kind notch p hz rs (spares 17) (λ e. refl) refl refl (λ v. refl) refl) g in
         (w.1.0 ∙ whole_byte w.0 (p.sum / 256) (omega arith), w.1.1)
 
     -- 0x15
-    pub low-there : Holds os 16 (p.sum % 256) false end
+    pub low_there : Holds os 16 (p.sum % 256) false end
     unfolding run every inner_steps
-    low-there =
+    low_there =
         let w =
-        last_write os (open-first ++ (Mask 0x10 (p.number * 32) 0xe0 ∷ Mask 0x14 p.setting 0xff ∷ Mask 0x16 (p.sum / 256) 0xff ∷ [])) 16 (p.sum % 256) 0xff
+        last_write os (open_first ++ (Mask 0x10 (p.number * 32) 0xe0 ∷ Mask 0x14 p.setting 0xff ∷ Mask 0x16 (p.sum / 256) 0xff ∷ [])) 16 (p.sum % 256) 0xff
         (Mask 0x12 (cond (eqb p.fraction 0) 0x08 0x00) 0x08 ∷ rest) t (omega arith) long refl
-        (tail-passes address kind notch p hz rs (spares 16) (λ e. refl) refl refl (λ v. refl) refl) g in
+        (tail_passes address kind notch p hz rs (spares 16) (λ e. refl) refl refl (λ v. refl) refl) g in
         (w.1.0 ∙ whole_byte w.0 (p.sum % 256) (omega arith), w.1.1)
 
     -- 0x12
-    pub control-there : Controlled os (p.fraction ≡ 0) end
+    pub control_there : Controlled os (p.fraction ≡ 0) end
     unfolding run every inner_steps
-    control-there =
+    control_there =
         let v : ℕ = cond (eqb p.fraction 0) 0x08 0x00 in
         let head : List Step =
-        open-first ++ (Mask 0x10 (p.number * 32) 0xe0 ∷ Mask 0x14 p.setting 0xff ∷ Mask 0x16 (p.sum / 256) 0xff ∷ Mask 0x15 (p.sum % 256) 0xff ∷ []) in
+        open_first ++ (Mask 0x10 (p.number * 32) 0xe0 ∷ Mask 0x14 p.setting 0xff ∷ Mask 0x16 (p.sum / 256) 0xff ∷ Mask 0x15 (p.sum % 256) 0xff ∷ []) in
         let u : Trace = run in_list os (head ++ (Mask 0x12 v 0x08 ∷ [])) t in
         let app : end ≡ run in_list os rest u = run_app in_list os (head ++ (Mask 0x12 v 0x08 ∷ [])) rest t in
         let going : u.progress ≡ Going = going_before os rest u (ap (λ (z : Trace). z.progress) (sym app) ∙ g) in
         let w = last_write os head 13 v 0x08 [] t (omega arith) long refl refl going in
         let set-up : Controlled os (p.fraction ≡ 0) u = ((λ h. by_fraction w.0 (eqb p.fraction 0) refl (ap off (sym w.1.0) ∙ h)), w.1.1) in
         let after : Steady os (p.fraction ≡ 0) (run in_list os rest u) =
-        steady os (p.fraction ≡ 0) rest u (tail-passes address kind notch p hz rs (clears os (p.fraction ≡ 0)) (λ e. refl) refl refl (λ x. refl) refl)
+        steady os (p.fraction ≡ 0) rest u (tail_passes address kind notch p hz rs (clears os (p.fraction ≡ 0)) (λ e. refl) refl refl (λ x. refl) refl)
         (long_run os (head ++ (Mask 0x12 v 0x08 ∷ [])) t refl long, λ z. set-up) in
         subst (Controlled os (p.fraction ≡ 0)) (sym app) (after.1 (ap (λ (z : Trace). z.progress) (sym app) ∙ g))
       where
@@ -347,35 +347,35 @@ module _ (os : List ℕ) (address : ℕ) (kind : Kind) (notch : Bool) (p : Plan)
     Divided k = (get_or end.chip.shadow 11 0 / 32 ≡ k) × (get_or end.chip.doubtful 11 true ≡ false)
 
     -- with these repairs, whatever they are
-    abbrev with-repair : List Update → List Step
-    with-repair us = open-first ++ (updates (pll_updates p) ++ ((status_steps address rs ++ (updates us ++ tries_from address rs 10 0)) ++ (Close ∷ [])))
+    abbrev with_repair : List Update → List Step
+    with_repair us = open_first ++ (updates (pll_updates p) ++ ((status_steps address rs ++ (updates us ++ tries_from address rs 10 0)) ++ (Close ∷ [])))
 
-    late-spares : every (spares 11) (tries_from address rs 10 0 ++ (Close ∷ [])) ≡ true
+    late_spares : every (spares 11) (tries_from address rs 10 0 ++ (Close ∷ [])) ≡ true
     unfolding every
-    late-spares =
-        every_append (spares 11) (tries_from address rs 10 0) (Close ∷ []) (tries-pass address kind notch p hz rs (spares 11) (λ e. refl) refl refl 10 0) refl
+    late_spares =
+        every_append (spares 11) (tries_from address rs 10 0) (Close ∷ []) (tries_pass address kind notch p hz rs (spares 11) (λ e. refl) refl refl 10 0) refl
 
-    repaired-so : (k : ℕ) → k < 8 → (run in_list os (with-repair (masked 0x10 (k * 32) 0xe0 ∷ [])) t).progress ≡ Going
-        → (get_or (run in_list os (with-repair (masked 0x10 (k * 32) 0xe0 ∷ [])) t).chip.shadow 11 0 / 32 ≡ k)
-        × (get_or (run in_list os (with-repair (masked 0x10 (k * 32) 0xe0 ∷ [])) t).chip.doubtful 11 true ≡ false)
+    repaired_so : (k : ℕ) → k < 8 → (run in_list os (with_repair (masked 0x10 (k * 32) 0xe0 ∷ [])) t).progress ≡ Going
+        → (get_or (run in_list os (with_repair (masked 0x10 (k * 32) 0xe0 ∷ [])) t).chip.shadow 11 0 / 32 ≡ k)
+        × (get_or (run in_list os (with_repair (masked 0x10 (k * 32) 0xe0 ∷ [])) t).chip.doubtful 11 true ≡ false)
     unfolding run every
-    repaired-so k h e =
+    repaired_so k h e =
         let w =
-        last_write os (open-first ++ (updates (pll_updates p) ++ status_steps address rs)) 11 (k * 32) 0xe0 (tries_from address rs 10 0 ++ (Close ∷ [])) t (omega arith) long refl late-spares e in
+        last_write os (open_first ++ (updates (pll_updates p) ++ status_steps address rs)) 11 (k * 32) 0xe0 (tries_from address rs 10 0 ++ (Close ∷ [])) t (omega arith) long refl late_spares e in
         (ap (λ (y : ℕ). y / 32) w.1.0 ∙ high_bits w.0 k h, w.1.1)
 
-    unrepaired : p.number < 8 → (run in_list os (with-repair []) t).progress ≡ Going
-        → (get_or (run in_list os (with-repair []) t).chip.shadow 11 0 / 32 ≡ p.number) × (get_or (run in_list os (with-repair []) t).chip.doubtful 11 true ≡ false)
+    unrepaired : p.number < 8 → (run in_list os (with_repair []) t).progress ≡ Going
+        → (get_or (run in_list os (with_repair []) t).chip.shadow 11 0 / 32 ≡ p.number) × (get_or (run in_list os (with_repair []) t).chip.doubtful 11 true ≡ false)
     unfolding run every
     unrepaired h e =
-        let w = last_write os open-first 11 (p.number * 32) 0xe0
+        let w = last_write os open_first 11 (p.number * 32) 0xe0
         (Mask 0x14 p.setting 0xff ∷ Mask 0x16 (p.sum / 256) 0xff ∷ Mask 0x15 (p.sum % 256) 0xff ∷ Mask 0x12 (cond (eqb p.fraction 0) 0x08 0x00) 0x08 ∷ (status_steps address rs ++ (tries_from address rs 10 0 ++ (Close ∷ []))))
-        t (omega arith) long refl late-spares e in
+        t (omega arith) long refl late_spares e in
         (ap (λ (y : ℕ). y / 32) w.1.0 ∙ high_bits w.0 p.number h, w.1.1)
 
-    pub divider-there : p.number ≤ 5 → Divided (repaired address kind notch p hz rs)
+    pub divider_there : p.number ≤ 5 → Divided (repaired address kind notch p hz rs)
     unfolding inner_steps repair_updates repaired
-    divider-there h = go (ltb (power_of kind) (fine_of (get_or rs 4 0))) refl (ltb (fine_of (get_or rs 4 0)) (power_of kind)) refl
+    divider_there h = go (ltb (power_of kind) (fine_of (get_or rs 4 0))) refl (ltb (fine_of (get_or rs 4 0)) (power_of kind)) refl
       where
         Ends : List Step → ℕ → Type 0
         Ends ss k = (get_or (run in_list os ss t).chip.shadow 11 0 / 32 ≡ k) × (get_or (run in_list os ss t).chip.doubtful 11 true ≡ false)
@@ -383,14 +383,14 @@ module _ (os : List ℕ) (address : ℕ) (kind : Kind) (notch : Bool) (p : Plan)
         go : (y : Bool) → ltb (power_of kind) (fine_of (get_or rs 4 0)) ≡ y → (z : Bool) → ltb (fine_of (get_or rs 4 0)) (power_of kind) ≡ z
             → Divided (repaired address kind notch p hz rs)
         go true e z f =
-            let same : tune_steps address kind notch (pll-variants.Planned p) hz rs ≡ with-repair (masked 0x10 ((p.number - 1) * 32) 0xe0 ∷ []) = rw e in
+            let same : tune_steps address kind notch (pll-variants.Planned p) hz rs ≡ with_repair (masked 0x10 ((p.number - 1) * 32) 0xe0 ∷ []) = rw e in
             let is : repaired address kind notch p hz rs ≡ p.number - 1 = rw e in
-            subst Divided (sym is) (subst (λ (ss : List Step). Ends ss (p.number - 1)) (sym same) (repaired-so (p.number - 1) (omega arith) (by_program _ same)))
+            subst Divided (sym is) (subst (λ (ss : List Step). Ends ss (p.number - 1)) (sym same) (repaired_so (p.number - 1) (omega arith) (by_program _ same)))
         go false e true f =
-            let same : tune_steps address kind notch (pll-variants.Planned p) hz rs ≡ with-repair (masked 0x10 ((p.number + 1) * 32) 0xe0 ∷ []) = rw (e, f) in
+            let same : tune_steps address kind notch (pll-variants.Planned p) hz rs ≡ with_repair (masked 0x10 ((p.number + 1) * 32) 0xe0 ∷ []) = rw (e, f) in
             let is : repaired address kind notch p hz rs ≡ p.number + 1 = rw (e, f) in
-            subst Divided (sym is) (subst (λ (ss : List Step). Ends ss (p.number + 1)) (sym same) (repaired-so (p.number + 1) (omega arith) (by_program _ same)))
+            subst Divided (sym is) (subst (λ (ss : List Step). Ends ss (p.number + 1)) (sym same) (repaired_so (p.number + 1) (omega arith) (by_program _ same)))
         go false e false f =
-            let same : tune_steps address kind notch (pll-variants.Planned p) hz rs ≡ with-repair [] = rw (e, f) in
+            let same : tune_steps address kind notch (pll-variants.Planned p) hz rs ≡ with_repair [] = rw (e, f) in
             let is : repaired address kind notch p hz rs ≡ p.number = rw (e, f) in
             subst Divided (sym is) (subst (λ (ss : List Step). Ends ss p.number) (sym same) (unrepaired (omega arith) (by_program _ same)))

@@ -28,7 +28,7 @@ use Rattle.sequences.specs.Calls.{Call, call, entries, given, result, tuner_afte
 use Rattle.sequences.specs.Calls.Order.{BoardTune, Tuned}
 use Rattle.sequences.specs.Sequences.{Sequence}
 use Rattle.sequences.specs.Sequences.Sequence.{next}
-use Rattle.sequences.proofs.Demand.{sure-holds}
+use Rattle.sequences.proofs.Demand.{sure_holds}
 use Rattle.sequences.proofs.Stands.{repaired}
 use Rattle.sequences.proofs.Tunings.{Kept, hopped_stands, is_done, tuned_stands}
 
@@ -71,7 +71,7 @@ module _ (t : Tuner) (es : List Entry) (s : Sequence t es) where
 module _ (t : Tuner) (es : List Entry) (s : Sequence t es) (before now : Regs) (played : Played t.chip.address es before now) where
   pub holds_five : unsure t.chip ≡ false → (r : ℕ) → stands_by r ≡ true → now r ≡ attempted_at t.chip r
   holds_five h =
-      let at : (i : ℕ) → i < 27 → get_or t.chip.doubtful i true ≡ false → now (5 + i) ≡ get_or t.chip.shadow i 0 = sure-holds t es s before now played in
+      let at : (i : ℕ) → i < 27 → get_or t.chip.doubtful i true ≡ false → now (5 + i) ≡ get_or t.chip.shadow i 0 = sure_holds t es s before now played in
       let no : (r : ℕ) → stands_by r ≡ true → doubtful_at t.chip r ≡ false = sure t.chip h in
       each_five (λ r. now r ≡ attempted_at t.chip r) (at 11 (omega arith) (no 0x10 refl)) (at 13 (omega arith) (no 0x12 refl)) (at 15 (omega arith) (no 0x14 refl))
       (at 16 (omega arith) (no 0x15 refl)) (at 17 (omega arith) (no 0x16 refl))

@@ -120,26 +120,26 @@ module _ (os : List ℕ) where
     after = step in_list os reads t
 
     -- what is left where it was tried
-    tried-waited : (ok : Bool) → Waited (n + 1) (t.log ++ (emit reads t.chip ok ∷ []))
-    tried-waited true = waited_one t.log (emit reads t.chip true) refl n w
-    tried-waited false = over n (n + 1) _ (omega arith) (waited_past t.log (emit reads t.chip false) refl n (waited n t.log w))
+    tried_waited : (ok : Bool) → Waited (n + 1) (t.log ++ (emit reads t.chip ok ∷ []))
+    tried_waited true = waited_one t.log (emit reads t.chip true) refl n w
+    tried_waited false = over n (n + 1) _ (omega arith) (waited_past t.log (emit reads t.chip false) refl n (waited n t.log w))
 
-    tried-waiting : locked_by (get_or bytes 2 0) ≡ false → (ok : Bool) → Waiting (n + 1) (t.log ++ (emit reads t.chip ok ∷ []))
-    tried-waiting dark true = waiting_one t.log (emit reads t.chip true) refl n w dark
-    tried-waiting dark false = more n (n + 1) _ (omega arith) (waiting_past t.log (emit reads t.chip false) refl n w)
+    tried_waiting : locked_by (get_or bytes 2 0) ≡ false → (ok : Bool) → Waiting (n + 1) (t.log ++ (emit reads t.chip ok ∷ []))
+    tried_waiting dark true = waiting_one t.log (emit reads t.chip true) refl n w dark
+    tried_waiting dark false = more n (n + 1) _ (omega arith) (waiting_past t.log (emit reads t.chip false) refl n w)
 
-    read-waited : Waited (n + 1) after.log
-    read-waited = go (acts reads t.progress t.opened) refl
+    read_waited : Waited (n + 1) after.log
+    read_waited = go (acts reads t.progress t.opened) refl
       where
         go : (a : Bool) → acts reads t.progress t.opened ≡ a → Waited (n + 1) after.log
-        go true e = subst (λ (u : Trace). Waited (n + 1) u.log) (active in_list os reads t e) (tried-waited (ok_for os t.count reads))
+        go true e = subst (λ (u : Trace). Waited (n + 1) u.log) (active in_list os reads t e) (tried_waited (ok_for os t.count reads))
         go false e = subst (λ (u : Trace). Waited (n + 1) u.log) (idle in_list os reads t e) (over n (n + 1) t.log (omega arith) (waited n t.log w))
 
-    read-waiting : locked_by (get_or bytes 2 0) ≡ false → Waiting (n + 1) after.log
-    read-waiting dark = go (acts reads t.progress t.opened) refl
+    read_waiting : locked_by (get_or bytes 2 0) ≡ false → Waiting (n + 1) after.log
+    read_waiting dark = go (acts reads t.progress t.opened) refl
       where
         go : (a : Bool) → acts reads t.progress t.opened ≡ a → Waiting (n + 1) after.log
-        go true e = subst (λ (u : Trace). Waiting (n + 1) u.log) (active in_list os reads t e) (tried-waiting dark (ok_for os t.count reads))
+        go true e = subst (λ (u : Trace). Waiting (n + 1) u.log) (active in_list os reads t e) (tried_waiting dark (ok_for os t.count reads))
         go false e = subst (λ (u : Trace). Waiting (n + 1) u.log) (idle in_list os reads t e) (more n (n + 1) t.log (omega arith) w)
 
   module _ (address : ℕ) (rs : List ℕ) where
@@ -149,33 +149,33 @@ module _ (os : List ℕ) where
       unfolding run every
       pointed = quiet_waiting i (Plain (pointer address) ∷ []) t refl w
 
-      turn-waited : Waited (i + 1) (run in_list os (try_read address rs i) t).log
+      turn_waited : Waited (i + 1) (run in_list os (try_read address rs i) t).log
       unfolding run
-      turn-waited = read-waited address (reply_bytes rs (5 + 3 * i) 3) (step in_list os (Plain (pointer address)) t) i pointed
+      turn_waited = read_waited address (reply_bytes rs (5 + 3 * i) 3) (step in_list os (Plain (pointer address)) t) i pointed
 
-      turn-waiting : locks_at rs i ≡ false → Waiting (i + 1) (run in_list os (try_read address rs i) t).log
+      turn_waiting : locks_at rs i ≡ false → Waiting (i + 1) (run in_list os (try_read address rs i) t).log
       unfolding run
-      turn-waiting dark =
-          read-waiting address (reply_bytes rs (5 + 3 * i) 3) (step in_list os (Plain (pointer address)) t) i pointed (reply_bit rs i ∙ dark)
+      turn_waiting dark =
+          read_waiting address (reply_bytes rs (5 + 3 * i) 3) (step in_list os (Plain (pointer address)) t) i pointed (reply_bit rs i ∙ dark)
 
     -- one turn: a try, then what follows it
-    turn-over : (left i : ℕ) (later : List Step) (t : Trace) → Waiting i t.log
+    turn_over : (left i : ℕ) (later : List Step) (t : Trace) → Waiting i t.log
         → ((u : Trace) → Waiting (i + 1) u.log → Waited (i + 1 + left) (run in_list os later u).log)
         → (b : Bool) → locks_at rs i ≡ b → Waited (i + suc left) (run in_list os (try_read address rs i ++ cond b (updates locked) (after_try i ++ later)) t).log
-    turn-over left i later t w ih true e =
+    turn_over left i later t w ih true e =
         subst (λ (u : Trace). Waited (i + suc left) u.log) (sym (run_app in_list os (try_read address rs i) (updates locked) t))
         (over (i + 1) (i + suc left) _ (omega arith)
-        (quiet_waited (i + 1) (updates locked) (run in_list os (try_read address rs i) t) (quiet_updates locked) (turn-waited i t w)))
-    turn-over left i later t w ih false e =
+        (quiet_waited (i + 1) (updates locked) (run in_list os (try_read address rs i) t) (quiet_updates locked) (turn_waited i t w)))
+    turn_over left i later t w ih false e =
         let mid : Trace = run in_list os (try_read address rs i) t in
         let split = run_app in_list os (try_read address rs i) (after_try i ++ later) t ∙ run_app in_list os (after_try i) later mid in
         subst (λ (u : Trace). Waited (i + suc left) u.log) (sym split)
-        (over (i + 1 + left) (i + suc left) _ (omega arith) (ih (run in_list os (after_try i) mid) (quiet_waiting (i + 1) (after_try i) mid (quiet_after i) (turn-waiting i t w e))))
+        (over (i + 1 + left) (i + suc left) _ (omega arith) (ih (run in_list os (after_try i) mid) (quiet_waiting (i + 1) (after_try i) mid (quiet_after i) (turn_waiting i t w e))))
 
-    tries-waited : (left i : ℕ) (t : Trace) → Waiting i t.log → Waited (i + left) (run in_list os (tries_from address rs left i) t).log
+    tries_waited : (left i : ℕ) (t : Trace) → Waiting i t.log → Waited (i + left) (run in_list os (tries_from address rs left i) t).log
     unfolding run tries_from
-    tries-waited zero i t w = over i (i + 0) t.log (omega arith) (waited i t.log w)
-    tries-waited (suc left) i t w = turn-over left i (tries_from address rs left (i + 1)) t w (λ u v. tries-waited left (i + 1) u v) (locks_at rs i) refl
+    tries_waited zero i t w = over i (i + 0) t.log (omega arith) (waited i t.log w)
+    tries_waited (suc left) i t w = turn_over left i (tries_from address rs left (i + 1)) t w (λ u v. tries_waited left (i + 1) u v) (locks_at rs i) refl
 
   -- a tuning's program, with a plan or without, from a trace without a try
   tune_waited : (address : ℕ) (kind : Kind) (notch : Bool) (plan : Pll) (hz : ℕ) (rs : List ℕ) (start : Trace) → Waiting 0 start.log
@@ -200,7 +200,7 @@ module _ (os : List ℕ) where
       let first = quiet_waiting 0 mux opened (quiet_updates (mux_updates notch (range_of hz) ++ pll_updates p)) (quiet_waiting 0 (Open ∷ []) start refl w) in
       let second = quiet_waiting 0 fix probed (quiet_updates (repair_updates kind p.number (get_or rs 4 0))) (quiet_waiting 0 status written refl first) in
       subst (λ (u : Trace). Waited 10 u.log) (sym split)
-      (quiet_waited 10 (Close ∷ []) (run in_list os tries mended) refl (tries-waited address rs 10 0 mended second))
+      (quiet_waited 10 (Close ∷ []) (run in_list os tries mended) refl (tries_waited address rs 10 0 mended second))
 
   quiet_rest : (plan : Pll) (inverted : Bool) → every quiet (ddc_part plan inverted) ≡ true
   unfolding every

@@ -229,10 +229,10 @@ module _ (os : List ℕ) where
 
   module _ (address : ℕ) (rs : List ℕ) where
     -- a try's two steps
-    try-said : (i n : ℕ) (t : Trace) → (run in_list os (try_read address rs i) t).progress ≡ Going → lock_tries_in t.log ≡ lock_tries n false
+    try_said : (i n : ℕ) (t : Trace) → (run in_list os (try_read address rs i) t).progress ≡ Going → lock_tries_in t.log ≡ lock_tries n false
         → lock_tries_in (run in_list os (try_read address rs i) t).log ≡ lock_tries (n + 1) (locks_at rs i)
     unfolding run every
-    try-said i n t h e =
+    try_said i n t h e =
         let u : Trace = step in_list os (Plain (pointer address)) t in
         let same : lock_tries_in u.log ≡ lock_tries n false = quiet_run os (Plain (pointer address) ∷ []) t refl ∙ e in
         let goes_on : u.progress ≡ Going = going_before os (Plain (read_entry address 3 (reply_bytes rs (5 + 3 * i) 3)) ∷ []) u h in
@@ -240,33 +240,33 @@ module _ (os : List ℕ) where
         ∙ (λ j. lock_tries ((same j).tries + 1) ((same j).locked || reply_bit rs i j))
 
     -- one turn: a try, then what follows it
-    turn-said : (i : ℕ) (more : List Step) (t : Trace) (b : Bool) (end : LockTries) → locks_at rs i ≡ b → lock_tries_in t.log ≡ lock_tries i false
+    turn_said : (i : ℕ) (more : List Step) (t : Trace) (b : Bool) (end : LockTries) → locks_at rs i ≡ b → lock_tries_in t.log ≡ lock_tries i false
         → ((u : Trace) → (run in_list os more u).progress ≡ Going → lock_tries_in u.log ≡ lock_tries (i + 1) false → lock_tries_in (run in_list os more u).log ≡ end)
         → (run in_list os (try_read address rs i ++ cond b (updates locked) (after_try i ++ more)) t).progress ≡ Going
         → lock_tries_in (run in_list os (try_read address rs i ++ cond b (updates locked) (after_try i ++ more)) t).log ≡ cond b (lock_tries (i + 1) true) end
-    turn-said i more t true end l e ih h =
+    turn_said i more t true end l e ih h =
         let after : Trace = run in_list os (try_read address rs i) t in
         let split = run_app in_list os (try_read address rs i) (updates locked) t in
         let ended : (run in_list os (updates locked) after).progress ≡ Going = ap (λ (u : Trace). u.progress) (sym split) ∙ h in
         ap (λ (u : Trace). lock_tries_in u.log) split
         ∙ quiet_run os (updates locked) after (quiet_updates locked)
-        ∙ try-said i i t (going_before os (updates locked) after ended) e
+        ∙ try_said i i t (going_before os (updates locked) after ended) e
         ∙ ap (lock_tries (i + 1)) l
-    turn-said i more t false end l e ih h =
+    turn_said i more t false end l e ih h =
         let after : Trace = run in_list os (try_read address rs i) t in
         let mid : Trace = run in_list os (after_try i) after in
         let split = run_app in_list os (try_read address rs i) (after_try i ++ more) t ∙ run_app in_list os (after_try i) more after in
         let ended : (run in_list os more mid).progress ≡ Going = ap (λ (u : Trace). u.progress) (sym split) ∙ h in
         let before : after.progress ≡ Going = going_before os (after_try i) after (going_before os more mid ended) in
         ap (λ (u : Trace). lock_tries_in u.log) split
-        ∙ ih mid ended (quiet_run os (after_try i) after (quiet_after i) ∙ try-said i i t before e ∙ ap (lock_tries (i + 1)) l)
+        ∙ ih mid ended (quiet_run os (after_try i) after (quiet_after i) ∙ try_said i i t before e ∙ ap (lock_tries (i + 1)) l)
 
-    tries-said : (left i : ℕ) (t : Trace) → (run in_list os (tries_from address rs left i) t).progress ≡ Going → lock_tries_in t.log ≡ lock_tries i false
+    tries_said : (left i : ℕ) (t : Trace) → (run in_list os (tries_from address rs left i) t).progress ≡ Going → lock_tries_in t.log ≡ lock_tries i false
         → lock_tries_in (run in_list os (tries_from address rs left i) t).log ≡ waited_from rs left i
     unfolding run tries_from waited_from
-    tries-said zero i t h e = e
-    tries-said (suc left) i t h e =
-        turn-said i (tries_from address rs left (i + 1)) t (locks_at rs i) (waited_from rs left (i + 1)) refl e (λ u g q. tries-said left (i + 1) u g q) h
+    tries_said zero i t h e = e
+    tries_said (suc left) i t h e =
+        turn_said i (tries_from address rs left (i + 1)) t (locks_at rs i) (waited_from rs left (i + 1)) refl e (λ u g q. tries_said left (i + 1) u g q) h
 
 -- a whole tuning by its plan, from a trace without a try
 tune_said : (os : List ℕ) (address : ℕ) (kind : Kind) (notch : Bool) (p : Plan) (hz : ℕ) (rs : List ℕ) (start : Trace)
@@ -290,7 +290,7 @@ tune_said os address kind notch p hz rs start h e =
     let ended : waited.progress ≡ Going = going_before os (Close ∷ []) waited (ap (λ (u : Trace). u.progress) (sym split) ∙ h) in
     ap (λ (u : Trace). lock_tries_in u.log) split
     ∙ quiet_run os (Close ∷ []) waited refl
-    ∙ tries-said os address rs 10 0 repaired ended
+    ∙ tries_said os address rs 10 0 repaired ended
     (quiet_run os fix probed (quiet_updates (repair_updates kind p.number (get_or rs 4 0)))
     ∙ quiet_run os status written refl
     ∙ quiet_run os mux opened (quiet_updates (mux_updates notch (range_of hz) ++ pll_updates p))

@@ -58,9 +58,9 @@ use Rattle.sequences.specs.Calls.{Call, tuner_after, call, entries, given, resul
 use Rattle.sequences.specs.Calls.Order.{BoardTune, Tuned}
 use Rattle.sequences.specs.Sequences.{Sequence}
 use Rattle.sequences.specs.Sequences.Sequence.{next}
-use Rattle.sequences.proofs.Demand.{sequence_history, sure-holds}
+use Rattle.sequences.proofs.Demand.{sequence_history, sure_holds}
 use Rattle.sequences.proofs.Most.{by_plan, tune_by_plan}
-use Rattle.sequences.proofs.Stands.{Long, control-there, divider-there, high-there, long_run, low-there, plainly, repaired, whole-there}
+use Rattle.sequences.proofs.Stands.{Long, control_there, divider_there, high_there, long_run, low_there, plainly, repaired, whole_there}
 
 -- ---- a call that is answered done
 
@@ -124,11 +124,11 @@ tune_leaves : (os : List ℕ) (address : ℕ) (kind : Kind) (notch : Bool) (p : 
     → Leaves p (repaired address kind notch p hz rs) (run in_list os (tune_steps address kind notch (pll-variants.Planned p) hz rs) u).chip
 tune_leaves os address kind notch p hz rs u long going n s f =
     record {
-      divided = divider-there os address kind notch p hz rs u long going n;
-      control = control-there os address kind notch p hz rs u long going;
-      whole = whole-there os address kind notch p hz rs u long going s;
-      low = low-there os address kind notch p hz rs u long going;
-      high = high-there os address kind notch p hz rs u long going f;
+      divided = divider_there os address kind notch p hz rs u long going n;
+      control = control_there os address kind notch p hz rs u long going;
+      whole = whole_there os address kind notch p hz rs u long going s;
+      low = low_there os address kind notch p hz rs u long going;
+      high = high_there os address kind notch p hz rs u long going f;
     }
 
 module _ (t : Tuner) (es : List Entry) (s : Sequence t es) where
@@ -147,7 +147,7 @@ module _ (t : Tuner) (es : List Entry) (s : Sequence t es) where
       let mine : Played (tuner_after k t).chip.address (es ++ entries k t) before now =
       subst (λ (a : ℕ). Played a (es ++ entries k t) before now) (sym there) played in
       let holds : (i : ℕ) → i < 27 → get_or tr.chip.doubtful i true ≡ false → now (5 + i) ≡ get_or tr.chip.shadow i 0 = (λ i l q.
-      sure-holds (tuner_after k t) (es ++ entries k t) (next t es s k g) before now mine i l (ap (λ (c : Chip). get_or c.doubtful i true) same ∙ q)
+      sure_holds (tuner_after k t) (es ++ entries k t) (next t es s k g) before now mine i l (ap (λ (c : Chip). get_or c.doubtful i true) same ∙ q)
       ∙ ap (λ (c : Chip). get_or c.shadow i 0) same) in
       record {
         divided = ap (λ (x : ℕ). x / 32) (holds 11 (omega arith) w.divided.1) ∙ w.divided.0;

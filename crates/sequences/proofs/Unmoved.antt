@@ -14,7 +14,7 @@ use Rattle.attempts.specs.Namings as any
 use Rattle.attempts.specs.Namings.Last.{Never}
 use Rattle.attempts.proofs.Named.{below_first, other_kind, past_last}
 use Rattle.attempts.proofs.Lasts.{known, last_append, last_known, last_same}
-use Rattle.attempts.proofs.Played.{last-never}
+use Rattle.attempts.proofs.Played.{last_never}
 use Rattle.board.specs.declared.Path.{Path}
 use Rattle.board.specs.declared.Path.TheVariants.{Hf, Vhf, Uhf}
 use Rattle.board.specs.declared.PathRead.{PathRead}
@@ -206,13 +206,13 @@ module _ (t : Tuner) (es : List Entry) (s : Sequence t es) (k : Call) (g : given
   -- on every chip on which its entries were played
   module _ (now after : Regs) (played : Played t.chip.address (entries k t) now after) where
     pub unmoved : (r : ℕ) → stands_by r ≡ true → after r ≡ now r
-    unmoved r five = last-never (tuner_at t.chip.address) (entries k t) now after played r (never r five)
+    unmoved r five = last_never (tuner_at t.chip.address) (entries k t) now after played r (never r five)
 
-    pub unmoved-hz : (reference : ℕ) → hz_in reference after ≡ hz_in reference now
-    unmoved-hz reference = same_hz reference after now unmoved
+    pub unmoved_hz : (reference : ℕ) → hz_in reference after ≡ hz_in reference now
+    unmoved_hz reference = same_hz reference after now unmoved
 
-    pub unmoved-within : (lo reference : ℕ) → Within lo reference now → Within lo reference after
-    unmoved-within lo reference = same_within reference now after (λ r five. sym (unmoved r five)) lo
+    pub unmoved_within : (lo reference : ℕ) → Within lo reference now → Within lo reference after
+    unmoved_within lo reference = same_within reference now after (λ r five. sym (unmoved r five)) lo
 
   -- and by the record: neither byte nor doubt changes
   same_address : (tuner_after k t).chip.address ≡ t.chip.address
@@ -269,7 +269,7 @@ beside_never address r os ss c g = run_keeps os (λ (u : Trace). last_in address
 pub aside_unmoved : (a : Aside) → aside_given a.other ≡ true → (address : ℕ) (now after : Regs) → Played address (aside_entries a) now after → (r : ℕ)
     → after r ≡ now r
 unfolding any.last_from
-aside_unmoved a g address now after played r = last-never (tuner_at address) (aside_entries a) now after played r (go (eqb (aside_asked a).number 0))
+aside_unmoved a g address now after played r = last_never (tuner_at address) (aside_entries a) now after played r (go (eqb (aside_asked a).number 0))
   where
     steps : every beside (aside_asked a).steps ≡ true
     steps =

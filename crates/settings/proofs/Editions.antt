@@ -28,9 +28,9 @@ module _ (s : List ℕ) (refusal : ℕ) (e : refusal ≡ trailer_refusal 2 23 s)
   by_refusal2 h = rw (← e) (by_trailers refused2 refusal (field_refusal (found2 s).settings) (read2 0 (found2 s)) h)
 
   module _ (v : Settings) (field : ℕ) (z : refusal ≡ 0) (ev : v ≡ (found2 s).settings) (ef : field ≡ field_refusal v) where
-    pub by-field2 : (field ≡ 0 → ⊥) → refused2 field ≡ only_of2 s
+    pub by_field2 : (field ≡ 0 → ⊥) → refused2 field ≡ only_of2 s
     unfolding only_of2
-    by-field2 h = rw (← e, ← ev, ← ef) (by_fields refused2 refusal field (read2 0 (wider v (found2 s).ifreq)) z h)
+    by_field2 h = rw (← e, ← ev, ← ef) (by_fields refused2 refusal field (read2 0 (wider v (found2 s).ifreq)) z h)
 
     pub taken2 : (n : ℕ) → n ≡ (found2 s).ifreq → field ≡ 0 → read2 0 (wider v n) ≡ only_of2 s
     unfolding only_of2

@@ -77,23 +77,23 @@ module _ (t : Tuner) (es : List Entry) (s : Sequence t es) (hz : ℕ) where
     abbrev x : Tuner
     x = tuner_after (reloading os' room') w
 
-    abbrev up-to-here : List Entry
-    up-to-here = (es ++ entries hop t) ++ entries (reloading os' room') w
+    abbrev up_to_here : List Entry
+    up_to_here = (es ++ entries hop t) ++ entries (reloading os' room') w
 
     pub again_on_station_hop : (rs'' : List ℕ) (d'' : Driver) (os'' room'' : List ℕ) → given (BoardTune hz table rs'' d'') x ≡ true
         → is_done (result (call (BoardTune hz table rs'' d'') os'' room'') x).answer ≡ true
         → fine_of (get_or (drop (path_replies t.kind (plan_by table hz).plan.path) rs'') 4 0) ≡ power_of t.kind
         → (before now : Regs)
-        → Played t.chip.address (up-to-here ++ entries (call (BoardTune hz table rs'' d'') os'' room'') x) before now
+        → Played t.chip.address (up_to_here ++ entries (call (BoardTune hz table rs'' d'') os'' room'') x) before now
         → Within ((plan_by table hz).plan.hz + t.ifreq) t.corrected now
     unfolding every
     again_on_station_hop rs'' d'' os'' room'' h done fine before now played =
         let same : Same t x = same_then t w x (hop_same t os room hz table rs d) (reload_same w os' room') in
-        let before_it : Sequence x up-to-here =
+        let before_it : Sequence x up_to_here =
         next w (es ++ entries hop t) (next t es s hop g) (reloading os' room') refl in
-        let there = subst (λ (a : ℕ). Played a (up-to-here ++ entries (call (BoardTune hz table rs'' d'') os'' room'') x) before now)
+        let there = subst (λ (a : ℕ). Played a (up_to_here ++ entries (call (BoardTune hz table rs'' d'') os'' room'') x) before now)
         (sym same.address) played in
         let status : fine_of (get_or (drop (path_replies x.kind (plan_by table hz).plan.path) rs'') 4 0) ≡ power_of x.kind =
         subst (λ (k : Kind). fine_of (get_or (drop (path_replies k (plan_by table hz).plan.path) rs'') 4 0) ≡ power_of k) (sym same.kind) fine in
-        let on = on_station_hop x up-to-here before_it hz table rs'' d'' os'' room'' h done status before now there in
+        let on = on_station_hop x up_to_here before_it hz table rs'' d'' os'' room'' h done status before now there in
         at_first t x (plan_by table hz).plan.hz same now on

@@ -46,7 +46,7 @@ use Rattle.evidence.specs.Demodulator.{Place, demodulator, last_at, place}
 use Rattle.evidence.specs.Evidence.{if_mark, if_places, if_word, lasts}
 use Rattle.evidence.proofs.Marks.{sure_exactly}
 use Rattle.evidence.proofs.Quiet.{Silent, silent_append, silent_none}
-use Rattle.evidence.proofs.Rates.{if-high, if-low, if-mid}
+use Rattle.evidence.proofs.Rates.{if_high, if_low, if_mid}
 use Rattle.stations.specs.Between.{Between, moves_if}
 use Rattle.stations.specs.Between.Between.{start, later, beside}
 use Rattle.stations.specs.Centre.{Centred}
@@ -112,24 +112,24 @@ module _ (t : Tuner) (rate : ℕ) (table : List ℕ) (d : Driver) (os room : Lis
     value = if_value_of offset (xtal_of d)
 
     high : last_at all 0x19 ≡ Tried (value / 2 ^ 16 % 2 ^ 8) true
-    high = told 0x19 (value / 2 ^ 16 % 2 ^ 8) silent.high (if-high os offset rate (xtal_of d) inverted t.chip (rate_went h).1 es)
+    high = told 0x19 (value / 2 ^ 16 % 2 ^ 8) silent.high (if_high os offset rate (xtal_of d) inverted t.chip (rate_went h).1 es)
 
     mid : last_at all 0x1a ≡ Tried (value / 2 ^ 8 % 2 ^ 8 % 2 ^ 8) true
-    mid = told 0x1a (value / 2 ^ 8 % 2 ^ 8 % 2 ^ 8) silent.mid (if-mid os offset rate (xtal_of d) inverted t.chip (rate_went h).1 es)
+    mid = told 0x1a (value / 2 ^ 8 % 2 ^ 8 % 2 ^ 8) silent.mid (if_mid os offset rate (xtal_of d) inverted t.chip (rate_went h).1 es)
 
     low : last_at all 0x1b ≡ Tried (value % 2 ^ 8 % 2 ^ 8) true
-    low = told 0x1b (value % 2 ^ 8 % 2 ^ 8) silent.low (if-low os offset rate (xtal_of d) inverted t.chip (rate_went h).1 es)
+    low = told 0x1b (value % 2 ^ 8 % 2 ^ 8) silent.low (if_low os offset rate (xtal_of d) inverted t.chip (rate_went h).1 es)
 
     -- so its mark is sure
-    pub if-sure : if_mark all ≡ 2
-    if-sure =
+    pub if_sure_lem : if_mark all ≡ 2
+    if_sure_lem =
         (sure_exactly (lasts (last_at all) if_places)).1
         ((value / 2 ^ 16 % 2 ^ 8, high), ((value / 2 ^ 8 % 2 ^ 8 % 2 ^ 8, mid), ((value % 2 ^ 8 % 2 ^ 8, low), tt)))
 
     -- and every demodulator stands at the rate's IF
-    pub if-stands : offset < xtal_of d → (before now : Place → ℕ) → Played demodulator all before now
+    pub if_stands : offset < xtal_of d → (before now : Place → ℕ) → Played demodulator all before now
         → negated_of (if_word (λ r. now (place 1 r))) ≡ if_ratio_of offset (xtal_of d)
-    if-stands small before now played =
+    if_stands small before now played =
         stands_for offset (xtal_of d) (now (place 1 0x19)) (now (place 1 0x1a)) (now (place 1 0x1b)) (step_few offset (xtal_of d) small)
         (last_done demodulator all before now played (place 1 0x19) (value / 2 ^ 16 % 2 ^ 8) high)
         (last_done demodulator all before now played (place 1 0x1a) (value / 2 ^ 8 % 2 ^ 8 % 2 ^ 8) mid)
@@ -155,23 +155,23 @@ module _ (t : Tuner) (rate : ℕ) (table : List ℕ) (d : Driver) (os room : Lis
     abbrev since : Call → List Entry
     since k = gs ++ entries k u
 
-    since-silent : (k : Call) → moves_if k.order ≡ false → Silent (since k)
-    since-silent k still = silent_append gs (entries k u) (between_silent (tuner_after rated t) u gs between) (silent_call k u still)
+    since_silent : (k : Call) → moves_if k.order ≡ false → Silent (since k)
+    since_silent k still = silent_append gs (entries k u) (between_silent (tuner_after rated t) u gs between) (silent_call k u still)
 
     join : (k : Call) → so_far ++ entries k u ≡ (es ++ entries rated t) ++ since k
     join k = append_assoc (es ++ entries rated t) gs (entries k u)
 
     -- so the IF's mark is sure at its end
-    pub if-sure-by : (k : Call) → moves_if k.order ≡ false → if_mark (so_far ++ entries k u) ≡ 2
-    if-sure-by k still = ap if_mark (join k) ∙ if-sure h es (since k) (since-silent k still)
+    pub if_sure_by : (k : Call) → moves_if k.order ≡ false → if_mark (so_far ++ entries k u) ≡ 2
+    if_sure_by k still = ap if_mark (join k) ∙ if_sure_lem h es (since k) (since_silent k still)
 
     -- a call that moves no IF and leaves the oscillator at f + IF
-    pub centre-by : (k : Call) → moves_if k.order ≡ false → (f : ℕ) (reg : Bytes) → Within (f + u.ifreq) u.corrected reg
+    pub centre_by_lem : (k : Call) → moves_if k.order ≡ false → (f : ℕ) (reg : Bytes) → Within (f + u.ifreq) u.corrected reg
         → (was is : Place → ℕ) → Played demodulator (so_far ++ entries k u) was is
         → Centred f u.corrected (xtal_of d) (negated_of (if_word (λ r. is (place 1 r)))) reg
-    centre-by k still f reg near was is demod =
+    centre_by_lem k still f reg near was is demod =
         let v : negated_of (if_word (λ r. is (place 1 r))) ≡ if_ratio_of offset (xtal_of d) =
-        if-stands h es (since k) (since-silent k still) small was is (subst (λ (l : List Entry). Played demodulator l was is) (join k) demod) in
+        if_stands h es (since k) (since_silent k still) small was is (subst (λ (l : List Entry). Played demodulator l was is) (join k) demod) in
         let same : u.ifreq ≡ offset = between_if (tuner_after rated t) u gs between ∙ rate_if h in
         subst (λ (x : ℕ). Centred f u.corrected (xtal_of d) x reg) (sym v)
         (centred f offset u.corrected (xtal_of d) (if_ratio_of offset (xtal_of d)) reg (subst (λ (i : ℕ). Within (f + i) u.corrected reg) same near)
@@ -179,23 +179,23 @@ module _ (t : Tuner) (rate : ℕ) (table : List ℕ) (d : Driver) (os room : Lis
 
     -- "A recording filed under the wrong transmitter": after any sequence of calls a rate answered done, calls that move no IF, a tune answered done
     -- without a repair
-    pub on-centre : (hz : ℕ) (rs os' room' : List ℕ) → given (Tuned (Tune hz rs)) u ≡ true
+    pub on_centre : (hz : ℕ) (rs os' room' : List ℕ) → given (Tuned (Tune hz rs)) u ≡ true
         → is_done (result (call (Tuned (Tune hz rs)) os' room') u).answer ≡ true
         → fine_of (get_or rs 4 0) ≡ power_of u.kind
         → (before now : Regs) → chip.Played u.chip.address (so_far ++ entries (call (Tuned (Tune hz rs)) os' room') u) before now
         → (was is : Place → ℕ) → Played demodulator (so_far ++ entries (call (Tuned (Tune hz rs)) os' room') u) was is
         → Centred hz u.corrected (xtal_of d) (negated_of (if_word (λ r. is (place 1 r)))) now
-    on-centre hz rs os' room' g done fine before now played =
-        centre-by (call (Tuned (Tune hz rs)) os' room') refl hz now
+    on_centre hz rs os' room' g done fine before now played =
+        centre_by_lem (call (Tuned (Tune hz rs)) os' room') refl hz now
         (on_station u so_far whole hz rs os' room' g done fine before now played)
 
     -- and a board-level tune: its tuner's frequency is the plan's
-    pub on-centre-board : (hz : ℕ) (lines rs : List ℕ) (e : Driver) (os' room' : List ℕ) → given (BoardTune hz lines rs e) u ≡ true
+    pub on_centre_board : (hz : ℕ) (lines rs : List ℕ) (e : Driver) (os' room' : List ℕ) → given (BoardTune hz lines rs e) u ≡ true
         → is_done (result (call (BoardTune hz lines rs e) os' room') u).answer ≡ true
         → fine_of (get_or (drop (path_replies u.kind (plan_by lines hz).plan.path) rs) 4 0) ≡ power_of u.kind
         → (before now : Regs) → chip.Played u.chip.address (so_far ++ entries (call (BoardTune hz lines rs e) os' room') u) before now
         → (was is : Place → ℕ) → Played demodulator (so_far ++ entries (call (BoardTune hz lines rs e) os' room') u) was is
         → Centred (plan_by lines hz).plan.hz u.corrected (xtal_of d) (negated_of (if_word (λ r. is (place 1 r)))) now
-    on-centre-board hz lines rs e os' room' g done fine before now played =
-        centre-by (call (BoardTune hz lines rs e) os' room') refl (plan_by lines hz).plan.hz now
+    on_centre_board hz lines rs e os' room' g done fine before now played =
+        centre_by_lem (call (BoardTune hz lines rs e) os' room') refl (plan_by lines hz).plan.hz now
         (on_station_hop u so_far whole hz lines rs e os' room' g done fine before now played)

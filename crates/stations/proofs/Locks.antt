@@ -38,7 +38,7 @@ use Rattle.sequences.proofs.Tried.{board_told_when_done, told_when_done}
 use Rattle.sequences.proofs.Tunings.{by_hop, hop_by_plan, is_done, went}
 use Rattle.evidence.proofs.Heard.{Heard, heard, heard_append, heard_none, heard_from}
 use Rattle.stations.specs.Locks.{LockTold}
-use Rattle.stations.proofs.Waits.{at-tune, effects, effects_app, ended, run-heard}
+use Rattle.stations.proofs.Waits.{at_tune, effects, effects_app, ended, run_heard}
 
 -- a call answered done has a value
 value_of : (a : Answer) → is_done a ≡ true → (value : ℕ) × (a ≡ Done value)
@@ -53,7 +53,7 @@ module _ (address : ℕ) (os : List ℕ) (ss : List Step) (c : Chip) (there : c.
   heard_call =
       let h : Heard = heard_from address (heard 0 0) es in
       heard_append address (heard 0 0) es (trace os ss c).log
-      ∙ run-heard address os h ss (line c [] 0 Going false) there going
+      ∙ run_heard address os h ss (line c [] 0 Going false) there going
       ∙ ap (effects address ss) (heard_none address h)
 
 told_by_lem : (address : ℕ) (es : List Entry) (w told : LockTries) → heard_from address (heard 0 0) es ≡ ended w → told ≡ w → LockTold address told es
@@ -86,7 +86,7 @@ module _ (t : Tuner) (hz : ℕ) (rs os room : List ℕ) where
           told_by_lem t.chip.address (es ++ entries (call (Tuned (Tune hz rs)) os room) t) (waited_from rs 10 0) (lock_tries_of (Tune hz rs) os t room)
           (ap (λ (l : List Entry). heard_from t.chip.address (heard 0 0) (es ++ l)) log
           ∙ heard_call t.chip.address os ss t.chip refl w.going es
-          ∙ at-tune t.chip.address rs t.kind t.notch p hz (heard_from t.chip.address (heard 0 0) es))
+          ∙ at_tune t.chip.address rs t.kind t.notch p hz (heard_from t.chip.address (heard 0 0) es))
           (told_when_done hz told.0 rs os room t told.1)
 
 module _ (t : Tuner) (hz : ℕ) (table rs : List ℕ) (d : Driver) (os room : List ℕ) where
@@ -132,5 +132,5 @@ module _ (t : Tuner) (hz : ℕ) (table rs : List ℕ) (d : Driver) (os room : Li
           ∙ effects_app address pre (ss ++ post) x
           ∙ effects_app address ss post (effects address pre x)
           ∙ at_ddc at.plan.inverted (effects address ss (effects address pre x))
-          ∙ at-tune address left t.kind at.plan.notch p at.plan.hz (effects address pre x))
+          ∙ at_tune address left t.kind at.plan.notch p at.plan.hz (effects address pre x))
           (board_told_when_done hz told.0 table rs os room d t told.1)

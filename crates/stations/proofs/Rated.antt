@@ -38,15 +38,15 @@ rate_told t rate table d os room h es =
     by going =
         let hz : ℕ = if_for t.ifreq rate in
         let all : List Entry = es ++ (trace os (steps t rate table d os room) t.chip).log in
-        let ddc = rates.ddc-told os hz rate (xtal_of d) inverted t.chip going es in
+        let ddc = rates.ddc_told os hz rate (xtal_of d) inverted t.chip going es in
         record {
-          rate_mark_lem = rates.rate-sure os hz rate (xtal_of d) inverted t.chip going es;
+          rate_mark_lem = rates.rate_sure os hz rate (xtal_of d) inverted t.chip going es;
           told = rates.rate_told os hz rate (xtal_of d) inverted t.chip going es;
           if_mark_lem = (sure_exactly (lasts (last_at all) if_places)).1 (
-            (_, rates.if-high os hz rate (xtal_of d) inverted t.chip going es),
+            (_, rates.if_high os hz rate (xtal_of d) inverted t.chip going es),
             (
-              (_, rates.if-mid os hz rate (xtal_of d) inverted t.chip going es),
-              ((_, rates.if-low os hz rate (xtal_of d) inverted t.chip going es), tt),
+              (_, rates.if_mid os hz rate (xtal_of d) inverted t.chip going es),
+              ((_, rates.if_low os hz rate (xtal_of d) inverted t.chip going es), tt),
             ),
           );
           ddc_mark_lem = ap mark_of ddc;

@@ -37,9 +37,9 @@ module _ (t : Tuner) (es : List Entry) (s : Sequence t es) (os room : List ℕ) 
 
   module _ (done : (result reload t).answer ≡ Done 0) where
     -- on every chip, whatever was in doubt
-    pub reload-stands : (before after : Regs) → Played t.chip.address (es ++ entries reload t) before after
+    pub reload_stands : (before after : Regs) → Played t.chip.address (es ++ entries reload t) before after
         → (r : ℕ) → stands_by r ≡ true → after r ≡ attempted_at t.chip r
-    reload-stands before after played =
+    reload_stands before after played =
         let at : (i : ℕ) → i < 27 → after (5 + i) ≡ get_or t.chip.shadow i 0 = (λ i l.
         (reload_done t es s os room done before after played i l).holds ∙ sym (shadow_last t es s i l)) in
         each_five (λ r. after r ≡ attempted_at t.chip r) (at 11 (omega arith)) (at 13 (omega arith)) (at 15 (omega arith)) (at 16 (omega arith))
@@ -48,34 +48,34 @@ module _ (t : Tuner) (es : List Entry) (s : Sequence t es) (os room : List ℕ) 
     kept_where_sure : unsure t.chip ≡ false → (before now after : Regs) → Played t.chip.address es before now → Played t.chip.address (entries reload t) now after
         → (r : ℕ) → stands_by r ≡ true → after r ≡ now r
     kept_where_sure sure before now after played again r five =
-        reload-stands before after (played_append (tuner_at t.chip.address) es (entries reload t) before now after played again) r five
+        reload_stands before after (played_append (tuner_at t.chip.address) es (entries reload t) before now after played again) r five
         ∙ sym (holds_five t es s before now played sure r five)
 
     -- where none of the five was in doubt it stays, on every chip
     module _ (sure : unsure t.chip ≡ false) (before now after : Regs) (played : Played t.chip.address es before now)
         (again : Played t.chip.address (entries reload t) now after) where
-      pub reload-keeps : (r : ℕ) → stands_by r ≡ true → after r ≡ now r
-      reload-keeps = kept_where_sure sure before now after played again
+      pub reload_keeps_lem : (r : ℕ) → stands_by r ≡ true → after r ≡ now r
+      reload_keeps_lem = kept_where_sure sure before now after played again
 
-      pub reload-keeps-vco : (reference : ℕ) → vco_in reference after ≡ vco_in reference now
-      reload-keeps-vco reference = same_vco reference after now (kept_where_sure sure before now after played again)
+      pub reload_keeps_vco_lem : (reference : ℕ) → vco_in reference after ≡ vco_in reference now
+      reload_keeps_vco_lem reference = same_vco reference after now (kept_where_sure sure before now after played again)
 
-      pub reload-keeps-hz : (reference : ℕ) → hz_in reference after ≡ hz_in reference now
-      reload-keeps-hz reference = same_hz reference after now (kept_where_sure sure before now after played again)
+      pub reload_keeps_hz_lem : (reference : ℕ) → hz_in reference after ≡ hz_in reference now
+      reload_keeps_hz_lem reference = same_hz reference after now (kept_where_sure sure before now after played again)
 
-      pub reload-keeps-within : (lo reference : ℕ) → Within lo reference now → Within lo reference after
-      reload-keeps-within lo reference = same_within reference now after (λ r five. sym (kept_where_sure sure before now after played again r five)) lo
+      pub reload_keeps_within : (lo reference : ℕ) → Within lo reference now → Within lo reference after
+      reload_keeps_within lo reference = same_within reference now after (λ r five. sym (kept_where_sure sure before now after played again r five)) lo
 
     -- ---- and by the record
 
-    was-sound : sound t ≡ true
+    was_sound : sound t ≡ true
     unfolding tuner.result_of left_by
-    was-sound = accepted (sound t) 0 9 0 (length room) (length os) 0 (went _ (Done 0) os _ t.chip _ t room (ap is_done done)).1.taken_up
+    was_sound = accepted (sound t) 0 9 0 (length room) (length os) 0 (went _ (Done 0) os _ t.chip _ t room (ap is_done done)).1.taken_up
 
     -- whatever was in doubt before, it tells the oscillator by the bytes last attempted
-    pub reload-told : oscillator_of (tuner_after reload t) ≡ Done (hz_in t.corrected (attempted_at t.chip))
+    pub reload_told : oscillator_of (tuner_after reload t) ≡ Done (hz_in t.corrected (attempted_at t.chip))
     unfolding every
-    reload-told =
+    reload_told =
         let u : Tuner = tuner_after reload t in
         let same : Same t u = reload_same t os room in
         let chip = some_chip u (es ++ entries reload t) (next t es s reload refl) (λ r. 0) in
@@ -90,9 +90,9 @@ module _ (t : Tuner) (es : List Entry) (s : Sequence t es) (os room : List ℕ) 
         each_five (λ r. attempted_at t.chip r ≡ attempted_at u.chip r) (byte 11 (omega arith)) (byte 13 (omega arith)) (byte 15 (omega arith))
         (byte 16 (omega arith)) (byte 17 (omega arith)) in
         sym
-        (told u (hz_in t.corrected (attempted_at t.chip)) ((λ i. sound_by (same.nominal i) (same.corrected i)) ∙ was-sound) none
+        (told u (hz_in t.corrected (attempted_at t.chip)) ((λ i. sound_by (same.nominal i) (same.corrected i)) ∙ was_sound) none
         (ap (λ (r : ℕ). hz_in r (attempted_at t.chip)) (sym same.corrected) ∙ same_hz u.corrected (attempted_at t.chip) (attempted_at u.chip) five))
 
     -- so of a record in which none of the five is in doubt it tells what was told before
-    pub reload-keeps-told : unsure t.chip ≡ false → oscillator_of (tuner_after reload t) ≡ oscillator_of t
-    reload-keeps-told sure = reload-told ∙ told t (hz_in t.corrected (attempted_at t.chip)) was-sound sure refl
+    pub reload_keeps_told : unsure t.chip ≡ false → oscillator_of (tuner_after reload t) ≡ oscillator_of t
+    reload_keeps_told sure = reload_told ∙ told t (hz_in t.corrected (attempted_at t.chip)) was_sound sure refl

@@ -15,7 +15,7 @@ use Rattle.driver.specs.declared.Driver.{Driver}
 use Rattle.oscillator.specs.Bounds.{ByStatus}
 use Rattle.oscillator.specs.Registers.{Bytes}
 use Rattle.oscillator.proofs.Oscillator.{Says}
-use Rattle.oscillator.proofs.Repaired.{by-status}
+use Rattle.oscillator.proofs.Repaired.{by_status}
 use Rattle.pll.specs.declared.Kind.{Kind}
 use Rattle.pll.specs.declared.Plan.{Plan}
 use Rattle.pll.specs.declared.Pll.TheVariants as pll-variants
@@ -35,7 +35,7 @@ unfolding repaired
 at_status address kind notch hz rs lo r p is reg says =
     let power : ℕ = power_of kind in
     let fine : ℕ = fine_of (get_or rs 4 0) in
-    by-status kind lo r p is (repaired address kind notch p hz rs) reg says power fine
+    by_status kind lo r p is (repaired address kind notch p hz rs) reg says power fine
     (λ e. rw (le-ltb power fine (omega (arith, e)), le-ltb fine power (omega (arith, e))))
     (λ h. rw (lt-ltb power fine h))
     (λ h. rw (le-ltb power fine (omega (arith, h)), lt-ltb fine power h))

@@ -55,8 +55,8 @@ module _ (t : Tuner) (es : List Entry) (s : Sequence t es) where
       (subst (λ (n : ℕ). Says w.0 n now)
       (same_number t.chip.address t.kind at.notch w.0 at.hz (drop (path_replies t.kind at.path) rs) fine) w.2)
 
-  law-exact : t.corrected ≡ 28_800_000 → Law 2_757 1_243
-  law-exact exact lo p is reg says =
+  law_exact : t.corrected ≡ 28_800_000 → Law 2_757 1_243
+  law_exact exact lo p is reg says =
       subst (λ (r : ℕ). Around 2_757 1_243 lo r reg) (sym exact)
       (exactly.around t.kind lo p (subst (λ (r : ℕ). plan_of t.kind lo r ≡ Planned p) exact is) reg says)
 
@@ -66,29 +66,29 @@ module _ (t : Tuner) (es : List Entry) (s : Sequence t es) where
         → fine_of (get_or rs 4 0) ≡ power_of t.kind
         → (before now : Regs) → Played t.chip.address (es ++ entries (call (Tuned (Tune hz rs)) os room) t) before now
         → Around 2_757 1_243 (hz + t.ifreq) t.corrected now
-    nearer = tune_by 2_757 1_243 (law-exact exact)
+    nearer = tune_by 2_757 1_243 (law_exact exact)
 
-    pub nearer-hop : (hz : ℕ) (table rs : List ℕ) (d : Driver) (os room : List ℕ) → given (BoardTune hz table rs d) t ≡ true
+    pub nearer_hop : (hz : ℕ) (table rs : List ℕ) (d : Driver) (os room : List ℕ) → given (BoardTune hz table rs d) t ≡ true
         → is_done (result (call (BoardTune hz table rs d) os room) t).answer ≡ true
         → fine_of (get_or (drop (path_replies t.kind (plan_by table hz).plan.path) rs) 4 0) ≡ power_of t.kind
         → (before now : Regs) → Played t.chip.address (es ++ entries (call (BoardTune hz table rs d) os room) t) before now
         → Around 2_757 1_243 ((plan_by table hz).plan.hz + t.ifreq) t.corrected now
-    nearer-hop = hop_by 2_757 1_243 (law-exact exact)
+    nearer_hop = hop_by 2_757 1_243 (law_exact exact)
 
   module _ (thousand : t.corrected % 1000 ≡ 0) (small : t.corrected < 32_768_000) where
-    law-thousand : Law 17_999 16_000
-    law-thousand lo p is reg says = thousands.around t.kind lo t.corrected thousand small p is reg says
+    law_thousand : Law 17_999 16_000
+    law_thousand lo p is reg says = thousands.around t.kind lo t.corrected thousand small p is reg says
 
-    pub near-thousand : (hz : ℕ) (rs os room : List ℕ) → given (Tuned (Tune hz rs)) t ≡ true
+    pub near_thousand : (hz : ℕ) (rs os room : List ℕ) → given (Tuned (Tune hz rs)) t ≡ true
         → is_done (result (call (Tuned (Tune hz rs)) os room) t).answer ≡ true
         → fine_of (get_or rs 4 0) ≡ power_of t.kind
         → (before now : Regs) → Played t.chip.address (es ++ entries (call (Tuned (Tune hz rs)) os room) t) before now
         → Around 17_999 16_000 (hz + t.ifreq) t.corrected now
-    near-thousand = tune_by 17_999 16_000 law-thousand
+    near_thousand = tune_by 17_999 16_000 law_thousand
 
-    pub near-thousand-hop : (hz : ℕ) (table rs : List ℕ) (d : Driver) (os room : List ℕ) → given (BoardTune hz table rs d) t ≡ true
+    pub near_thousand_hop : (hz : ℕ) (table rs : List ℕ) (d : Driver) (os room : List ℕ) → given (BoardTune hz table rs d) t ≡ true
         → is_done (result (call (BoardTune hz table rs d) os room) t).answer ≡ true
         → fine_of (get_or (drop (path_replies t.kind (plan_by table hz).plan.path) rs) 4 0) ≡ power_of t.kind
         → (before now : Regs) → Played t.chip.address (es ++ entries (call (BoardTune hz table rs d) os room) t) before now
         → Around 17_999 16_000 ((plan_by table hz).plan.hz + t.ifreq) t.corrected now
-    near-thousand-hop = hop_by 17_999 16_000 law-thousand
+    near_thousand_hop = hop_by 17_999 16_000 law_thousand

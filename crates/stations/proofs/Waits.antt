@@ -89,9 +89,9 @@ module _ (address : ℕ) where
       at : Trace → Heard
       at u = heard_from address h u.log
 
-      done-step : (s : Step) (u : Trace) → acts s u.progress u.opened ≡ true → ok_for os u.count s ≡ true → u.chip.address ≡ address
+      done_step : (s : Step) (u : Trace) → acts s u.progress u.opened ≡ true → ok_for os u.count s ≡ true → u.chip.address ≡ address
           → heard_from address h (step in_list os s u).log ≡ effect s (heard_from address h u.log)
-      done-step s u active-here ok e =
+      done_step s u active-here ok e =
           sym (ap (λ (w : Trace). heard_from address h w.log) (active in_list os s u active-here))
           ∙ ap (λ (b : Bool). heard_from address h (u.log ++ (emit s u.chip b ∷ []))) ok
           ∙ heard_snoc address h u.log (emit s u.chip true)
@@ -107,7 +107,7 @@ module _ (address : ℕ) where
           let ok : ok_for os u.count s ≡ true =
           done_by (ok_for os u.count s) u.count
           (sym (told (ok_for os u.count s) u.progress) ∙ ap (λ (w : Trace). w.progress) (active in_list os s u active-here) ∙ g) in
-          done-step s u active-here ok e
+          done_step s u active-here ok e
 
       close_step : (u : Trace) → heard_from address h (step in_list os Close u).log ≡ heard_from address h u.log
       unfolding step
@@ -117,22 +117,22 @@ module _ (address : ℕ) where
           go true = heard_snoc address h u.log (repeater 0 (ok_for os u.count Close)) ∙ closing (ok_for os u.count Close) (heard_from address h u.log)
           go false = refl
 
-      one-step : (s : Step) (u : Trace) → u.chip.address ≡ address → (step in_list os s u).progress ≡ Going
+      one_step : (s : Step) (u : Trace) → u.chip.address ≡ address → (step in_list os s u).progress ≡ Going
           → heard_from address h (step in_list os s u).log ≡ effect s (heard_from address h u.log)
-      one-step Open u = plain_step Open u (λ p o. refl) (λ ok p. refl)
-      one-step Close u = λ e g. close_step u
-      one-step (Send n bytes) u = plain_step (Send n bytes) u (λ p o. refl) (λ ok p. refl)
-      one-step (Mask r v m) u = plain_step (Mask r v m) u (λ p o. refl) (λ ok p. refl)
-      one-step (Plain x) u = plain_step (Plain x) u (λ p o. refl) (λ ok p. refl)
+      one_step Open u = plain_step Open u (λ p o. refl) (λ ok p. refl)
+      one_step Close u = λ e g. close_step u
+      one_step (Send n bytes) u = plain_step (Send n bytes) u (λ p o. refl) (λ ok p. refl)
+      one_step (Mask r v m) u = plain_step (Mask r v m) u (λ p o. refl) (λ ok p. refl)
+      one_step (Plain x) u = plain_step (Plain x) u (λ p o. refl) (λ ok p. refl)
 
-      pub run-heard : (ss : List Step) (u : Trace) → u.chip.address ≡ address → (run in_list os ss u).progress ≡ Going
+      pub run_heard : (ss : List Step) (u : Trace) → u.chip.address ≡ address → (run in_list os ss u).progress ≡ Going
           → heard_from address h (run in_list os ss u).log ≡ effects ss (heard_from address h u.log)
       unfolding run
-      run-heard [] u e g = refl
-      run-heard (s ∷ ss) u e g =
+      run_heard [] u e g = refl
+      run_heard (s ∷ ss) u e g =
           let next : Trace = step in_list os s u in
-          run-heard ss next (step_address in_list os s u ∙ e) g
-          ∙ ap (effects ss) (one-step s u e (going_before os ss next g))
+          run_heard ss next (step_address in_list os s u ∙ e) g
+          ∙ ap (effects ss) (one_step s u e (going_before os ss next g))
 
   -- ---- a tuning's steps
 
@@ -148,9 +148,9 @@ module _ (address : ℕ) where
     unfolding names
     at_status h = at_pointer h
 
-    at-try : (i : ℕ) (h : Heard) → effects (try_read address rs i) h ≡ heard (cond (locks_at rs i) 2 1) (h.count + 1)
+    at_try : (i : ℕ) (h : Heard) → effects (try_read address rs i) h ≡ heard (cond (locks_at rs i) 2 1) (h.count + 1)
     unfolding names
-    at-try i h =
+    at_try i h =
         ap (effect (Plain (read_entry address 3 (reply_bytes rs (5 + 3 * i) 3)))) (at_pointer h)
         ∙ rw (eq-eqb address address refl, reply_bit rs i)
 
@@ -164,17 +164,17 @@ module _ (address : ℕ) where
         go false = refl
 
     -- tries from number i on: after two of them the mark is the last one's
-    at-tries : (left i : ℕ) (h : Heard) → h.count ≡ i → (2 ≤ i → h.mark ≡ 1) → 2 ≤ left + i → effects (tries_from address rs left i) h ≡ ended (waited_from rs left i)
+    at_tries : (left i : ℕ) (h : Heard) → h.count ≡ i → (2 ≤ i → h.mark ≡ 1) → 2 ≤ left + i → effects (tries_from address rs left i) h ≡ ended (waited_from rs left i)
     unfolding tries_from waited_from
-    at-tries zero i h count mark two =
+    at_tries zero i h count mark two =
         let one : h.mark ≡ 1 = mark (omega arith) in
         λ j. heard (one j) (count j)
-    at-tries (suc left) i h count mark two =
+    at_tries (suc left) i h count mark two =
         let more : List Step = tries_from address rs left (i + 1) in
         effects_app (try_read address rs i) (cond (locks_at rs i) (updates locked) (after_try i ++ more)) h
-        ∙ ap (effects (cond (locks_at rs i) (updates locked) (after_try i ++ more))) (at-try i h ∙ (λ j. heard (cond (locks_at rs i) 2 1) (count j + 1)))
+        ∙ ap (effects (cond (locks_at rs i) (updates locked) (after_try i ++ more))) (at_try i h ∙ (λ j. heard (cond (locks_at rs i) 2 1) (count j + 1)))
         ∙ turn i more (locks_at rs i) (waited_from rs left (i + 1))
-        (at-tries left (i + 1) (heard (cond (eqb i 0) 0 1) (i + 1)) refl (past i) (omega arith))
+        (at_tries left (i + 1) (heard (cond (eqb i 0) 0 1) (i + 1)) refl (past i) (omega arith))
       where
         past : (i : ℕ) → 2 ≤ i + 1 → ◌≡◌ {A = ℕ} (cond (eqb i 0) 0 1) 1
         past zero l = absurd (omega arith)
@@ -185,9 +185,9 @@ module _ (address : ℕ) where
         turn i more true end ih = refl
         turn i more false end ih = effects_app (after_try i) more (heard 1 (i + 1)) ∙ ap (effects more) (at_again i (heard 1 (i + 1))) ∙ ih
 
-    at-repair : (kind : Kind) (number byte : ℕ) → effects (updates (repair_updates kind number byte)) (heard 0 0) ≡ heard 0 0
+    at_repair : (kind : Kind) (number byte : ℕ) → effects (updates (repair_updates kind number byte)) (heard 0 0) ≡ heard 0 0
     unfolding repair_updates
-    at-repair kind number byte = go (ltb (power_of kind) (fine_of byte)) (ltb (fine_of byte) (power_of kind))
+    at_repair kind number byte = go (ltb (power_of kind) (fine_of byte)) (ltb (fine_of byte) (power_of kind))
       where
         go : (a b : Bool) → effects (updates (cond a (masked 0x10 ((number - 1) * 32) 0xe0 ∷ []) (cond b (masked 0x10 ((number + 1) * 32) 0xe0 ∷ []) []))) (heard 0 0) ≡ heard 0 0
         go true b = refl
@@ -195,10 +195,10 @@ module _ (address : ℕ) where
         go false false = refl
 
     -- whatever was heard before it
-    pub at-tune : (kind : Kind) (notch : Bool) (p : Plan) (hz : ℕ) (h : Heard)
+    pub at_tune : (kind : Kind) (notch : Bool) (p : Plan) (hz : ℕ) (h : Heard)
         → effects (tune_steps address kind notch (pll-variants.Planned p) hz rs) h ≡ ended (waited_from rs 10 0)
     unfolding inner_steps
-    at-tune kind notch p hz h =
+    at_tune kind notch p hz h =
         let mux : List Step = updates (mux_updates notch (range_of hz) ++ pll_updates p) in
         let status : List Step = status_steps address rs in
         let fix : List Step = updates (repair_updates kind p.number (get_or rs 4 0)) in
@@ -208,5 +208,5 @@ module _ (address : ℕ) where
         ∙ effects_app status (fix ++ tries) (heard 0 0)
         ∙ ap (effects (fix ++ tries)) (at_status (heard 0 0))
         ∙ effects_app fix tries (heard 0 0)
-        ∙ ap (effects tries) (at-repair kind p.number (get_or rs 4 0))
-        ∙ at-tries 10 0 (heard 0 0) refl (λ l. absurd (omega arith)) (omega arith)
+        ∙ ap (effects tries) (at_repair kind p.number (get_or rs 4 0))
+        ∙ at_tries 10 0 (heard 0 0) refl (λ l. absurd (omega arith)) (omega arith)

@@ -145,51 +145,51 @@ module _ (b chunk : List ℕ) (h : ℕ) (e : h ≡ pending_count b) where
   none_gathered n = rw (is_none b h e n)
 
   module _ (n : h ≡ 9 → ⊥) where
-    pub at-most-eight : h ≤ 8
-    at-most-eight = omega (arith, stream_held b (is_one b h e n).0, (is_one b h e n).1)
+    pub at_most_eight : h ≤ 8
+    at_most_eight = omega (arith, stream_held b (is_one b h e n).0, (is_one b h e n).1)
 
     pub nine_bytes : length b ≡ 9
     nine_bytes = stream_length b (is_one b h e n).0
 
-    pub pending-length : length (pending_of b) ≡ h
-    pending-length = simp (length-take, length-drop) (omega (arith, at-most-eight, nine_bytes, (is_one b h e n).1))
+    pub pending_length : length (pending_of b) ≡ h
+    pending_length = simp (length-take, length-drop) (omega (arith, at_most_eight, nine_bytes, (is_one b h e n).1))
 
     module _ (u : ℕ) (f : u ≡ cond (leb (9 - h) (length chunk)) (9 - h) (length chunk)) where
       pub used_bounds : (u ≤ length chunk) × (h + u ≤ 9)
       used_bounds = go (leb (9 - h) (length chunk)) refl
         where
           go : (t : Bool) → leb (9 - h) (length chunk) ≡ t → (u ≤ length chunk) × (h + u ≤ 9)
-          go true q = let v : u ≡ 9 - h = f ∙ rw q in (omega (arith, leb-true (9 - h) (length chunk) q, v), omega (arith, at-most-eight, v))
+          go true q = let v : u ≡ 9 - h = f ∙ rw q in (omega (arith, leb-true (9 - h) (length chunk) q, v), omega (arith, at_most_eight, v))
           go false q = let v : u ≡ length chunk = f ∙ rw q in (omega (arith, v), omega (arith, leb-false (9 - h) (length chunk) q, v))
 
-      pub used-is : u ≡ used_by (pending_of b) chunk
-      used-is = f ∙ rw (← pending-length)
+      pub used_is : u ≡ used_by (pending_of b) chunk
+      used_is = f ∙ rw (← pending_length)
 
       pub part_length : length (take u chunk) ≡ u
       part_length = length-take-le u chunk used_bounds.0
 
-      pub all-gathered : (x y : List ℕ) → x ≡ sets (replicate 9 0) 0 (take (1 + h - 1) (drop 1 b)) → y ≡ sets x h (take (u - 0) chunk)
+      pub all_gathered : (x y : List ℕ) → x ≡ sets (replicate 9 0) 0 (take (1 + h - 1) (drop 1 b)) → y ≡ sets x h (take (u - 0) chunk)
           → record { ok = true; used = u; count = h + u; bytes = y } ≡ gathered_of b chunk
       unfolding gathered_of
-      all-gathered x y ex ey =
+      all_gathered x y ex ey =
           let held : 1 + h - 1 ≡ get_or b 0 0 = omega (arith, (is_one b h e n).1) in
           let whole : u - 0 ≡ u = omega arith in
           let p : take (1 + h - 1) (drop 1 b) ≡ pending_of b = ap (λ (k : ℕ). take k (drop 1 b)) held in
-          let small : length (pending_of b) + length (take u chunk) ≤ 9 = omega (arith, pending-length, part_length, used_bounds.1) in
+          let small : length (pending_of b) + length (take u chunk) ≤ 9 = omega (arith, pending_length, part_length, used_bounds.1) in
           let bytes : y ≡ zero_padded 9 (gathered (pending_of b) chunk) =
           ey
           ∙ ap (λ (k : ℕ). sets x h (take k chunk)) whole
           ∙ ap (λ (z : List ℕ). sets z h (take u chunk)) (ex ∙ ap (sets (replicate 9 0) 0) p)
-          ∙ ap (λ (k : ℕ). sets (sets (replicate 9 0) 0 (pending_of b)) k (take u chunk)) (sym pending-length)
+          ∙ ap (λ (k : ℕ). sets (sets (replicate 9 0) 0 (pending_of b)) k (take u chunk)) (sym pending_length)
           ∙ copied (pending_of b) (take u chunk) small
-          ∙ ap (λ (k : ℕ). zero_padded 9 (pending_of b ++ take k chunk)) used-is in
+          ∙ ap (λ (k : ℕ). zero_padded 9 (pending_of b ++ take k chunk)) used_is in
           let count : h + u ≡ length (gathered (pending_of b) chunk) =
-          omega (arith, pending-length, part_length) ∙ sym (length-append (pending_of b) (take u chunk)) ∙ ap (λ (k : ℕ). length (pending_of b ++ take k chunk)) used-is in
-          rw (is_one b h e n).0 (gathered-same used-is count bytes)
+          omega (arith, pending_length, part_length) ∙ sym (length-append (pending_of b) (take u chunk)) ∙ ap (λ (k : ℕ). length (pending_of b ++ take k chunk)) used_is in
+          rw (is_one b h e n).0 (gathered_same used_is count bytes)
         where
-          gathered-same : {u' k k' : ℕ} {z z' : List ℕ} → u ≡ u' → k ≡ k' → z ≡ z'
+          gathered_same : {u' k k' : ℕ} {z z' : List ℕ} → u ≡ u' → k ≡ k' → z ≡ z'
               → ◌≡◌ {A = Gathered} (record { ok = true; used = u; count = k; bytes = z }) (record { ok = true; used = u'; count = k'; bytes = z' })
-          gathered-same a b c = cc
+          gathered_same a b c = cc
 
 -- a number that an enum holds by its bits
 pub signed_back : (n : ℕ) (z : ℤ) → Fits w32 n → z ≡ to_z w32 n → to_z w32 (of_z w32 z) ≡ to_z w32 n

@@ -121,9 +121,9 @@ module _ (row : Tuner → Course Tuner) (os b room next : List ℕ) where
         ∙ ap (λ (x : ℕ). ready_of read.ok x (length next) 78) asked
         ∙ ap (λ (x : TunerRead). ready_of x.ok (argument x.tuner) (length next) 78) is
 
-    pub refused-by : (r : Reply) → (n ≡ 0 → ⊥) → r ≡ reply_of (Refused n) 0 → after r room next ≡ over_tuner row os b room next
+    pub refused_by_lem : (r : Reply) → (n ≡ 0 → ⊥) → r ≡ reply_of (Refused n) 0 → after r room next ≡ over_tuner row os b room next
     unfolding over_tuner
-    refused-by r h e =
+    refused_by_lem r h e =
         ap (λ (x : Reply). after x room next) e
         ∙ refused number (λ n. refusal n room next) made n number_is h
 
@@ -140,20 +140,20 @@ module _ (row : Tuner → Course Tuner) (os b room next : List ℕ) where
         ∙ not_refused number (λ n. refusal n room next) made (sym number_is ∙ z)
 
     -- a tuning, which tells of the lock beside it
-    pub refused-untried : (r : Reply) (t : TuneReply) → (n ≡ 0 → ⊥) → r ≡ reply_of (Refused n) 0 → t ≡ tuned_of r no_tries
+    pub refused_untried : (r : Reply) (t : TuneReply) → (n ≡ 0 → ⊥) → r ≡ reply_of (Refused n) 0 → t ≡ tuned_of r no_tries
         → tuned_to t room next ≡ over_tuning row os b room next
     unfolding over_tuning lock_tries_over
-    refused-untried r t h e f =
+    refused_untried r t h e f =
         ap (λ (x : TuneReply). tuned_to x room next) f
-        ∙ (λ i. tuned_by (refused-by r h e i) (refused number (λ k. no_tries) (told (tuner_of b).tuner) n number_is h i))
+        ∙ (λ i. tuned_by (refused_by_lem r h e i) (refused number (λ k. no_tries) (told (tuner_of b).tuner) n number_is h i))
 
-    pub handed-tried : n ≡ 0
+    pub handed_tried : n ≡ 0
         → (u : Tuner) (left : List ℕ) (count : ℕ) (a : Answer) (s : LockTries) → (called u left count a ≡ call read.tuner room) × (s ≡ told read.tuner)
         → (r : Reply) (wrote : List ℕ) → (r ≡ reply_of a count) × (wrote ≡ next_of tuner_bytes a count u next)
         → (t : TuneReply) → t ≡ tuned_of r s
         → tuned_to t left wrote ≡ over_tuning row os b room next
     unfolding over_tuning lock_tries_over
-    handed-tried z u left count a s e r wrote h t f =
+    handed_tried z u left count a s e r wrote h t f =
         ap (λ (x : TuneReply). tuned_to x left wrote) f
         ∙ (λ i.
         tuned_by (handed_back z u left count a e.0 r wrote h i)

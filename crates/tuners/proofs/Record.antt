@@ -26,8 +26,8 @@ module _ {Read R : Type 0} (ok : Read → Bool) (value : Read → R) (read meant
     unfolding of_record
     there h = rw (ok_is true h)
 
-    pub of-record : ok read ≡ true → (a : A) → a ≡ make (value read) → a ≡ of_record (ok meant) (value meant) make none
-    of-record h a e = e ∙ ap (λ (x : Read). make (value x)) is ∙ there h
+    pub of_record_lem : ok read ≡ true → (a : A) → a ≡ make (value read) → a ≡ of_record (ok meant) (value meant) make none
+    of_record_lem h a e = e ∙ ap (λ (x : Read). make (value x)) is ∙ there h
 
   -- the call's record and answer, and what was lent of them
   pub changed : (bytes : R → List ℕ) (call : R → Called R) (out : List ℕ) → ok read ≡ true
@@ -35,5 +35,5 @@ module _ {Read R : Type 0} (ok : Read → Bool) (value : Read → R) (read meant
       → (g : Given) → g ≡ answered_to a (bytes r) out
       → g ≡ of_record (ok meant) (value meant) (changed_to bytes call out) (given (Refused SETUP) out)
   changed bytes call out h r count a e g w =
-      of-record (changed_to bytes call out) (given (Refused SETUP) out) h g
+      of_record_lem (changed_to bytes call out) (given (Refused SETUP) out) h g
       (w ∙ ap (λ (x : Called R). answered_to x.answer (bytes x.next) out) e)

@@ -110,17 +110,17 @@ module _ {L : Type 0} (put : L → ℕ → Entry → L) (os : List ℕ) where
         (parts put os (try_read address rs i) (rest_of address rs i) w x y (inner_rest address rs i) read e)
 
     -- the read failed
-    pub cut-try : goes x.progress ≡ false → step put os Close x ≡ closing put os (run put os (tries_from address rs (10 - i) i) w)
-    cut-try h = all (step put os Close x) (stop put os (rest_of address rs i) x (run put os (rest_of address rs i) x) h (inner_rest address rs i) refl)
+    pub cut_try : goes x.progress ≡ false → step put os Close x ≡ closing put os (run put os (tries_from address rs (10 - i) i) w)
+    cut_try h = all (step put os Close x) (stop put os (rest_of address rs i) x (run put os (rest_of address rs i) x) h (inner_rest address rs i) refl)
 
     -- it has the lock bit
-    pub lock-try : (y : Line L) → locks_at rs i ≡ true → y ≡ closing put os (run put os (updates locked) x) → y ≡ closing put os (run put os (tries_from address rs (10 - i) i) w)
-    lock-try y b e = all y (swap put os (updates locked) (rest_of address rs i) x y (sym (ap (λ (t : Bool). cond t (updates locked) (after_try i ++ tries_from address rs (10 - (i + 1)) (i + 1))) b)) e)
+    pub lock_try : (y : Line L) → locks_at rs i ≡ true → y ≡ closing put os (run put os (updates locked) x) → y ≡ closing put os (run put os (tries_from address rs (10 - i) i) w)
+    lock_try y b e = all y (swap put os (updates locked) (rest_of address rs i) x y (sym (ap (λ (t : Bool). cond t (updates locked) (after_try i ++ tries_from address rs (10 - (i + 1)) (i + 1))) b)) e)
 
     -- it has not
-    pub next-try : (y : Line L) → locks_at rs i ≡ false → y ≡ closing put os (run put os (after_try i) x)
+    pub next_try : (y : Line L) → locks_at rs i ≡ false → y ≡ closing put os (run put os (after_try i) x)
         → closing put os (run put os (tries_from address rs (10 - (i + 1)) (i + 1)) y) ≡ closing put os (run put os (tries_from address rs (10 - i) i) w)
-    next-try y b e =
+    next_try y b e =
         let z : Line L = closing put os (run put os (tries_from address rs (10 - (i + 1)) (i + 1)) y) in
         all z
         (swap put os (after_try i ++ tries_from address rs (10 - (i + 1)) (i + 1)) (rest_of address rs i) x z

@@ -15,7 +15,7 @@ use Rattle.chip.proofs.Laws.{and_right}
 use Rattle.records.specs.Drivers.{driver_of}
 use Rattle.commands.specs.Rows.{is_unknown}
 use Rattle.commands.proofs.Overs.{unknown_run}
-use Rattle.commands.proofs.Runs.{bandwidth_taken, by_correction, by_rate, by-tuner, by_tuning_lem, gain_taken, index_taken, reload_taken, tuner_sound}
+use Rattle.commands.proofs.Runs.{bandwidth_taken, by_correction, by_rate, by_tuner, by_tuning_lem, gain_taken, index_taken, reload_taken, tuner_sound}
 use borrow.Author.Rules.{rules}
 use Rattle.commands.proofs.call_over.Goals as goal
 
@@ -51,7 +51,7 @@ returns-in-GainDb c =
     let tuner = a.tuner.now in
     let drivers : Bytes driver = λ i. omega (arith, c.slice_known-1.given i) in
     let tuners : Bytes tuner = λ i. omega (arith, c.slice_known-2-1.given i) in
-    by-tuner a.table.now a.replies.now a.outcomes.now driver tuner a.room.now drivers
+    by_tuner a.table.now a.replies.now a.outcomes.now driver tuner a.room.now drivers
     (tuner_sound tuner tuners (and_right (driver_of driver).ok (tuner_of tuner).ok pre.2)) pre.2 (GainDb c.in-GainDb.db) (order.Order.Gain c.in-GainDb.db) refl refl
     (gain_taken c.in-GainDb.db (tuner_of tuner).tuner) refl a.command c.in-GainDb.is a.given.now pre.1 _ _ _ c.set_gain.ensures _
     c.still-in-GainDb.ensures
@@ -64,7 +64,7 @@ returns-in-GainIndex c =
     let tuner = a.tuner.now in
     let drivers : Bytes driver = λ i. omega (arith, c.slice_known-1.given i) in
     let tuners : Bytes tuner = λ i. omega (arith, c.slice_known-2-1.given i) in
-    by-tuner a.table.now a.replies.now a.outcomes.now driver tuner a.room.now drivers
+    by_tuner a.table.now a.replies.now a.outcomes.now driver tuner a.room.now drivers
     (tuner_sound tuner tuners (and_right (driver_of driver).ok (tuner_of tuner).ok pre.2)) pre.2 (GainIndex c.in-GainIndex.k) (order.Order.GainIndex c.in-GainIndex.k)
     refl refl (index_taken c.in-GainIndex.k (tuner_of tuner).tuner) refl a.command c.in-GainIndex.is a.given.now pre.1 _ _ _
     c.set_gain_by_index.ensures _ c.still-in-GainIndex.ensures
@@ -77,7 +77,7 @@ returns-in-Bandwidth c =
     let tuner = a.tuner.now in
     let drivers : Bytes driver = λ i. omega (arith, c.slice_known-1.given i) in
     let tuners : Bytes tuner = λ i. omega (arith, c.slice_known-2-1.given i) in
-    by-tuner a.table.now a.replies.now a.outcomes.now driver tuner a.room.now drivers
+    by_tuner a.table.now a.replies.now a.outcomes.now driver tuner a.room.now drivers
     (tuner_sound tuner tuners (and_right (driver_of driver).ok (tuner_of tuner).ok pre.2)) pre.2 (Bandwidth c.in-Bandwidth.hz) (order.Order.Bandwidth c.in-Bandwidth.hz)
     refl refl (bandwidth_taken c.in-Bandwidth.hz (tuner_of tuner).tuner) refl a.command c.in-Bandwidth.is a.given.now pre.1 _ _ _
     c.set_bandwidth.ensures _ c.still-in-Bandwidth.ensures
@@ -103,7 +103,7 @@ returns-in-Reload c =
     let tuner = a.tuner.now in
     let drivers : Bytes driver = λ i. omega (arith, c.slice_known-1.given i) in
     let tuners : Bytes tuner = λ i. omega (arith, c.slice_known-2-1.given i) in
-    by-tuner a.table.now a.replies.now a.outcomes.now driver tuner a.room.now drivers
+    by_tuner a.table.now a.replies.now a.outcomes.now driver tuner a.room.now drivers
     (tuner_sound tuner tuners (and_right (driver_of driver).ok (tuner_of tuner).ok pre.2)) pre.2 Reload order.Order.Reload refl refl
     (reload_taken (tuner_of tuner).tuner) refl a.command c.in-Reload.is a.given.now pre.1 _ _ _ c.reload.ensures _
     c.still-in-Reload.ensures

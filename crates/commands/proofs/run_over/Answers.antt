@@ -1,7 +1,7 @@
 -- `commands::run_over` meets its contract. Assumes nothing.
 use mathlib.Core.Path.{sym, ◌∙◌}
 use borrow.Author.Tests.{not-false, not-true}
-use Rattle.commands.proofs.Overs.{both_ok, driver-size, no_records, tuner-size, unknown_run}
+use Rattle.commands.proofs.Overs.{both_ok, driver_size, no_records, tuner_size, unknown_run}
 use borrow.Author.Rules.{rules}
 use Rattle.commands.proofs.run_over.Goals as goal
 
@@ -21,14 +21,14 @@ returns-then-not-whole c =
 pub driver_copy-before-requires : goal.driver_copy-before-requires
 driver_copy-before-requires c =
     let a = c.args in
-    driver-size a.command a.table.now a.replies.now a.outcomes.now a.driver.now a.tuner.now a.room.now _ _
+    driver_size a.command a.table.now a.replies.now a.outcomes.now a.driver.now a.tuner.now a.room.now _ _
     c.decode_driver-d.ensures c.decode_tuner-t.ensures (sym c.is_unknown.ensures ∙ c.if-is_unknown.false)
     c.if-not-whole.false
 
 pub tuner_copy-given-requires : goal.tuner_copy-given-requires
 tuner_copy-given-requires c =
     let a = c.args in
-    tuner-size a.command a.table.now a.replies.now a.outcomes.now a.driver.now a.tuner.now a.room.now _ _
+    tuner_size a.command a.table.now a.replies.now a.outcomes.now a.driver.now a.tuner.now a.room.now _ _
     c.decode_driver-d.ensures c.decode_tuner-t.ensures (sym c.is_unknown.ensures ∙ c.if-is_unknown.false)
     c.if-not-whole.false
 

@@ -3,7 +3,7 @@ use mathlib.Core.Path.{◌∙◌}
 use native.Mathlib.Omega.{arith}
 use mir.Facts.{to_z-of_z}
 use Rattle.driver.specs.InCode.{correction_refusal}
-use Rattle.driver.proofs.Corrections.{answers-no, answers-yes}
+use Rattle.driver.proofs.Corrections.{answers_no, answers_yes}
 use borrow.Author.Rules.{rules}
 use Rattle.driver.proofs.correction_answer.Reads as reads
 use Rattle.driver.proofs.correction_answer.Lts as lts
@@ -14,7 +14,7 @@ pub returns-then-number-ne0 : goal.returns-then-number-ne0
 returns-then-number-ne0 c =
     let a = c.args in
     let f = c.ranges in
-    answers-no a.nominal a.corrected a.other a.had a.ppm _
+    answers_no a.nominal a.corrected a.other a.had a.ppm _
     (c.correction_refusal-number.ensures
     ∙ (λ i. correction_refusal a.nominal a.corrected a.other (to_z-of_z f.had i) (to_z-of_z f.ppm i))) (λ z. omega arith)
 
@@ -22,6 +22,6 @@ pub returns : goal.returns
 returns c =
     let a = c.args in
     let f = c.ranges in
-    answers-yes a.nominal a.corrected a.other a.had a.ppm _
+    answers_yes a.nominal a.corrected a.other a.had a.ppm _
     (c.correction_refusal-number.ensures
     ∙ (λ i. correction_refusal a.nominal a.corrected a.other (to_z-of_z f.had i) (to_z-of_z f.ppm i))) (omega arith)

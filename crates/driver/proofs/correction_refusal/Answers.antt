@@ -3,7 +3,7 @@ use mathlib.Core.Path.{ap, ◌∙◌}
 use mir.Facts.{to_z-of_z}
 use borrow.Author.Tests.{not-false, not-true}
 use Rattle.driver.specs.Record.{xtal_by}
-use Rattle.driver.proofs.Corrections.{not_taken, not-whole, taken}
+use Rattle.driver.proofs.Corrections.{not_taken, not_whole, taken}
 use borrow.Author.Rules.{rules}
 use Rattle.driver.proofs.correction_refusal.Reads as reads
 use Rattle.driver.proofs.correction_refusal.Lts as lts
@@ -15,7 +15,7 @@ pub returns-then-not-whole : goal.returns-then-not-whole
 returns-then-not-whole c =
     let a = c.args in
     let f = c.ranges in
-    not-whole a.nominal a.corrected a.other a.had a.ppm _ _ c.sound.ensures
+    not_whole a.nominal a.corrected a.other a.had a.ppm _ _ c.sound.ensures
     (c.xtal_by.ensures ∙ ap (xtal_by a.other) (to_z-of_z f.had)) (c.if-not-whole.true)
 
 pub returns-then-not-taken : goal.returns-then-not-taken

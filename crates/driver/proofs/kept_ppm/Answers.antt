@@ -3,7 +3,7 @@ use mathlib.Core.Path.{◌∙◌}
 use native.Mathlib.Omega.{arith}
 use mir.Facts.{to_z-of_z}
 use Rattle.driver.specs.InCode.{correction_refusal}
-use Rattle.driver.proofs.Corrections.{ppm-changes, ppm-stays}
+use Rattle.driver.proofs.Corrections.{ppm_changes, ppm_stays}
 use borrow.Author.Rules.{rules}
 use Rattle.driver.proofs.kept_ppm.Reads as reads
 use Rattle.driver.proofs.kept_ppm.Lts as lts
@@ -15,7 +15,7 @@ returns-then-correction_refusal-ne0 c =
     let a = c.args in
     let f = c.ranges in
     to_z-of_z f.had
-    ∙ ppm-stays a.nominal a.corrected a.other a.had a.ppm _
+    ∙ ppm_stays a.nominal a.corrected a.other a.had a.ppm _
     (c.correction_refusal.ensures
     ∙ (λ i. correction_refusal a.nominal a.corrected a.other (to_z-of_z f.had i) (to_z-of_z f.ppm i))) (λ z. omega arith)
 
@@ -24,6 +24,6 @@ returns c =
     let a = c.args in
     let f = c.ranges in
     to_z-of_z f.ppm
-    ∙ ppm-changes a.nominal a.corrected a.other a.had a.ppm _
+    ∙ ppm_changes a.nominal a.corrected a.other a.had a.ppm _
     (c.correction_refusal.ensures
     ∙ (λ i. correction_refusal a.nominal a.corrected a.other (to_z-of_z f.had i) (to_z-of_z f.ppm i))) (omega arith)

@@ -4,7 +4,7 @@ use native.Mathlib.Omega.{arith}
 use mir.Facts.{to_z-of_z}
 use Rattle.driver.specs.Record.{xtal_by}
 use Rattle.driver.specs.InCode.{correction_refusal}
-use Rattle.driver.proofs.Corrections.{reference-changes, reference-stays}
+use Rattle.driver.proofs.Corrections.{reference_changes, reference_stays}
 use borrow.Author.Rules.{rules}
 use Rattle.driver.proofs.kept_reference.Reads as reads
 use Rattle.driver.proofs.kept_reference.Lts as lts
@@ -16,7 +16,7 @@ pub returns-then-correction_refusal-ne0 : goal.returns-then-correction_refusal-n
 returns-then-correction_refusal-ne0 c =
     let a = c.args in
     let f = c.ranges in
-    reference-stays a.nominal a.corrected a.other a.had a.ppm _
+    reference_stays a.nominal a.corrected a.other a.had a.ppm _
     (c.correction_refusal.ensures
     ∙ (λ i. correction_refusal a.nominal a.corrected a.other (to_z-of_z f.had i) (to_z-of_z f.ppm i))) (λ z. omega arith)
 
@@ -24,7 +24,7 @@ pub returns : goal.returns
 returns c =
     let a = c.args in
     let f = c.ranges in
-    reference-changes a.nominal a.corrected a.other a.had a.ppm _
+    reference_changes a.nominal a.corrected a.other a.had a.ppm _
     (c.correction_refusal.ensures
     ∙ (λ i. correction_refusal a.nominal a.corrected a.other (to_z-of_z f.had i) (to_z-of_z f.ppm i))) (omega arith) _
     (c.xtal_by.ensures ∙ ap (xtal_by a.nominal) (to_z-of_z f.ppm))

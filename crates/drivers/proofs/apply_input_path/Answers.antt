@@ -5,7 +5,7 @@ use native.Mathlib.Omega.{arith}
 use Rattle.board.specs.Numbers.{path_of}
 use Rattle.driver.specs.Calls.{board_result, board_row}
 use Rattle.drivers.proofs.Passed.{board_path_argued}
-use Rattle.tuners.proofs.Passed.{fits, handed_back, path_byte, refused-by}
+use Rattle.tuners.proofs.Passed.{fits, handed_back, path_byte, refused_by_lem}
 use borrow.Author.Rules.{rules}
 use Rattle.drivers.proofs.apply_input_path.Goals as goal
 
@@ -13,7 +13,7 @@ pub returns-then-number-ne0 : goal.returns-then-number-ne0
 returns-then-number-ne0 c =
     let path-refusal = c.path_refusal in
     let a = c.args in
-    refused-by (board_row (path_of a.path) a.replies.now) a.outcomes.now a.tuner.now a.room.now a.next.now _ path-refusal.result _
+    refused_by_lem (board_row (path_of a.path) a.replies.now) a.outcomes.now a.tuner.now a.room.now a.next.now _ path-refusal.result _
     c.decode_tuner-read.ensures (path-refusal.ensures ∙ board_path_argued _ _ a.path) c.ready-number.ensures _ (λ z. omega arith)
     c.refuse.ensures
 

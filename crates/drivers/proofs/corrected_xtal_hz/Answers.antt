@@ -2,7 +2,7 @@
 -- Assumes nothing.
 use borrow.Author.Tests.{not-false, not-true}
 use Rattle.records.specs.declared.DriverRead.{DriverRead}
-use Rattle.tuners.proofs.Record.{no_record, of-record}
+use Rattle.tuners.proofs.Record.{no_record, of_record_lem}
 use borrow.Author.Rules.{rules}
 use Rattle.drivers.proofs.corrected_xtal_hz.Goals as goal
 
@@ -12,5 +12,5 @@ returns-then-not-read c =
 
 pub returns : goal.returns
 returns c =
-    of-record (λ (x : DriverRead). x.ok) (λ (x : DriverRead). x.driver) _ _ c.decode_driver-read.ensures _ _ (not-false _ c.if-not-read.false) _
+    of_record_lem (λ (x : DriverRead). x.ok) (λ (x : DriverRead). x.driver) _ _ c.decode_driver-read.ensures _ _ (not-false _ c.if-not-read.false) _
     c.corrected_xtal_hz.ensures

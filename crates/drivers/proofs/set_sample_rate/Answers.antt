@@ -6,7 +6,7 @@ use Rattle.bands.specs.Tables.{plan_by}
 use Rattle.chip.specs.Courses.{argument_of}
 use Rattle.driver.specs.Calls.{rate_argument, rate_result, rate_row}
 use native.Mathlib.Omega.{arith}
-use Rattle.drivers.proofs.Passed.{fits, handed_back, refused-by}
+use Rattle.drivers.proofs.Passed.{fits, handed_back, refused_by_lem}
 use borrow.Author.Rules.{rules}
 use Rattle.drivers.proofs.set_sample_rate.Goals as goal
 
@@ -15,7 +15,7 @@ returns-then-number-ne0 c =
     let decode-driver = c.decode_driver-d in
     let a = c.args in
     let table = a.table.now in
-    refused-by (λ u v. argument_of (rate_row a.rate (plan_by table v.frequency) u v))
+    refused_by_lem (λ u v. argument_of (rate_row a.rate (plan_by table v.frequency) u v))
     (λ u v. rate_result a.rate (plan_by table v.frequency) a.outcomes.now u v a.room.now) a.driver.now a.tuner.now a.room.now
     a.left.now a.next.now _ _ _ _ decode-driver.ensures c.decode_tuner-t.ensures
     (c.rate_refusal-argument.ensures

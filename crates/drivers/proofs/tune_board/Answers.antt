@@ -5,7 +5,7 @@ use Rattle.bands.specs.declared.Planned.{Planned}
 use Rattle.bands.specs.Tables.{plan_by}
 use Rattle.boards.specs.Hops.{hop_refusal, hop_result, hop_lock_tries}
 use Rattle.drivers.specs.Drivers.{hop_argument}
-use Rattle.drivers.proofs.Passed.{fits, handed_back, hop_told, refused-by, told, untold}
+use Rattle.drivers.proofs.Passed.{fits, handed_back, hop_told, refused_by_lem, told, untold}
 use borrow.Author.Rules.{rules}
 use Rattle.drivers.proofs.tune_board.Reads as reads
 use Rattle.drivers.proofs.tune_board.Lts as lts
@@ -37,7 +37,7 @@ returns-then-number-ne0 c =
     let hop-argument = hop_argument table a.hz in
     let plan-by = plan_by table a.hz in
     hop_told _ _ _ a.room.now a.left.now a.next.now _ _ c.tuned.ensures
-    (refused-by hop-argument (λ u v. hop_result plan-by a.hz replies outcomes u v a.room.now) driver tuner a.room.now a.left.now
+    (refused_by_lem hop-argument (λ u v. hop_result plan-by a.hz replies outcomes u v a.room.now) driver tuner a.room.now a.left.now
     a.next.now decode-driver.result decode-tuner.result _ _ decode-driver.ensures decode-tuner.ensures
     (hop-refusal.ensures ∙ ap (λ (p : Planned). hop_refusal p ifreq) plan-by-table.ensures) ready.ensures _ (λ z. omega arith)
     c.refuse.ensures)

@@ -6,7 +6,7 @@ use native.Mathlib.Omega.{arith}
 use lib.ListN.{length, drop}
 use Rattle.packets.specs.declared.Heard.{Heard}
 use Rattle.expansion.specs.Expansion.{all_heard, heard_entries}
-use Rattle.expansion.proofs.Hearing.{below, heard, unheard, too_many, stray, inside, heard-on, count-on, refused, ended}
+use Rattle.expansion.proofs.Hearing.{below, heard, unheard, too_many, stray, inside, heard_on, count_on, refused, ended}
 use borrow.Author.Rules.{rules}
 use Rattle.expansion.proofs.counted.Goals as goal
 
@@ -70,8 +70,8 @@ loop-at-preserved c =
       (
         n.1,
         (
-          heard-on args.b.now l.at l.i (omega arith) less g.0 h.result.size z ∙ l.invariant.1.1.0,
-          omega (arith, count-on args.b.now l.at l.i (omega arith) less g.0 h.result.size z, l.invariant.1.1.1),
+          heard_on args.b.now l.at l.i (omega arith) less g.0 h.result.size z ∙ l.invariant.1.1.0,
+          omega (arith, count_on args.b.now l.at l.i (omega arith) less g.0 h.result.size z, l.invariant.1.1.1),
         ),
       ),
     )

@@ -6,7 +6,7 @@ use native.Mathlib.Omega.{arith}
 use lib.ListN.{length, drop}
 use Rattle.packets.specs.declared.Heard.{Heard}
 use Rattle.expansion.specs.Expansion.{all_heard, heard_entries}
-use Rattle.expansion.proofs.Hearing.{below, heard, unheard, too_many, stray, inside, heard-on, count-on, refused, ended}
+use Rattle.expansion.proofs.Hearing.{below, heard, unheard, too_many, stray, inside, heard_on, count_on, refused, ended}
 use borrow.Author.Rules.{rules}
 use Rattle.expansion.proofs.counted.Given as goal
 

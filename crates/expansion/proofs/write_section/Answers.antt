@@ -11,7 +11,7 @@ use Rattle.transcript.specs.Entries.{bare, entry_bytes}
 use Rattle.transcript.specs.Sections.{entries_bytes}
 use Rattle.packets.specs.declared.Heard.{Heard}
 use Rattle.expansion.specs.Expansion.{all_heard, heard_entries}
-use Rattle.expansion.proofs.Hearing.{heard_so, not_full, stands-there, inside, heard-on, count-on, entry-stored, sealed}
+use Rattle.expansion.proofs.Hearing.{heard_so, not_full, stands_there, inside, heard_on, count_on, entry_stored, sealed}
 use borrow.Author.Rules.{rules}
 use Rattle.expansion.proofs.write_section.Goals as goal
 
@@ -25,11 +25,11 @@ overflow_mul-i c =
     let all = l.invariant.1.1.1.0 in
     let args = c.args in
     let less = not_full args.b.now l.at l.i (omega arith) l.invariant.0 all in
-    let s = stands-there args.b.now l.at l.i (omega arith) less all in
+    let s = stands_there args.b.now l.at l.i (omega arith) less all in
     let g = heard_so (drop l.at args.b.now) h.result h.ensures s in
     let z = ap (λ (u : Heard). u.size) g in
     let n = inside args.b.now l.at l.i (omega arith) less s h.result.size z in
-    let more = count-on args.b.now l.at l.i (omega arith) less s h.result.size z in
+    let more = count_on args.b.now l.at l.i (omega arith) less s h.result.size z in
     record { fits = omega (arith, less) }
 
 pub put-requires : goal.put-requires
@@ -39,11 +39,11 @@ put-requires c =
     let all = l.invariant.1.1.1.0 in
     let args = c.args in
     let less = not_full args.b.now l.at l.i (omega arith) l.invariant.0 all in
-    let s = stands-there args.b.now l.at l.i (omega arith) less all in
+    let s = stands_there args.b.now l.at l.i (omega arith) less all in
     let g = heard_so (drop l.at args.b.now) h.result h.ensures s in
     let z = ap (λ (u : Heard). u.size) g in
     let n = inside args.b.now l.at l.i (omega arith) less s h.result.size z in
-    let more = count-on args.b.now l.at l.i (omega arith) less s h.result.size z in
+    let more = count_on args.b.now l.at l.i (omega arith) less s h.result.size z in
     omega (arith, more, l.invariant.1.1.0, l.invariant.1.1.1.1.0)
 
 pub overflow_add-at : goal.overflow_add-at
@@ -53,11 +53,11 @@ overflow_add-at c =
     let all = l.invariant.1.1.1.0 in
     let args = c.args in
     let less = not_full args.b.now l.at l.i (omega arith) l.invariant.0 all in
-    let s = stands-there args.b.now l.at l.i (omega arith) less all in
+    let s = stands_there args.b.now l.at l.i (omega arith) less all in
     let g = heard_so (drop l.at args.b.now) h.result h.ensures s in
     let z = ap (λ (u : Heard). u.size) g in
     let n = inside args.b.now l.at l.i (omega arith) less s h.result.size z in
-    let more = count-on args.b.now l.at l.i (omega arith) less s h.result.size z in
+    let more = count_on args.b.now l.at l.i (omega arith) less s h.result.size z in
     record { fits = omega (arith, n.1) }
 
 pub overflow_add-i : goal.overflow_add-i
@@ -71,11 +71,11 @@ loop-at-smaller c =
     let all = l.invariant.1.1.1.0 in
     let args = c.args in
     let less = not_full args.b.now l.at l.i (omega arith) l.invariant.0 all in
-    let s = stands-there args.b.now l.at l.i (omega arith) less all in
+    let s = stands_there args.b.now l.at l.i (omega arith) less all in
     let g = heard_so (drop l.at args.b.now) h.result h.ensures s in
     let z = ap (λ (u : Heard). u.size) g in
     let n = inside args.b.now l.at l.i (omega arith) less s h.result.size z in
-    let more = count-on args.b.now l.at l.i (omega arith) less s h.result.size z in
+    let more = count_on args.b.now l.at l.i (omega arith) less s h.result.size z in
     omega (arith, n.0, n.1)
 
 pub loop-at-preserved : goal.loop-at-preserved
@@ -87,21 +87,21 @@ loop-at-preserved c =
     let all = l.invariant.1.1.1.0 in
     let args = c.args in
     let less = not_full args.b.now l.at l.i (omega arith) l.invariant.0 all in
-    let s = stands-there args.b.now l.at l.i (omega arith) less all in
+    let s = stands_there args.b.now l.at l.i (omega arith) less all in
     let g = heard_so (drop l.at args.b.now) h.result h.ensures s in
     let z = ap (λ (u : Heard). u.size) g in
     let n = inside args.b.now l.at l.i (omega arith) less s size z in
-    let more = count-on args.b.now l.at l.i (omega arith) less s size z in (
+    let more = count_on args.b.now l.at l.i (omega arith) less s size z in (
       omega (arith, less),
       (
         n.1,
         (
           ap length put.ensures ∙ length-sets l.out (16 * l.i) (entry_bytes h.result.entry) ∙ l.invariant.1.1.0,
           (
-            heard-on args.b.now l.at l.i (omega arith) less s size z ∙ all,
+            heard_on args.b.now l.at l.i (omega arith) less s size z ∙ all,
             (
               omega (arith, more, l.invariant.1.1.1.1.0),
-              entry-stored args.b.now l.at l.i (omega arith) less s size z l.out _ h.result.entry (ap (λ (u : Heard). u.entry) g)
+              entry_stored args.b.now l.at l.i (omega arith) less s size z l.out _ h.result.entry (ap (λ (u : Heard). u.entry) g)
                   put.ensures
                   ∙ l.invariant.1.1.1.1.1,
             ),

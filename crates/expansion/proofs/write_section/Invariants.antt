@@ -11,7 +11,7 @@ use Rattle.transcript.specs.Entries.{bare, entry_bytes}
 use Rattle.transcript.specs.Sections.{entries_bytes}
 use Rattle.packets.specs.declared.Heard.{Heard}
 use Rattle.expansion.specs.Expansion.{all_heard, heard_entries}
-use Rattle.expansion.proofs.Hearing.{heard_so, not_full, stands-there, inside, heard-on, count-on, entry-stored, sealed}
+use Rattle.expansion.proofs.Hearing.{heard_so, not_full, stands_there, inside, heard_on, count_on, entry_stored, sealed}
 use borrow.Author.Rules.{rules}
 use Rattle.expansion.proofs.write_section.Given as goal
 

@@ -4,7 +4,7 @@ use mathlib.Core.Path.{◌∙◌}
 use native.Mathlib.Omega.{arith}
 use borrow.Author.Tests.{not-true, not-false}
 use lib.ListN.{drop, length-drop}
-use Rattle.packets.proofs.Reading.{heard_short, heard-other, heard-cut, heard-told, few, row}
+use Rattle.packets.proofs.Reading.{heard_short, heard_other, heard_cut, heard_told, few, row}
 use borrow.Author.Rules.{rules}
 use Rattle.packets.proofs.hear.Goals as goal
 
@@ -29,7 +29,7 @@ returns-then-not-in_table-setup_of c =
     let eight = c.eight-w in
     let args = c.args in
     c.nothing-then-not-in_table-setup_of.ensures
-    ∙ heard-other (drop args.at args.s.now) eight.result named.result eight.ensures named.ensures sent-by.result sent-by.ensures.0
+    ∙ heard_other (drop args.at args.s.now) eight.result named.result eight.ensures named.ensures sent-by.result sent-by.ensures.0
     in_table.result setup-of.result in_table.ensures setup-of.ensures (c.if-not-in_table-setup_of.true)
 
 pub returns-then-left-sent : goal.returns-then-left-sent
@@ -39,7 +39,7 @@ returns-then-left-sent c =
     let eight = c.eight-w in
     let args = c.args in
     c.nothing-then-left-sent.ensures
-    ∙ heard-cut (drop args.at args.s.now) eight.result named.result eight.ensures named.ensures sent-by.result sent-by.ensures.0
+    ∙ heard_cut (drop args.at args.s.now) eight.result named.result eight.ensures named.ensures sent-by.result sent-by.ensures.0
     (omega (arith, length-drop args.at args.s.now))
 
 pub with_data-requires : goal.with_data-requires
@@ -63,6 +63,6 @@ returns c =
     let eight = c.eight-w in
     let args = c.args in
     c.with_data.ensures
-    ∙ heard-told (drop args.at args.s.now) eight.result named.result eight.ensures named.ensures sent-by.result sent-by.ensures.0
+    ∙ heard_told (drop args.at args.s.now) eight.result named.result eight.ensures named.ensures sent-by.result sent-by.ensures.0
     in_table.result setup-of.result in_table.ensures setup-of.ensures (c.if-not-in_table-setup_of.false)
     (omega (arith, length-drop args.at args.s.now)) (omega (arith, length-drop args.at args.s.now))

@@ -1,7 +1,7 @@
 -- `records::decode_tuner` meets its contract: it ends in one of three ways.
 -- Assumes nothing.
 use borrow.Author.Tests.{not-true, not-false}
-use Rattle.records.proofs.Made.{no_length, no-fit, whole}
+use Rattle.records.proofs.Made.{no_length, no_fit, whole}
 use borrow.Author.Rules.{rules}
 use Rattle.records.proofs.decode_tuner.Goals as goal
 
@@ -11,7 +11,7 @@ returns-then-b-ne-TUNER c =
 
 pub returns-then-not-tuner_fits : goal.returns-then-not-tuner_fits
 returns-then-not-tuner_fits c =
-    no-fit c.args.b.now _ c.new-none.ensures _ c.if-b-ne-TUNER.false c.tuner_fits.ensures (c.if-not-tuner_fits.true)
+    no_fit c.args.b.now _ c.new-none.ensures _ c.if-b-ne-TUNER.false c.tuner_fits.ensures (c.if-not-tuner_fits.true)
 
 pub returns : goal.returns
 returns c =

@@ -2,7 +2,7 @@
 -- Assumes nothing.
 use native.Mathlib.Omega.{arith}
 use borrow.Author.Rules.{rules}
-use Rattle.restoring.proofs.Telling.{past, told-before, told-now, under}
+use Rattle.restoring.proofs.Telling.{past, told_before, told_now, under}
 use Rattle.restoring.proofs.marked.Goals as goal
 
 pub returns-then-r-lt5 : goal.returns-then-r-lt5
@@ -18,9 +18,9 @@ returns-then-r-gt31 c =
 pub returns-then-marks-r-gt0 : goal.returns-then-marks-r-gt0
 returns-then-marks-r-gt0 c =
     let a = c.args in
-    told-before a.marks.now a.sent.now a.r a.mark a.byte (omega arith) (omega arith) (omega arith) c.if-marks-r-gt0.true
+    told_before a.marks.now a.sent.now a.r a.mark a.byte (omega arith) (omega arith) (omega arith) c.if-marks-r-gt0.true
 
 pub returns : goal.returns
 returns c =
     let a = c.args in
-    told-now a.marks.now a.sent.now a.r a.mark a.byte (omega arith) (omega arith) (omega arith) (omega arith) (omega arith)
+    told_now a.marks.now a.sent.now a.r a.mark a.byte (omega arith) (omega arith) (omega arith) (omega arith) (omega arith)

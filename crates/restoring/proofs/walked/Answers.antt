@@ -9,7 +9,7 @@ use Prim.Native.Nat.{ℕ}
 use lib.ListN.{length, take}
 use Rattle.sections.specs.Chain.{chain, chain_entries}
 use Rattle.restoring.specs.Standing.{over, known_in, known_all}
-use Rattle.restoring.proofs.Backward.{all_sections, all_told, begin, chain-on, few, fit, lower, not_both, refused, stopped, told-on, within}
+use Rattle.restoring.proofs.Backward.{all_sections, all_told, begin, chain_on, few, fit, lower, not_both, refused, stopped, told_on, within}
 use Rattle.restoring.proofs.walked.Goals as goal
 
 pub loop-end-init : goal.loop-end-init
@@ -65,8 +65,8 @@ loop-end-preserved c =
         (
           search rules,
           (
-            chain-on s p l.end refl (omega arith) l.invariant.0 _ _ read ∙ l.invariant.1.1.1.0,
-            told-on s p l.end refl (omega arith) l.invariant.0 _ _ read a.address (known_all l.marks l.sent) _ c.noted_all.ensures
+            chain_on s p l.end refl (omega arith) l.invariant.0 _ _ read ∙ l.invariant.1.1.1.0,
+            told_on s p l.end refl (omega arith) l.invariant.0 _ _ read a.address (known_all l.marks l.sent) _ c.noted_all.ensures
                 ∙ l.invariant.1.1.1.1,
           ),
         ),

@@ -9,7 +9,7 @@ use Prim.Native.Nat.{ℕ}
 use lib.ListN.{length, take}
 use Rattle.sections.specs.Chain.{chain, chain_entries}
 use Rattle.restoring.specs.Standing.{over, known_in, known_all}
-use Rattle.restoring.proofs.Backward.{all_sections, all_told, begin, chain-on, few, fit, lower, not_both, refused, stopped, told-on, within}
+use Rattle.restoring.proofs.Backward.{all_sections, all_told, begin, chain_on, few, fit, lower, not_both, refused, stopped, told_on, within}
 use Rattle.restoring.proofs.walked.Given as goal
 
 abbrev pub invariant-loop-end : goal.invariant-loop-end

@@ -11,7 +11,7 @@ use lib.Seq.{sets}
 use Rattle.transcript.specs.Sections.{entries_bytes}
 use Rattle.restore.specs.Restore.{Run, run_of, runs, write_of}
 use Rattle.restoring.specs.Standing.{held_of, sure_of}
-use Rattle.restoring.proofs.Laying.{few_runs, laid_all, laid_on, later, left, none_above, none_left, one-run, run-size, skipped, stands_sure}
+use Rattle.restoring.proofs.Laying.{few_runs, laid_all, laid_on, later, left, none_above, none_left, one_run, run_size, skipped, stands_sure}
 use Rattle.restoring.proofs.write_list.Goals as goal
 
 pub loop-i-init : goal.loop-i-init
@@ -36,7 +36,7 @@ write_of-requires c =
     let l = c.loop-i in
     let a = c.args in
     let marks = a.marks.now in
-    let size = run-size (sure_of marks) (none_above marks c.requires.0) l.i c.run_len-m.result (l.invariant.1.0 (omega arith)) c.run_len-m.ensures in
+    let size = run_size (sure_of marks) (none_above marks c.requires.0) l.i c.run_len-m.result (l.invariant.1.0 (omega arith)) c.run_len-m.ensures in
     (omega arith, size.1)
 
 pub overflow_mul-k : goal.overflow_mul-k
@@ -55,7 +55,7 @@ put-requires c =
     let marks = a.marks.now in
     let sure = sure_of marks in
     let more =
-    ap length (one-run sure (none_above marks pre.0) l.i run_len.result _ (omega arith) (l.invariant.1.0 (omega arith)) run_len.ensures refl) in
+    ap length (one_run sure (none_above marks pre.0) l.i run_len.result _ (omega arith) (l.invariant.1.0 (omega arith)) run_len.ensures refl) in
     omega (arith, more, l.invariant.0, l.invariant.1.1.0, pre.1)
 
 pub overflow_add-k : goal.overflow_add-k
@@ -70,7 +70,7 @@ overflow_add-i c =
     let l = c.loop-i in
     let a = c.args in
     let marks = a.marks.now in
-    let size = run-size (sure_of marks) (none_above marks c.requires.0) l.i run_len.result (l.invariant.1.0 (omega arith)) run_len.ensures in
+    let size = run_size (sure_of marks) (none_above marks c.requires.0) l.i run_len.result (l.invariant.1.0 (omega arith)) run_len.ensures in
     record { fits = omega (arith, size.1) }
 
 pub next_sure-i-requires-in-loop-i : goal.next_sure-i-requires-in-loop-i
@@ -79,7 +79,7 @@ next_sure-i-requires-in-loop-i c =
     let l = c.loop-i in
     let a = c.args in
     let marks = a.marks.now in
-    let size = run-size (sure_of marks) (none_above marks c.requires.0) l.i run_len.result (l.invariant.1.0 (omega arith)) run_len.ensures in
+    let size = run_size (sure_of marks) (none_above marks c.requires.0) l.i run_len.result (l.invariant.1.0 (omega arith)) run_len.ensures in
     omega (arith, size.1)
 
 pub loop-i-smaller : goal.loop-i-smaller
@@ -89,7 +89,7 @@ loop-i-smaller c =
     let a = c.args in
     let marks = a.marks.now in
     let sure = sure_of marks in
-    let size = run-size sure (none_above marks c.requires.0) l.i run_len.result (l.invariant.1.0 (omega arith)) run_len.ensures in
+    let size = run_size sure (none_above marks c.requires.0) l.i run_len.result (l.invariant.1.0 (omega arith)) run_len.ensures in
     let up = later sure (l.i + run_len.result) c.next_sure-i-in-loop-i.result c.next_sure-i-in-loop-i.ensures in
     omega (arith, size.0, up)
 
@@ -105,7 +105,7 @@ loop-i-preserved c =
     let m = run_len.result in
     let next = c.next_sure-i-in-loop-i.result in
     let one =
-    one-run sure (none_above marks c.requires.0) l.i m next (omega arith) (l.invariant.1.0 (omega arith)) run_len.ensures c.next_sure-i-in-loop-i.ensures in (
+    one_run sure (none_above marks c.requires.0) l.i m next (omega arith) (l.invariant.1.0 (omega arith)) run_len.ensures c.next_sure-i-in-loop-i.ensures in (
       search rules,
       (
         stands_sure sure (l.i + m) next c.next_sure-i-in-loop-i.ensures,

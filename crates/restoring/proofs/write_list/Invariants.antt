@@ -11,7 +11,7 @@ use lib.Seq.{sets}
 use Rattle.transcript.specs.Sections.{entries_bytes}
 use Rattle.restore.specs.Restore.{Run, run_of, runs, write_of}
 use Rattle.restoring.specs.Standing.{held_of, sure_of}
-use Rattle.restoring.proofs.Laying.{few_runs, laid_all, laid_on, later, left, none_above, none_left, one-run, run-size, skipped, stands_sure}
+use Rattle.restoring.proofs.Laying.{few_runs, laid_all, laid_on, later, left, none_above, none_left, one_run, run_size, skipped, stands_sure}
 use Rattle.restoring.proofs.write_list.Given as goal
 
 abbrev pub invariant-loop-i : goal.invariant-loop-i

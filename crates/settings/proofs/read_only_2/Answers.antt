@@ -2,7 +2,7 @@
 use mathlib.Core.Path.{sym, ◌∙◌}
 use native.Mathlib.Omega.{arith}
 use Rattle.settings.proofs.Laws.{sealed}
-use Rattle.settings.proofs.Editions.{by-field2, by_refusal2, if_there, taken2, there2}
+use Rattle.settings.proofs.Editions.{by_field2, by_refusal2, if_there, taken2, there2}
 use Rattle.settings.proofs.read_only_2.Goals as goal
 
 pub returns-then-refusal-ne0 : goal.returns-then-refusal-ne0
@@ -28,7 +28,7 @@ returns-then-field-ne0 c =
     let r = c.trailer_refusal-refusal in
     let v = there2 s fields_at.result fields_at.ensures in
     c.refuse_2-then-field-ne0.ensures
-    ∙ by-field2 s r.result r.ensures fields_at.result refusal.result c.if-refusal-ne0.false v refusal.ensures c.if-field-ne0.true
+    ∙ by_field2 s r.result r.ensures fields_at.result refusal.result c.if-refusal-ne0.false v refusal.ensures c.if-field-ne0.true
 
 pub four-requires : goal.four-requires
 four-requires c =

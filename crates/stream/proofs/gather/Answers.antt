@@ -4,7 +4,7 @@ use native.Mathlib.Omega.{arith}
 use Prim.Native.Nat.{◌+◌, ◌≤◌}
 use lib.ListN.{length, length-take, take}
 use lib.Seq.{length-sets}
-use Rattle.stream.proofs.Laws.{all-gathered, at-most-eight, nine_bytes, none_gathered, part_length, used_bounds}
+use Rattle.stream.proofs.Laws.{all_gathered, at_most_eight, nine_bytes, none_gathered, part_length, used_bounds}
 use Rattle.stream.proofs.gather.Goals as goal
 
 pub returns-then-held-eq-COMMAND : goal.returns-then-held-eq-COMMAND
@@ -16,14 +16,14 @@ pub overflow_sub-held : goal.overflow_sub-held
 overflow_sub-held c =
     let pending-count = c.pending_count-held in
     let args = c.args in
-    let h : pending-count.result ≤ 8 = at-most-eight args.stream.now args.chunk.now _ pending-count.ensures c.if-held-eq-COMMAND.false in
+    let h : pending-count.result ≤ 8 = at_most_eight args.stream.now args.chunk.now _ pending-count.ensures c.if-held-eq-COMMAND.false in
     omega arith
 
 pub overflow_add-held : goal.overflow_add-held
 overflow_add-held c =
     let pending-count = c.pending_count-held in
     let args = c.args in
-    let h : pending-count.result ≤ 8 = at-most-eight args.stream.now args.chunk.now _ pending-count.ensures c.if-held-eq-COMMAND.false in
+    let h : pending-count.result ≤ 8 = at_most_eight args.stream.now args.chunk.now _ pending-count.ensures c.if-held-eq-COMMAND.false in
     omega arith
 
 pub slice_bounds-copy-end-2 : goal.slice_bounds-copy-end-2
@@ -33,7 +33,7 @@ slice_bounds-copy-end-2 c =
     let args = c.args in
     let b = args.stream.now in
     let chunk = args.chunk.now in
-    let h : pending-count.result ≤ 8 = at-most-eight b chunk _ pending-count.ensures if1.false in
+    let h : pending-count.result ≤ 8 = at_most_eight b chunk _ pending-count.ensures if1.false in
     let n : length b ≡ 9 = nine_bytes b chunk _ pending-count.ensures if1.false in
     omega arith
 
@@ -41,7 +41,7 @@ pub copy-requires : goal.copy-requires
 copy-requires c =
     let pending-count = c.pending_count-held in
     let args = c.args in
-    let h : pending-count.result ≤ 8 = at-most-eight args.stream.now args.chunk.now _ pending-count.ensures c.if-held-eq-COMMAND.false in
+    let h : pending-count.result ≤ 8 = at_most_eight args.stream.now args.chunk.now _ pending-count.ensures c.if-held-eq-COMMAND.false in
     simp length-take (omega arith)
 
 pub copy-requires-2 : goal.copy-requires-2
@@ -72,5 +72,5 @@ returns c =
     let args = c.args in
     let b = args.stream.now in
     let chunk = args.chunk.now in
-    all-gathered b chunk _ c.pending_count-held.ensures c.if-held-eq-COMMAND.false _ c.least-used.ensures _ _ c.copy.ensures
+    all_gathered b chunk _ c.pending_count-held.ensures c.if-held-eq-COMMAND.false _ c.least-used.ensures _ _ c.copy.ensures
     c.copy-2.ensures

@@ -15,19 +15,19 @@ loop-i-init c = (search rules, fit_start c.args.s.now c.args.at 0 c.args.count)
 
 pub returns-then-not-entry_fits : goal.returns-then-not-entry_fits
 returns-then-not-entry_fits c =
-    let entry-fits = c.entry_fits in
+    let entry_fits_lem = c.entry_fits in
     let l = c.loop-i in
     let a = c.args in
-    fit_stop a.s.now a.at l.i a.count entry-fits.result (omega arith) entry-fits.ensures c.if-not-entry_fits.true
+    fit_stop a.s.now a.at l.i a.count entry_fits_lem.result (omega arith) entry_fits_lem.ensures c.if-not-entry_fits.true
     ∙ l.invariant.1
 
 pub loop-i-preserved : goal.loop-i-preserved
 loop-i-preserved c =
-    let entry-fits = c.entry_fits in
+    let entry_fits_lem = c.entry_fits in
     let l = c.loop-i in
     let a = c.args in (
       omega arith,
-      fit_on a.s.now a.at l.i a.count entry-fits.result (omega arith) entry-fits.ensures c.if-not-entry_fits.false
+      fit_on a.s.now a.at l.i a.count entry_fits_lem.result (omega arith) entry_fits_lem.ensures c.if-not-entry_fits.false
           ∙ l.invariant.1,
     )
 

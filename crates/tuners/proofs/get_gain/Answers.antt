@@ -2,7 +2,7 @@
 -- Assumes nothing.
 use borrow.Author.Tests.{not-false, not-true}
 use Rattle.records.specs.declared.TunerRead.{TunerRead}
-use Rattle.tuners.proofs.Record.{no_record, of-record}
+use Rattle.tuners.proofs.Record.{no_record, of_record_lem}
 use borrow.Author.Rules.{rules}
 use Rattle.tuners.proofs.get_gain.Goals as goal
 
@@ -11,5 +11,5 @@ returns-then-not-read c = no_record (λ (x : TunerRead). x.ok) (λ (x : TunerRea
 
 pub returns : goal.returns
 returns c =
-    of-record (λ (x : TunerRead). x.ok) (λ (x : TunerRead). x.tuner) _ _ c.decode_tuner-read.ensures _ _ (not-false _ c.if-not-read.false) _
+    of_record_lem (λ (x : TunerRead). x.ok) (λ (x : TunerRead). x.tuner) _ _ c.decode_tuner-read.ensures _ _ (not-false _ c.if-not-read.false) _
     c.get_gain.ensures

@@ -5,7 +5,7 @@ use native.Mathlib.Omega.{arith}
 use borrow.Author.Rules.{rules}
 use Rattle.r82xx.specs.Orders.{course_of, result_of}
 use Rattle.r82xx.specs.Orders.Order.{InputPath}
-use Rattle.tuners.proofs.Passed.{fits, handed_back, path_byte, refused-by, tuner_path_argued}
+use Rattle.tuners.proofs.Passed.{fits, handed_back, path_byte, refused_by_lem, tuner_path_argued}
 use Rattle.tuners.proofs.set_input_path.Goals as goal
 
 pub returns-then-number-ne0 : goal.returns-then-number-ne0
@@ -13,7 +13,7 @@ unfolding result_of
 returns-then-number-ne0 c =
     let path-refusal = c.path_refusal in
     let a = c.args in
-    refused-by (course_of (InputPath a.path)) a.outcomes.now a.tuner.now a.room.now a.next.now _ path-refusal.result _
+    refused_by_lem (course_of (InputPath a.path)) a.outcomes.now a.tuner.now a.room.now a.next.now _ path-refusal.result _
     c.decode_tuner-read.ensures (path-refusal.ensures ∙ tuner_path_argued _ _ a.path) c.ready-number.ensures _ (λ z. omega arith)
     c.refuse.ensures
 

@@ -8,7 +8,7 @@ use Rattle.chip.specs.InCode.{closing, in_room, on_log}
 use Rattle.chip.specs.Steps.{closing_owed, goes, run}
 use Rattle.chip.proofs.Laws.{closing_closing, closing_going, stop}
 use Rattle.tuning.specs.Tries.{tries_from}
-use Rattle.tuning.proofs.Turns.{cut-try, end_try, lock-try, next-try}
+use Rattle.tuning.proofs.Turns.{cut_try, end_try, lock_try, next_try}
 use Rattle.tuning.proofs.Programs.{inner_tries}
 use borrow.Author.Rules.{rules}
 use Rattle.tuning.proofs.wait_pll_lock_raw.Goals as goal
@@ -44,7 +44,7 @@ returns-in_default-progress c =
     let turn = c.loop-i in
     let args = c.args in record {
       room_after = log-close2.ensures.room_after _
-          ∙ cut-try in_room _ args.address args.replies.now turn.i (omega (arith, loop-test.true)) _ _ (read-try.ensures.room_after _)
+          ∙ cut_try in_room _ args.address args.replies.now turn.i (omega (arith, loop-test.true)) _ _ (read-try.ensures.room_after _)
           (ap goes c.in_default-progress.is)
           ∙ turn.invariant.1.1.1.1;
       bounds = omega (arith, log-close2.ensures.bounds, read-try.ensures.bounds, read-try.auto, turn.invariant, loop-test.true, c.requires);
@@ -66,7 +66,7 @@ returns-then-locked c =
     let loop-test = c.loop-i-test in
     let turn = c.loop-i in
     let args = c.args in record {
-      room_after = lock-try in_room _ args.address args.replies.now turn.i (omega (arith, loop-test.true)) _ _ (read-try.ensures.room_after _) _
+      room_after = lock_try in_room _ args.address args.replies.now turn.i (omega (arith, loop-test.true)) _ _ (read-try.ensures.room_after _) _
           (sym c.locks-locked.ensures ∙ c.if-locked.true) after-lock.ensures.room_after
           ∙ turn.invariant.1.1.1.1;
       bounds = omega (arith, after-lock.ensures.bounds, read-try.ensures.bounds, read-try.auto, turn.invariant, loop-test.true, c.requires);
@@ -91,7 +91,7 @@ loop-i-preserved c =
           omega (arith, after_try.ensures.bounds, read-try.ensures.bounds, read-try.auto, turn.invariant, loop-test.true, c.requires),
           (
             ap (closing in_room _) after_try.ensures.room_after ∙ closing_closing in_room _ _ ∙ sym after_try.ensures.room_after,
-            next-try in_room _ args.address args.replies.now turn.i (omega (arith, loop-test.true)) _ _ (read-try.ensures.room_after _) _
+            next_try in_room _ args.address args.replies.now turn.i (omega (arith, loop-test.true)) _ _ (read-try.ensures.room_after _) _
                 (sym c.locks-locked.ensures ∙ c.if-locked.false) after_try.ensures.room_after
                 ∙ turn.invariant.1.1.1.1,
           ),

@@ -8,7 +8,7 @@ use Rattle.chip.specs.InCode.{closing, in_room, on_log}
 use Rattle.chip.specs.Steps.{closing_owed, goes, run}
 use Rattle.chip.proofs.Laws.{closing_closing, closing_going, stop}
 use Rattle.tuning.specs.Tries.{tries_from}
-use Rattle.tuning.proofs.Turns.{cut-try, end_try, lock-try, next-try}
+use Rattle.tuning.proofs.Turns.{cut_try, end_try, lock_try, next_try}
 use Rattle.tuning.proofs.Programs.{inner_tries}
 use borrow.Author.Rules.{rules}
 use Rattle.tuning.proofs.wait_pll_lock_raw.Given as goal

@@ -8,7 +8,7 @@ use borrow.Author.Rules.{rules}
 use lib.ListN.{length, take}
 use Rattle.sections.specs.Chain.{chain, chain_entries}
 use Rattle.restoring.specs.Standing.{known_all}
-use Rattle.restoring.proofs.Backward.{all_sections, all_turned, begin, chain-on, few, fit, lower, not_both, refused, stopped, turned, within}
+use Rattle.restoring.proofs.Backward.{all_sections, all_turned, begin, chain_on, few, fit, lower, not_both, refused, stopped, turned, within}
 use Rattle.witness.specs.Walk.{seen, seen_all, waiting}
 use Rattle.witness.proofs.Gathered.{all_both, all_empty}
 use Rattle.witness.proofs.walked.Goals as goal
@@ -78,7 +78,7 @@ loop-end-preserved c =
         (
           (search rules, search rules),
           (
-            chain-on s p l.end refl (omega arith) l.invariant.0 _ _ read ∙ l.invariant.1.1.1.0,
+            chain_on s p l.end refl (omega arith) l.invariant.0 _ _ read ∙ l.invariant.1.1.1.0,
             turned s p l.end refl (omega arith) l.invariant.0 _ _ read (seen_all a.address) (seen (known_all l.marks l.sent) (known_all l.states l.values) l.w) _
                 (all_both a.address)
                 c.heard_all-w.ensures

@@ -8,7 +8,7 @@ use borrow.Author.Rules.{rules}
 use lib.ListN.{length, take}
 use Rattle.sections.specs.Chain.{chain, chain_entries}
 use Rattle.restoring.specs.Standing.{known_all}
-use Rattle.restoring.proofs.Backward.{all_sections, all_turned, begin, chain-on, few, fit, lower, not_both, refused, stopped, turned, within}
+use Rattle.restoring.proofs.Backward.{all_sections, all_turned, begin, chain_on, few, fit, lower, not_both, refused, stopped, turned, within}
 use Rattle.witness.specs.Walk.{seen, seen_all, waiting}
 use Rattle.witness.proofs.Gathered.{all_both, all_empty}
 use Rattle.witness.proofs.walked.Given as goal

@@ -3,7 +3,7 @@ use mathlib.Core.Path.{ap, ◌∙◌}
 use mir.Facts.{to_z-of_z}
 use Rattle.refusals.specs.declared.Answer.TheVariants.{Done}
 use Rattle.driver.specs.Record.{driver, made, xtal_by}
-use Rattle.driver.proofs.Making.{new-bad, new-good, new-high, new-low, new_no_board}
+use Rattle.driver.proofs.Making.{new_bad, new_good, new_high, new_low, new_no_board}
 use borrow.Author.Rules.{rules}
 use Rattle.driver.proofs.Driver.new.Reads as reads
 use Rattle.driver.proofs.Driver.new.Lts as lts
@@ -23,21 +23,21 @@ pub returns-then-nominal-lt1 : goal.returns-then-nominal-lt1
 returns-then-nominal-lt1 c =
     let args = c.args in
     c.nothing-then-nominal-lt1.ensures
-    ∙ new-low args.board args.nominal args.ppm args.frequency args.rate _ c.board_named.ensures _ c.in-Is.is
+    ∙ new_low args.board args.nominal args.ppm args.frequency args.rate _ c.board_named.ensures _ c.in-Is.is
     c.if-nominal-lt1.true
 
 pub returns-then-nominal-gt4294967295 : goal.returns-then-nominal-gt4294967295
 returns-then-nominal-gt4294967295 c =
     let args = c.args in
     c.nothing-then-nominal-gt4294967295.ensures
-    ∙ new-high args.board args.nominal args.ppm args.frequency args.rate _ c.board_named.ensures _ c.in-Is.is
+    ∙ new_high args.board args.nominal args.ppm args.frequency args.rate _ c.board_named.ensures _ c.in-Is.is
     c.if-nominal-lt1.false c.if-nominal-gt4294967295.true
 
 pub returns-then-xtal_by-lt1 : goal.returns-then-xtal_by-lt1
 returns-then-xtal_by-lt1 c =
     let args = c.args in
     c.nothing-then-xtal_by-lt1.ensures
-    ∙ new-bad args.board args.nominal args.ppm args.frequency args.rate _ c.board_named.ensures _ c.in-Is.is
+    ∙ new_bad args.board args.nominal args.ppm args.frequency args.rate _ c.board_named.ensures _ c.in-Is.is
     c.if-nominal-lt1.false c.if-nominal-gt4294967295.false _ (c.xtal_by.ensures ∙ ap (xtal_by args.nominal) (to_z-of_z c.ranges.ppm)) c.if-xtal_by-lt1.true
 
 pub returns : goal.returns
@@ -45,5 +45,5 @@ returns c =
     let args = c.args in
     let fits = c.ranges in
     (λ i. made (Done 0) (driver c.in-Is.named args.nominal (to_z-of_z fits.ppm i) args.frequency args.rate 0))
-    ∙ new-good args.board args.nominal args.ppm args.frequency args.rate _ c.board_named.ensures _ c.in-Is.is
+    ∙ new_good args.board args.nominal args.ppm args.frequency args.rate _ c.board_named.ensures _ c.in-Is.is
     c.if-nominal-lt1.false c.if-nominal-gt4294967295.false _ (c.xtal_by.ensures ∙ ap (xtal_by args.nominal) (to_z-of_z fits.ppm)) c.if-xtal_by-lt1.false
