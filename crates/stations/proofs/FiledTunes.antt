@@ -37,7 +37,7 @@ use Rattle.sequences.proofs.Station.{same_number}
 use Rattle.sequences.proofs.Tunings.{Kept, hopped_stands, is_done, tuned_stands}
 use Rattle.stations.specs.Between.{Between}
 use Rattle.stations.specs.Centre.{Filed}
-use Rattle.stations.proofs.Centre.{if-sure-by, on-centre, on-centre-board, so_far, whole}
+use Rattle.stations.proofs.Centre.{if_sure_by, on_centre, on_centre_board, so_far, whole}
 use Rattle.stations.proofs.Filed.{filed_by}
 
 -- ---- the oscillator's mark
@@ -80,9 +80,9 @@ module _ (t : Tuner) (rate : ℕ) (table : List ℕ) (d : Driver) (os room : Lis
       let some = some_played (tuner_at u.chip.address) all (λ q. 0) in
       filed_by u.chip.address u.corrected (xtal_of d) hz all
       (lo_sure u before_it start k g (stands (λ q. 0) some.0 some.1).3)
-      (if-sure-by t rate table d os room es s h small u gs between k refl) far
+      (if_sure_by t rate table d os room es s h small u gs between k refl) far
       (λ before now played was is demod. (
-        on-centre t rate table d os room es s h small u gs between hz rs os' room' g done fine before now played was is demod,
+        on_centre t rate table d os room es s h small u gs between hz rs os' room' g done fine before now played was is demod,
         (let w = stands before now played in
             few_by hz w.0 w.1 _ (same_number u.chip.address u.kind u.notch w.0 hz rs fine) now w.2),
       ))
@@ -101,9 +101,9 @@ module _ (t : Tuner) (rate : ℕ) (table : List ℕ) (d : Driver) (os room : Lis
       let some = some_played (tuner_at u.chip.address) all (λ q. 0) in
       filed_by u.chip.address u.corrected (xtal_of d) at.hz all
       (lo_sure u before_it start k g (stands (λ q. 0) some.0 some.1).3)
-      (if-sure-by t rate table d os room es s h small u gs between k refl) far
+      (if_sure_by t rate table d os room es s h small u gs between k refl) far
       (λ before now played was is demod. (
-        on-centre-board t rate table d os room es s h small u gs between hz lines rs e os' room' g done fine before now played was is demod,
+        on_centre_board t rate table d os room es s h small u gs between hz lines rs e os' room' g done fine before now played was is demod,
         (let w = stands before now played in
             few_by at.hz w.0 w.1 _ (same_number u.chip.address u.kind at.notch w.0 at.hz (drop (path_replies u.kind at.path) rs) fine) now w.2),
       ))
