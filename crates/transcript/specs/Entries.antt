@@ -1,7 +1,7 @@
 -- An entry as a record, as 16 bytes, and whether it fits the table. Document 01: "An entry has 16 bytes: kind, outcome (0 done, 1 failed),
 -- target, n, address (u16, low byte first), two zeros, eight data bytes padded with zeros."
 -- Assumes nothing.
-use Rattle.std.specs.Prelude.{ℕ, ◌≡◌, List, [], ◌∷◌, ◌++◌, Bool, true, false, cond, ◌&&◌, eqb, ltb, length, get_or, drop, take}
+use Rattle.std.specs.Prelude.{ℕ, ◌≡◌, List, [], ◌∷◌, ◌++◌, Bool, true, cond, ◌&&◌, eqb, ltb, length, get_or, drop, take}
 use Rattle.wire.specs.Bytes.{le_bytes, le_value}
 use Rattle.transcript.specs.declared.Entry.{Entry}
 use Rattle.transcript.specs.Table.{row_fits, is_read}

@@ -1,13 +1,9 @@
 -- `transcript::all_fit` meets its contract. The loop's invariant: whether the entries from i on fit says it for all.
 -- Assumes nothing.
 use Prim.Native.Nat.{◌≤◌, ◌+◌, ◌-◌, ◌*◌}
-use mathlib.Core.Path.{◌≡◌, ◌∙◌}
-use native.Mathlib.Omega.{arith}
-use borrow.Author.Rules.{rules}
-use borrow.Author.Tests.{not-true, not-false}
+use mathlib.Core.Path.{◌≡◌}
 use lib.ListN.{drop}
 use Rattle.transcript.specs.Sections.{all_fit}
-use Rattle.transcript.proofs.Reading.{fit_on, fit_stop, fit_end, fit_start}
 use Rattle.transcript.proofs.all_fit.Given as goal
 
 abbrev pub invariant-loop-i : goal.invariant-loop-i

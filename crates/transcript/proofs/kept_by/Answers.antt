@@ -1,6 +1,5 @@
 -- `transcript::kept_by` meets its contract: the test picks the case of `kept_by`.
 -- Assumes nothing.
-use borrow.Author.Rules.{rules}
 use Rattle.transcript.proofs.kept_by.Goals as goal
 
 pub returns-then-k-o : goal.returns-then-k-o

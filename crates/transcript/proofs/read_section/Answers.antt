@@ -1,7 +1,6 @@
 -- `transcript::read_section` meets its contract: at each `return` the tests that led there say which case of `section_of` holds.
 -- Assumes nothing.
 use Rattle.transcript.proofs.Reading.{too_short, too_many, too_far, no_room, unfit, settled}
-use borrow.Author.Rules.{rules}
 use Rattle.transcript.proofs.read_section.Goals as goal
 
 pub returns-then-n-lt8 : goal.returns-then-n-lt8

@@ -2,7 +2,6 @@
 -- Assumes nothing.
 use Prim.Native.Nat.{◌+◌, ◌*◌}
 use mathlib.Core.Path.{ap, ◌∙◌}
-use borrow.Author.Rules.{rules}
 use lib.Seq.{sets}
 use Rattle.wire.specs.Bytes.{le_bytes}
 use Rattle.transcript.proofs.Laid.{trailer_laid}

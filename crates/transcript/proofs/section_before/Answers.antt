@@ -3,7 +3,6 @@
 use mathlib.Core.Path.{sym, ◌∙◌}
 use native.Mathlib.Omega.{arith}
 use Rattle.transcript.proofs.Reading.{lies, before_part, none_before}
-use borrow.Author.Rules.{rules}
 use Rattle.transcript.proofs.section_before.Goals as goal
 
 pub slice_bounds-result-end : goal.slice_bounds-result-end

@@ -3,7 +3,6 @@
 use mathlib.Core.Path.{sym, ◌∙◌}
 use native.Mathlib.Omega.{arith}
 use Rattle.transcript.proofs.Reading.{lies, entries_part, no_entries}
-use borrow.Author.Rules.{rules}
 use Rattle.transcript.proofs.section_entries.Goals as goal
 
 pub overflow_mul-result : goal.overflow_mul-result
