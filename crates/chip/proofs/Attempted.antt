@@ -1,6 +1,6 @@
 -- One turn of the loop over the registers that a write attempts: what is left to store, from where the loop stands, gives what all of it gives.
 -- Assumes nothing.
-use Rattle.std.proofs.Common.{◌≡◌, ℕ, suc, ◌+◌, ◌-◌, ◌<◌, ◌≤◌, Bool, not, List, [], ◌∷◌, length, get_or, take, drop, set, replicate, sym, refl, ap, ◌∙◌, add-one, arith, drop-cons}
+use Rattle.std.proofs.Common.{◌≡◌, ℕ, suc, ◌+◌, ◌-◌, ◌<◌, ◌≤◌, Bool, not, List, length, get_or, take, drop, set, replicate, ap, arith, drop-cons}
 use lib.Seq.{sets}
 use Rattle.chip.specs.declared.Chip.{Chip}
 use Rattle.chip.specs.Chips.{attempted_by, chip_of, with_lists}

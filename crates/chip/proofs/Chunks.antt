@@ -1,5 +1,5 @@
 -- A chunk of the table: its bounds, and the write that it becomes. Assumes nothing.
-use Rattle.std.proofs.Common.{◌≡◌, ℕ, suc, ◌+◌, ◌<◌, ◌≤◌, true, ◌&&◌, leb, List, [], ◌∷◌, length, get_or, take, drop, set, sym, refl, ap, ◌∙◌, leb-true}
+use Rattle.std.proofs.Common.{◌≡◌, ℕ, suc, ◌+◌, ◌≤◌, true, ◌&&◌, leb, List, [], ◌∷◌, length, get_or, take, drop, set, refl, leb-true}
 use lib.Seq.{sets, length-sets}
 use Rattle.chip.specs.declared.Chunk.{Chunk}
 use Rattle.chip.specs.Steps.{chunk_bytes, chunk_table, every, within}

@@ -4,7 +4,6 @@ use Rattle.std.proofs.Common.{◌≡◌, ℕ, ◌+◌, ◌-◌, ◌≤◌, Bool,
 use Rattle.transcript.specs.declared.Entry.{Entry}
 use Rattle.chip.specs.declared.Chip.{Chip}
 use Rattle.chip.specs.declared.Progress.{Progress}
-use Rattle.chip.specs.declared.Progress.TheVariants.{Going, Refused11}
 use Rattle.chip.specs.Chips.{attempted_by, masked_byte, pair, with_lists}
 use Rattle.chip.specs.Entries.{written}
 use Rattle.chip.specs.InCode.{closing}

@@ -1,24 +1,23 @@
 -- What the code has laid out in the room is the section of its program's trace, and all behind it is as it was.
 -- Assumes nothing.
-use Rattle.std.proofs.Common.{◌≡◌, ℕ, suc, ◌+◌, ◌*◌, ◌%◌, ◌^◌, ◌<◌, ◌≤◌, Bool, true, false, cond, not, ◌&&◌, ◌||◌, eqb, List, [], ◌∷◌, ◌++◌, length, sym, refl, ap, ◌∙◌, subst, add-one, arith, length-append, eq-eqb, ne_eqb, eqb-true}
+use Rattle.std.proofs.Common.{◌≡◌, ℕ, suc, ◌+◌, ◌*◌, ◌%◌, ◌^◌, ◌<◌, Bool, true, false, cond, not, ◌&&◌, ◌||◌, eqb, List, [], ◌∷◌, ◌++◌, length, sym, refl, ap, ◌∙◌, subst, arith, length-append, eq-eqb, ne_eqb, eqb-true}
 use mathlib.Core.Bool.{or-false}
 use lib.Seq.{sets}
 use Rattle.transcript.specs.declared.Entry.{Entry}
 use Rattle.transcript.specs.Entries.{Eight, Eights, entry_bytes, zeros8}
-use Rattle.transcript.specs.Sections.{entries_bytes, section_bytes, trailer_bytes}
+use Rattle.transcript.specs.Sections.{entries_bytes, section_bytes}
 use Rattle.transcript.proofs.Laid.{eights_append, entry_next, section_laid}
 use Rattle.refusals.specs.declared.Answer.{Answer}
 use Rattle.refusals.specs.declared.Answer.TheVariants.{Refused}
 use Rattle.chip.specs.declared.Chip.{Chip}
 use Rattle.chip.specs.declared.Flow.{Flow}
 use Rattle.chip.specs.declared.LockTries.{LockTries}
-use Rattle.chip.specs.declared.Progress.{Progress}
-use Rattle.chip.specs.declared.Progress.TheVariants.{Going, Refused11}
-use Rattle.chip.specs.Entries.{is_try, lock_bit, lock_tries, with_outcome, no_tries}
+use Rattle.chip.specs.declared.Progress.TheVariants.{Going}
+use Rattle.chip.specs.Entries.{is_try, lock_bit, lock_tries, no_tries}
 use Rattle.chip.specs.Steps.{Step, Line, Trace, acts, chip_after, eight, emit, every, opened_for, in_list, line, ok_for, run, step, taken, trace, progress_for}
 use Rattle.chip.specs.Steps.Step.{Open, Close, Send, Mask, Plain}
 use Rattle.chip.specs.InCode.{with_try, Logged, in_room, logged, on_room, laid_out, sealed, lock_tries_from}
-use Rattle.chip.specs.Calls.{Called, answer_of, call_entries, call_of, called, locked_in, performed, lock_tries_in, tries_in}
+use Rattle.chip.specs.Calls.{answer_of, call_entries, call_of, called, locked_in, performed, lock_tries_in, tries_in}
 use Rattle.chip.proofs.Laws.{active, and_left, and_right, idle}
 
 or_assoc : (a b c : Bool) → ((a || b) || c) ≡ (a || (b || c))

@@ -1,7 +1,7 @@
 -- A call over a program: refusals before any step leave all as it was; else the program's trace decides the answer, the record and
 -- the room. Document 01, "Transcript and script", "Refusal numbers".
 -- Assumes nothing.
-use Rattle.std.specs.Prelude.{ℕ, ◌+◌, ◌*◌, Bool, true, false, cond, ◌&&◌, ◌||◌, List, [], ◌∷◌, length, ◌==◌, nat_lt}
+use Rattle.std.specs.Prelude.{ℕ, ◌+◌, ◌*◌, Bool, false, cond, ◌&&◌, ◌||◌, List, [], ◌∷◌, length, ◌==◌, nat_lt}
 use Rattle.std.proofs.lemmas.List.Edits.{sets}
 use Rattle.transcript.specs.declared.Entry.{Entry}
 use Rattle.transcript.specs.Sections.{section_bytes}

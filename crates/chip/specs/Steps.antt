@@ -2,7 +2,7 @@
 -- call is not taken, but an open repeater (its opening done) is closed (one entry). A failed closing is recorded and otherwise
 -- ignored." Two tables give a step its meaning: the entry that it makes, and the chip's record after it.
 -- Assumes nothing.
-use Rattle.std.specs.Prelude.{ℕ, zero, suc, ◌+◌, ◌<◌, ◌≤◌, Bool, true, false, cond, not, ◌&&◌, ◌||◌, List, [], ◌∷◌, ◌++◌, map, length, take, drop, ◌==◌, nat_le, slice_index}
+use Rattle.std.specs.Prelude.{ℕ, ◌+◌, Bool, true, false, cond, ◌&&◌, ◌||◌, List, [], ◌∷◌, ◌++◌, map, length, take, drop, ◌==◌, nat_le, slice_index}
 use Rattle.std.proofs.lemmas.List.Edits.{sets}
 use Rattle.transcript.specs.declared.Entry.{Entry}
 use Rattle.chip.specs.declared.Chip.{Chip}

@@ -1,7 +1,7 @@
 -- `chip::attempt` meets its contract. The loop's invariant: what is left, from here, gives what all of it gives from the start. Assumes nothing.
-use Rattle.std.proofs.Common.{◌≡◌, ◌+◌, ◌-◌, ◌≤◌, length, get_or, refl, ◌∙◌, rules}
-use Rattle.chip.specs.Chips.{attempted_by, chip_of}
-use Rattle.chip.proofs.Attempted.{left, begin, turn, end, of_attempted}
+use Rattle.std.proofs.Common.{◌-◌, get_or, refl, ◌∙◌, rules}
+use Rattle.chip.specs.Chips.{chip_of}
+use Rattle.chip.proofs.Attempted.{begin, turn, end, of_attempted}
 use Rattle.chip.proofs.attempt.Goals as goal
 
 pub loop-i-init : goal.loop-i-init

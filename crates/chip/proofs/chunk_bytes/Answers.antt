@@ -1,5 +1,5 @@
 -- `chip::chunk_bytes` meets its contract. Each return is one law of the definition, with what the calls before it ensure. Assumes nothing.
-use Rattle.std.proofs.Common.{◌≡◌, ◌+◌, ◌-◌, ◌∙◌, arith, rules}
+use Rattle.std.proofs.Common.{◌≡◌, ◌+◌, ◌-◌, ◌∙◌, arith}
 use Rattle.chip.specs.Steps.{chunk_bytes}
 use Rattle.chip.proofs.chunk_bytes.Goals as goal
 

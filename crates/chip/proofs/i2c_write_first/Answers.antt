@@ -1,5 +1,5 @@
 -- `chip::i2c_write_first` meets its contract: an opening, the chunks and a closing, over the chip's lists. Assumes nothing.
-use Rattle.std.proofs.Common.{map, take, drop, refl, ap, ◌∙◌, arith, rules}
+use Rattle.std.proofs.Common.{map, take, drop, refl, ap, ◌∙◌, arith}
 use Rattle.chip.specs.InCode.{in_room}
 use Rattle.chip.specs.Steps.{chunk_step, chunk_table, every, goes}
 use Rattle.chip.proofs.Laws.{bracketed, unopened}

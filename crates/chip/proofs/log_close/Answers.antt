@@ -1,7 +1,6 @@
 -- `chip::log_close` meets its contract. Each return is one law of the definition, with what the calls before it ensure. Assumes nothing.
 use Rattle.std.proofs.Common.{refl, ◌∙◌, arith, rules}
 use Rattle.chip.proofs.Laws.{owed_opened, idle, made}
-use borrow.Author.Tests.{not-true, not-false}
 use Rattle.chip.specs.InCode.{in_room}
 use Rattle.chip.specs.Steps.Step.{Close}
 use Rattle.chip.proofs.log_close.Goals as goal

@@ -1,5 +1,5 @@
 -- `chip::log_open` meets its contract. Each return is one law of the definition, with what the calls before it ensure. Assumes nothing.
-use Rattle.std.proofs.Common.{eqb, get_or, refl, ap, ◌∙◌, arith, rules}
+use Rattle.std.proofs.Common.{eqb, get_or, refl, ap, ◌∙◌, arith}
 use Rattle.chip.proofs.Laws.{owed_one, idle, made}
 use Rattle.chip.specs.InCode.{in_room}
 use Rattle.chip.specs.Steps.{goes}

@@ -1,5 +1,4 @@
 -- `chip::progress_after` gives what `progress_of` says, by cases of the flag. Assumes nothing.
-use Rattle.std.proofs.Common.{rules}
 use Rattle.chip.proofs.progress_after.Goals as goal
 
 pub returns-else-ok : goal.returns-else-ok

@@ -1,5 +1,5 @@
 -- `chip::too_short` meets its contract. Each return is one law of the definition, with what the calls before it ensure. Assumes nothing.
-use Rattle.std.proofs.Common.{rules, le-ltb, lt-ltb}
+use Rattle.std.proofs.Common.{le-ltb, lt-ltb}
 use Rattle.chip.specs.Calls.{too_short}
 use Rattle.chip.proofs.too_short.Goals as goal
 

@@ -1,5 +1,4 @@
 -- `chip::with_outcome` meets its contract. Each return is one law of the definition, with what the calls before it ensure. Assumes nothing.
-use Rattle.std.proofs.Common.{rules}
 use Rattle.chip.proofs.with_outcome.Goals as goal
 
 pub returns-then-kind-ok : goal.returns-then-kind-ok

@@ -1,5 +1,5 @@
 -- `chip::with_repeater` meets its contract: an opening, the updates and a closing, over the chip's lists. Assumes nothing.
-use Rattle.std.proofs.Common.{ap, ◌∙◌, arith, rules}
+use Rattle.std.proofs.Common.{ap, ◌∙◌, arith}
 use Rattle.chip.specs.InCode.{in_room, meant_of}
 use Rattle.chip.specs.Steps.{goes, updates, update_step}
 use Rattle.chip.proofs.Laws.{bracketed, unopened}

@@ -1,6 +1,5 @@
 -- `chip::with_try` meets its contract. Each return is one law of the definition, with what the calls before it ensure. Assumes nothing.
 use Rattle.chip.specs.InCode.{with_try}
-use Rattle.std.proofs.Common.{rules}
 use Rattle.chip.proofs.with_try.Goals as goal
 
 pub returns-then-e : goal.returns-then-e

@@ -1,10 +1,8 @@
 -- `chip::write_list` meets its contract. The loop's invariant: what is left, from here, gives what all of it gives from the start. Assumes nothing.
 use Rattle.chip.proofs.Laws.{stop, keep}
-use Rattle.std.proofs.Common.{◌≡◌, ◌+◌, ◌-◌, ◌≤◌, true, length, take, drop, sym, refl, ap, ◌∙◌, arith, rules}
-use lib.ListN.{length-map}
-use Rattle.chip.specs.Chips.{chip_of}
-use Rattle.chip.specs.InCode.{in_room, meant_of, on_log}
-use Rattle.chip.specs.Steps.{closing_owed, goes, in_range, run, updates, update_step}
+use Rattle.std.proofs.Common.{◌+◌, drop, refl, ap, ◌∙◌, arith, rules}
+use Rattle.chip.specs.InCode.{in_room, meant_of}
+use Rattle.chip.specs.Steps.{goes, in_range, run, updates, update_step}
 use Rattle.chip.proofs.Lists.{every_take, every_inner, inner_update, turn, end}
 use Rattle.chip.proofs.write_list.Goals as goal
 

@@ -1,5 +1,5 @@
 -- `chip::write_one` meets its contract: the write, and the end of a part. Assumes nothing.
-use Rattle.std.proofs.Common.{arith, rules}
+use Rattle.std.proofs.Common.{arith}
 use Rattle.chip.specs.InCode.{in_room}
 use Rattle.chip.proofs.Laws.{ended_here}
 use Rattle.chip.proofs.write_one.Goals as goal

@@ -1,5 +1,5 @@
 -- `chip::write_two` meets its contract: the first write, looked at, and the second. Assumes nothing.
-use Rattle.std.proofs.Common.{refl, ap, arith, rules}
+use Rattle.std.proofs.Common.{refl, ap, arith}
 use Rattle.chip.specs.InCode.{in_room}
 use Rattle.chip.specs.Steps.{every, goes}
 use Rattle.chip.proofs.Laws.{cut_here, progress_on}
