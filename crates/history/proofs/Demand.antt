@@ -14,7 +14,7 @@ use native.Mathlib.Omega.{arith}
 use lib.ListN.{length, get_or, set, length-replicate, get_or-replicate}
 use Rattle.transcript.specs.declared.Entry.{Entry}
 use Rattle.transcript.specs.Sections.{AllFit, Parted, section_bytes}
-use Rattle.attempts.specs.Attempts.{Last, Played, Regs, byte_in, done, doubt_in, last_from, last_in, names, tuner_at}
+use Rattle.attempts.specs.Attempts.{Last, Played, Regs, byte_in, doubt_in, last_in, names, tuner_at}
 use Rattle.attempts.specs.Namings as any
 use Rattle.attempts.specs.Namings.Last.{Never, Tried}
 use Rattle.attempts.proofs.Doubt.{InVain, doubt_any, doubt_exactly, sure_byte}

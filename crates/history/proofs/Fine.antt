@@ -14,12 +14,10 @@ use Rattle.transcript.specs.Table.{address_most, first_most, n_high, n_low, outc
 use Rattle.transcript.specs.Entries.{entry_fits, zeros, zeros8}
 use Rattle.chip.specs.declared.Chunk.{Chunk}
 use Rattle.chip.specs.declared.Update.{Update}
-use Rattle.chip.specs.Chips.{pair}
 use Rattle.chip.specs.Entries.{pointer, read_entry, with_outcome, wait}
 use Rattle.chip.specs.Steps.{Step, all_in, while_open, chunk_bytes, chunk_step, chunk_table, every, in_range, tuner_write, update_step, updates, within}
 use Rattle.chip.specs.Steps.Step.{Close, Plain}
 use Rattle.chip.proofs.Laws.{and_left, and_right}
-use Rattle.chip.proofs.Lists.{low, high}
 use Rattle.chip.proofs.Chunks.{some, seven, inside, first_register, chunk_eight, table_within}
 use Rattle.history.specs.Programs.{fine, fine_plain, fine_send, reload_steps}
 use Rattle.history.proofs.Fitted.{written_fits}

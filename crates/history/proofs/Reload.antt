@@ -10,7 +10,7 @@ use lib.ListN.{length, get_or, take, drop, length-drop}
 use lib.Seq.{length-take-le, get_or-take, get_or-drop}
 use Rattle.below.proofs.Test.{below}
 use Rattle.transcript.specs.declared.Entry.{Entry}
-use Rattle.attempts.specs.Attempts.{Last, first_of, last_by, last_from, last_in, names, sent_to, tuner_at}
+use Rattle.attempts.specs.Attempts.{Last, first_of, last_by, last_in, names, sent_to, tuner_at}
 use Rattle.attempts.specs.Namings as any
 use Rattle.attempts.specs.Namings.Last.{Never, Tried}
 use Rattle.attempts.proofs.Named.{named, other_kind, below_first, past_last}
