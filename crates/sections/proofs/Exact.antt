@@ -1,18 +1,17 @@
 -- The walk accepts exactly sections end to end: any good sections, joined, are accepted with all their entries in order, and whatever is accepted is
 -- such sections. Assumes nothing.
-use Prim.Native.Nat.{ℕ, zero, suc, ◌+◌, ◌≤◌, ◌<◌}
-use mathlib.Core.Path.{◌≡◌, refl, sym, ap, ap₂, ◌∙◌, subst}
-use mathlib.Core.Bool.{Bool, true, false, ◌&&◌}
+use Prim.Native.Nat.{ℕ, zero, suc, ◌≤◌, ◌<◌}
+use mathlib.Core.Path.{◌≡◌, refl, sym, ap, ap₂, ◌∙◌}
+use mathlib.Core.Bool.{true}
 use mathlib.Core.List.{List, [], ◌∷◌, ◌++◌, append-nil, append_assoc}
 use native.Mathlib.Omega.{arith}
-use lib.ListN.{length, take, length-append, length-take}
+use lib.ListN.{length, take, length-take}
 use Rattle.wire.specs.Bytes.{Bytes}
 use Rattle.wire.proofs.Widths.{bytes_take}
 use Rattle.transcript.specs.declared.Entry.{Entry}
 use Rattle.transcript.specs.Sections.{AllFit, Parted, before_of, is_section, section_bytes, section_entries, start_of}
 use Rattle.transcript.proofs.Reading.{both, found, sound}
-use Rattle.transcript.proofs.Exact.{fit_eights, read_then_written, written_then_read}
-use Rattle.transcript.proofs.Laid.{length-section_bytes}
+use Rattle.transcript.proofs.Exact.{read_then_written, written_then_read}
 use Rattle.sections.specs.Chain.{Good, chain, chain_entries, end_to_end, together}
 use Rattle.sections.proofs.Walk.{chain_empty, chain_step, entries_empty, entries_step}
 

@@ -1,17 +1,16 @@
 -- One step of the walk: a slice that is not empty is sections end to end where its end is one and what stands before it is. However many steps it is
 -- given, they are enough.
 -- Assumes nothing.
-use Prim.Native.Nat.{ℕ, zero, suc, ◌+◌, ◌-◌, ◌*◌, ◌≤◌, ◌<◌}
-use mathlib.Core.Path.{◌≡◌, refl, sym, ap, ap₂, ◌∙◌}
+use Prim.Native.Nat.{ℕ, zero, suc, ◌≤◌, ◌<◌}
+use mathlib.Core.Path.{◌≡◌, refl, sym, ap, ◌∙◌}
 use mathlib.Core.Bool.{Bool, true, false, cond, ◌&&◌}
-use mathlib.Core.List.{List, [], ◌∷◌, ◌++◌}
+use mathlib.Core.List.{List, [], ◌++◌}
 use native.Mathlib.Omega.{arith}
 use borrow.Author.Tests.{eq-eqb, ne_eqb, eqb-true, eqb-false}
 use lib.Dec.{eqb}
 use lib.ListN.{length, take, length-take}
 use Rattle.transcript.specs.declared.Entry.{Entry}
-use Rattle.transcript.specs.Sections.{is_section, section_entries, start_of, count_of}
-use Rattle.transcript.proofs.Reading.{sound}
+use Rattle.transcript.specs.Sections.{is_section, section_entries, start_of}
 use Rattle.sections.specs.Chain.{chain, chain_by, chain_entries, entries_by}
 
 -- what stands before the end is shorter

@@ -1,7 +1,7 @@
 -- Sections end to end in one slice. Document 02, #110: "From sections end to end in one slice, oldest first"; "an empty slice has none".
 -- The reader starts from the end of a slice, so the walk does too: the last section, then what stands before it, to the slice's start.
 -- Assumes nothing.
-use Rattle.std.specs.Prelude.{ℕ, zero, suc, ◌≤◌, Bool, true, false, cond, ◌&&◌, List, [], ◌∷◌, ◌++◌, eqb, length, take}
+use Rattle.std.specs.Prelude.{ℕ, zero, suc, ◌≤◌, Bool, true, cond, ◌&&◌, List, [], ◌∷◌, ◌++◌, eqb, length, take}
 use Rattle.transcript.specs.declared.Entry.{Entry}
 use Rattle.transcript.specs.Sections.{AllFit, is_section, section_bytes, section_entries, start_of}
 
