@@ -1,16 +1,16 @@
 -- The list and a chip: each register that is not doubtful at the end is named by one write, with its byte, and no other by any; played on a chip that
 -- holds anything it leaves the first as the sections did, and the others as they were. The premises stand at the head of crates/attempts/specs/Attempts.antt.
 -- Assumes nothing.
-use Prim.Native.Nat.{ℕ, zero, suc, ◌+◌, ◌-◌, ◌*◌, ◌≤◌, ◌<◌}
+use Prim.Native.Nat.{ℕ, zero, suc, ◌+◌, ◌-◌, ◌≤◌, ◌<◌}
 use mathlib.Core.Path.{◌≡◌, refl, sym, ap, ap₂, ◌∙◌}
-use mathlib.Core.Bool.{Bool, true, false, cond, not, ◌&&◌, true≢false, false≢true}
-use mathlib.Core.List.{List, [], ◌∷◌, ◌++◌, map}
+use mathlib.Core.Bool.{Bool, true, false, false≢true}
+use mathlib.Core.List.{List, [], ◌∷◌, map}
 use native.Mathlib.Omega.{arith}
-use borrow.Author.Tests.{leb-true, leb-false, ltb-true, ltb-false, eq-eqb, le-leb, lt-leb, lt-ltb, le-ltb}
-use lib.Dec.{eqb, leb, ltb}
+use borrow.Author.Tests.{leb-true, ltb-true, eq-eqb, lt-leb}
+use lib.Dec.{leb, ltb}
 use lib.ListN.{length, get_or, length-map}
 use Rattle.transcript.specs.declared.Entry.{Entry}
-use Rattle.attempts.specs.Attempts.{Last, Played, Regs, byte_in, done, doubt_in, last_by, last_from, last_in, names, sent_to, tuner_at}
+use Rattle.attempts.specs.Attempts.{Last, Played, Regs, byte_in, done, doubt_in, last_from, last_in, names, sent_to, tuner_at}
 use Rattle.attempts.specs.Namings as any
 use Rattle.attempts.specs.Namings.Last.{Never, Tried}
 use Rattle.attempts.proofs.Played.{last_done, last_never}
