@@ -2,7 +2,7 @@
 -- the section that goes on. Assumes nothing.
 use Prim.Native.Nat.{ℕ, zero, suc, ◌+◌, ◌-◌, ◌*◌, ◌<◌, ◌≤◌}
 use mathlib.Core.Path.{◌≡◌, refl, sym, ap, ap₂, subst, ◌∙◌}
-use mathlib.Core.List.{List, [], ◌∷◌, ◌++◌, map, append_assoc}
+use mathlib.Core.List.{List, [], ◌∷◌, ◌++◌, append_assoc}
 use mathlib.Core.Bool.{Bool, true, false, cond, ◌&&◌}
 use native.Mathlib.Omega.{arith}
 use lib.Dec.{eqb, leb, ltb}
@@ -15,8 +15,7 @@ use Rattle.transcript.specs.Sections.{Parted, entries_bytes, section_bytes, trai
 use Rattle.transcript.proofs.Exact.{fit_eights}
 use Rattle.transcript.proofs.Laid.{entries_bytes-append, length-entries_bytes, length-section_bytes}
 use Rattle.transcript.proofs.Reading.{both}
-use Rattle.parting.specs.declared.Place.{Place}
-use Rattle.parting.specs.Parting.{Differ, Handed, PartAt, agree, alike, cut_of, equal_bytes, equal_entries, parting_of, placed, rest_of, whose_of}
+use Rattle.parting.specs.Parting.{Handed, PartAt, agree, alike, cut_of, equal_bytes, equal_entries, parting_of, placed, rest_of, whose_of}
 use Rattle.parting.proofs.Laws.{within}
 
 -- ---- the test says that two entries are equal

@@ -1,7 +1,7 @@
 -- One law for each way in which a test of the code goes, and one turn of each loop.
 -- Assumes nothing.
 use Prim.Native.Nat.{ℕ, suc, ◌+◌, ◌-◌, ◌*◌, ◌/◌, ◌<◌, ◌≤◌}
-use mathlib.Core.Path.{◌≡◌, refl, sym, ap, ap₂, ◌∙◌}
+use mathlib.Core.Path.{◌≡◌, refl, sym, ap₂, ◌∙◌}
 use mathlib.Core.List.{List, [], ◌∷◌}
 use mathlib.Core.Bool.{Bool, true, false, cond, ◌&&◌, ◌||◌}
 use native.Mathlib.Omega.{arith}
@@ -15,10 +15,10 @@ use Rattle.transcript.specs.declared.Entry.{Entry}
 use Rattle.transcript.specs.declared.Section.TheVariants.{Read, Refused}
 use Rattle.transcript.specs.Table.{is_read}
 use Rattle.transcript.specs.Entries.{entry_of, zeros8}
-use Rattle.transcript.specs.Sections.{count_of, entries_in, entries_of, section_entries, section_of}
+use Rattle.transcript.specs.Sections.{entries_in, entries_of, section_entries, section_of}
 use Rattle.transcript.proofs.Exact.{entries_in-take, length-entries_in}
 use Rattle.transcript.proofs.Reading.{both, entries_part, found}
-use Rattle.parting.specs.Parting.{agree, alike, between, cut_of, equal_bytes, equal_entries, nowhere, parting_of, place, placed, rest_of}
+use Rattle.parting.specs.Parting.{agree, alike, cut_of, equal_bytes, equal_entries, nowhere, parting_of, place, placed, rest_of}
 use Rattle.parting.specs.declared.Place.{Place}
 
 -- ---- one step against another

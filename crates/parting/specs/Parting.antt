@@ -2,7 +2,7 @@
 -- first lacks; outcome and read data are left out of the comparison. If the second ends first, hand back the rest of the first section from there.
 -- Equal ones give an empty part of the second."
 -- Assumes nothing.
-use Rattle.std.specs.Prelude.{ℕ, zero, suc, ◌+◌, ◌-◌, ◌*◌, ◌≤◌, ◌≡◌, Bool, true, false, cond, ◌&&◌, List, [], ◌∷◌, map, eqb, leb, ltb, length, take, drop}
+use Rattle.std.specs.Prelude.{ℕ, suc, ◌+◌, ◌-◌, ◌*◌, ◌≤◌, ◌≡◌, Bool, true, false, cond, ◌&&◌, List, [], ◌∷◌, map, eqb, leb, ltb, length, take, drop}
 use Rattle.transcript.specs.declared.Entry.{Entry}
 use Rattle.transcript.specs.Entries.{bare}
 use Rattle.transcript.specs.Sections.{entries_bytes, refusal_of, section_entries, section_of}

@@ -1,14 +1,11 @@
 -- `parting::alike_from` meets its contract. The loop's invariant: k, and how many of the entries from k on are alike, are how many of all are.
 -- Assumes nothing.
-use Prim.Native.Nat.{◌≤◌, ◌+◌, ◌-◌, ◌*◌}
-use mathlib.Core.Path.{◌≡◌, sym, ap₂, ◌∙◌}
+use Prim.Native.Nat.{◌+◌, ◌*◌}
+use mathlib.Core.Path.{sym, ap₂, ◌∙◌}
 use native.Mathlib.Omega.{arith}
-use lib.ListN.{drop}
 use borrow.Author.Rules.{rules}
-use borrow.Author.Tests.{not-true, not-false}
-use Rattle.transcript.specs.Sections.{entries_in}
-use Rattle.parting.specs.Parting.{agree, alike}
-use Rattle.parting.proofs.Laws.{agree_end, agree_on, agree_start, agree_stop, both_below, entry_cut, left}
+use Rattle.parting.specs.Parting.{alike}
+use Rattle.parting.proofs.Laws.{agree_end, agree_on, agree_start, agree_stop, both_below, entry_cut}
 use Rattle.parting.proofs.alike_from.Goals as goal
 
 pub loop-k-init : goal.loop-k-init

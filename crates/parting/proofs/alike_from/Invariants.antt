@@ -1,14 +1,11 @@
 -- `parting::alike_from` meets its contract. The loop's invariant: k, and how many of the entries from k on are alike, are how many of all are.
 -- Assumes nothing.
-use Prim.Native.Nat.{◌≤◌, ◌+◌, ◌-◌, ◌*◌}
-use mathlib.Core.Path.{◌≡◌, sym, ap₂, ◌∙◌}
-use native.Mathlib.Omega.{arith}
+use Prim.Native.Nat.{◌≤◌, ◌+◌, ◌-◌}
+use mathlib.Core.Path.{◌≡◌}
 use lib.ListN.{drop}
-use borrow.Author.Rules.{rules}
-use borrow.Author.Tests.{not-true, not-false}
 use Rattle.transcript.specs.Sections.{entries_in}
-use Rattle.parting.specs.Parting.{agree, alike}
-use Rattle.parting.proofs.Laws.{agree_end, agree_on, agree_start, agree_stop, both_below, entry_cut, left}
+use Rattle.parting.specs.Parting.{agree}
+use Rattle.parting.proofs.Laws.{left}
 use Rattle.parting.proofs.alike_from.Given as goal
 
 abbrev pub invariant-loop-k : goal.invariant-loop-k

@@ -2,7 +2,6 @@
 -- Assumes nothing.
 use native.Mathlib.Omega.{arith}
 use Rattle.parting.proofs.Laws.{lies_in, past_end, past_start}
-use borrow.Author.Rules.{rules}
 use Rattle.parting.proofs.cut.Goals as goal
 
 pub returns-then-s-start : goal.returns-then-s-start

@@ -1,13 +1,10 @@
 -- `parting::equal_bytes` meets its contract. The loop's invariant: `ok`, and whether the bytes from i on are equal, say it for all.
 -- Assumes nothing.
 use Prim.Native.Nat.{◌-◌}
-use mathlib.Core.Path.{◌≡◌, refl, ◌∙◌}
+use mathlib.Core.Path.{◌≡◌}
 use mathlib.Core.Bool.{◌&&◌}
-use native.Mathlib.Omega.{arith}
 use lib.ListN.{length, drop}
-use borrow.Author.Rules.{rules}
 use Rattle.parting.specs.Parting.{equal_bytes}
-use Rattle.parting.proofs.Laws.{equal_turn, equal_end}
 use Rattle.parting.proofs.equal_bytes.Given as goal
 
 abbrev pub invariant-loop-i : goal.invariant-loop-i

@@ -1,7 +1,6 @@
 -- `parting::parting` meets its contract: what was read of both slices says which case of `parting_of` holds.
 -- Assumes nothing.
 use mathlib.Core.Path.{sym, ◌∙◌}
-use native.Mathlib.Omega.{arith}
 use Rattle.transcript.proofs.Reading.{lies}
 use Rattle.parting.proofs.Laws.{both_read, no_first, no_second, within_both}
 use borrow.Author.Rules.{rules}

@@ -1,7 +1,6 @@
 -- `parting::place_by` meets its contract: the test is that of `placed`.
 -- Assumes nothing.
 use Rattle.parting.proofs.Laws.{first_goes_on, second_goes_on}
-use borrow.Author.Rules.{rules}
 use Rattle.parting.proofs.place_by.Goals as goal
 
 pub returns-then-n-k : goal.returns-then-n-k

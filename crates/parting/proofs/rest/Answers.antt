@@ -1,7 +1,6 @@
 -- `parting::rest` meets its contract: the part of the slice that the place names.
 -- Assumes nothing.
 use Rattle.parting.proofs.Laws.{of_first, of_second}
-use borrow.Author.Rules.{rules}
 use Rattle.parting.proofs.rest.Goals as goal
 
 pub returns-then-place-eq1 : goal.returns-then-place-eq1
