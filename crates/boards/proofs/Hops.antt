@@ -1,7 +1,7 @@
 -- The board-level tune over the code: its parts by cases, and the whole call, refused before any step or performed. Assumes nothing.
 use Prim.Native.Nat.{ℕ, ◌+◌, ◌-◌, ◌^◌, ◌≤◌, ◌<◌}
 use mathlib.Core.Path.{◌≡◌, refl, sym, ap, ◌∙◌}
-use mathlib.Core.Bool.{Bool, true, false, ◌&&◌, cond}
+use mathlib.Core.Bool.{Bool, true, false, ◌&&◌}
 use mathlib.Core.List.{List, [], ◌++◌}
 use native.Mathlib.Omega.{arith}
 use borrow.Author.Tests.{eq-eqb, eqb-false, ne_eqb}
@@ -23,8 +23,7 @@ use Rattle.chip.specs.Calls.{Called, answer_of, called, performed, refusal_with,
 use Rattle.chip.specs.Courses.{left_by}
 use Rattle.chip.specs.Entries.{no_tries}
 use Rattle.chip.specs.InCode.{laid_out, sealed, Logged, in_room, logged, on_room}
-use Rattle.chip.specs.Steps.{Line, Step, Trace, while_open, eight, every, line, run, trace}
-use Rattle.chip.proofs.Laws.{run_address}
+use Rattle.chip.specs.Steps.{Line, Step, Trace, eight, every, line, run, trace}
 use Rattle.chip.proofs.Taken.{handed, performs, seen_in, stands, tried, untried}
 use Rattle.demod.specs.Programs.{ddc_steps}
 use Rattle.driver.specs.declared.Driver.{Driver}
@@ -39,13 +38,12 @@ use Rattle.pll.specs.declared.Pll.TheVariants as pll
 use Rattle.r82xx.specs.declared.Tuner.{Tuner}
 use Rattle.r82xx.specs.Calls.{hz_refusal, plan_for}
 use Rattle.r82xx.specs.Record.{sound, with_chip, with_lock, with_notch}
-use Rattle.r82xx.specs.Orders.{lock_kept}
 use Rattle.r82xx.proofs.Refusals.{hz_fits}
 use Rattle.r82xx.proofs.Whole.{behind_eight, refuse_by}
 use Rattle.tuning.specs.Program.{inner_steps, tune_steps, tune_answer}
 use Rattle.tuning.specs.Tries.{lock_by}
 use Rattle.tuning.proofs.Programs.{eight_inner, every_app}
-use Rattle.boards.specs.Hops.{ddc_part, heard_by, hop_kept, hop_refusal, hop_result, hop_row, hop_lock_tries, hop_steps, path_part, path_replies}
+use Rattle.boards.specs.Hops.{ddc_part, heard_by, hop_kept, hop_refusal, hop_result, hop_lock_tries, hop_steps, path_part, path_replies}
 
 -- ---- the parts, by what they go by
 

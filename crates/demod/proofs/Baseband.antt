@@ -1,7 +1,7 @@
 -- `init_baseband`'s program: its parts, and that each of its entries has eight data bytes. Assumes nothing.
 use Rattle.chip.proofs.Laws.{then}
 use Prim.Native.Nat.{ℕ}
-use mathlib.Core.Path.{◌≡◌, refl, ap, ◌∙◌}
+use mathlib.Core.Path.{◌≡◌, refl}
 use mathlib.Core.Bool.{true}
 use mathlib.Core.List.{List, ◌++◌}
 use lib.ListN.{replicate}

@@ -1,12 +1,10 @@
 -- What is known of a reference that was taken. Assumes nothing.
 use Prim.Native.Nat.{ℕ, ◌<◌}
-use mathlib.Core.Path.{◌≡◌, refl, sym, ◌∙◌}
-use mathlib.Core.Bool.{Bool, true, false, ◌&&◌}
-use native.Mathlib.Omega.{arith}
-use borrow.Author.Tests.{eqb-false, eqb-true, leb-true}
-use lib.Dec.{eqb, leb}
+use mathlib.Core.Path.{◌≡◌}
+use mathlib.Core.Bool.{Bool, true, ◌&&◌}
+use borrow.Author.Tests.{leb-true}
+use lib.Dec.{leb}
 use Rattle.chip.proofs.Laws.{and_right}
-use Rattle.driver.specs.Calls.{rate_refusal}
 
 -- a whole record's reference is above 0
 pub xtal_taken : (s : Bool) (xtal : ℕ) → (s && leb 1 xtal) ≡ true → 0 < xtal

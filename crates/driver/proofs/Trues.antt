@@ -3,20 +3,18 @@
 use Prim.Native.Nat.{ℕ, ◌≤◌}
 use mathlib.Core.Path.{◌≡◌, refl, sym, ap, subst, ◌∙◌}
 use mathlib.Core.Bool.{Bool, true, false, ◌&&◌}
-use mathlib.Core.List.{List, []}
+use mathlib.Core.List.{List}
 use native.Mathlib.Omega.{arith}
 use borrow.Author.Tests.{eqb-true}
 use lib.Dec.{eqb}
 use lib.ListN.{length}
 use Rattle.bands.specs.declared.Planned.{Planned}
-use Rattle.refusals.specs.declared.Answer.{Answer}
-use Rattle.refusals.specs.declared.Answer.TheVariants.{Done, Refused, Stopped}
-use Rattle.chip.specs.declared.Chip.{Chip}
+use Rattle.refusals.specs.declared.Answer.TheVariants.{Done, Refused}
 use Rattle.chip.specs.declared.Progress.{Progress}
 use Rattle.chip.specs.declared.Progress.TheVariants.{Going, Refused11}
-use Rattle.chip.specs.Calls.{Called, answer_of, call_of, called, performed, refusal_with}
+use Rattle.chip.specs.Calls.{Called, answer_of, call_of, refusal_with}
 use Rattle.chip.specs.Courses.{left_by}
-use Rattle.chip.specs.Steps.{Step, Trace, trace}
+use Rattle.chip.specs.Steps.{Trace, trace}
 use Rattle.chip.proofs.Refusals.{taken_by}
 use Rattle.registers.specs.Rates.{true_of}
 use Rattle.registers.proofs.Ratios.{true_least}
@@ -26,7 +24,7 @@ use Rattle.driver.proofs.Rates.{under}
 use Rattle.driver.specs.declared.Driver.{Driver}
 use Rattle.driver.specs.Record.{sound_driver, with_rate, xtal_of}
 use Rattle.driver.specs.Programs.{if_for, sample_rate_steps}
-use Rattle.driver.specs.Calls.{Both, both, rate_argument, rate_refusal, rate_result, rated_by, retuned}
+use Rattle.driver.specs.Calls.{Both, rate_argument, rate_refusal, rate_result, rated_by}
 
 -- by how the steps went
 rated : (d : Driver) (rate xtal : ℕ) (progress : Progress) → answer_of (Done 0) progress ≡ Done 0 → rated_by d rate xtal progress ≡ with_rate d rate (true_of rate xtal)

@@ -1,7 +1,7 @@
 -- The driver's calls, as one definition each. Document 01, "Transcript and script": "sample rate 17, 0; board path 10, 3"; "Refusal numbers";
 -- "The record": "`set_sample_rate` takes both records; the rate is recorded only when all steps are done."
 -- Assumes nothing.
-use Rattle.std.specs.Prelude.{ℕ, Bool, ◌&&◌, cond, List, [], eqb, leb, ℤ}
+use Rattle.std.specs.Prelude.{ℕ, ◌&&◌, cond, List, [], eqb, leb, ℤ}
 use Rattle.board.specs.declared.PathRead.{PathRead}
 use Rattle.board.specs.declared.PathRead.TheVariants as path-read
 use Rattle.board.specs.Numbers.{path_of}
@@ -11,7 +11,7 @@ use Rattle.refusals.specs.declared.Answer.TheVariants.{Done, Refused}
 use Rattle.refusals.specs.Table.{SETUP, CORRECTION, TABLE}
 use Rattle.chip.specs.declared.Chip.{Chip}
 use Rattle.chip.specs.declared.Progress.{Progress}
-use Rattle.chip.specs.Calls.{Called, called}
+use Rattle.chip.specs.Calls.{Called}
 use Rattle.chip.specs.Courses.{Course, left_by}
 use Rattle.chip.specs.Courses.Course.{Still, Taken}
 use Rattle.chip.specs.Steps.{goes}

@@ -1,6 +1,6 @@
 -- The driver's calls over bytes. Document 01, "The record": "`set_sample_rate` takes both records". Document 02, #109: so does the correction.
 -- Assumes nothing.
-use Rattle.std.specs.Prelude.{ℕ, Bool, ◌&&◌, ◌||◌, cond, List, eqb, ltb, ℤ, length}
+use Rattle.std.specs.Prelude.{ℕ, Bool, ◌&&◌, ◌||◌, cond, List, ltb, ℤ, length}
 use Rattle.refusals.specs.Lent.{Given, answered_to}
 use Rattle.refusals.specs.declared.Answer.{Answer}
 use Rattle.refusals.specs.declared.Answer.TheVariants.{Refused}

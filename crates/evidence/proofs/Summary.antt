@@ -14,7 +14,6 @@ use Rattle.attempts.specs.Attempts.{names, tuner_at}
 use Rattle.attempts.specs.Namings.{Last, Naming, last_by, last_from, last_in}
 use Rattle.attempts.specs.Namings.Last.{Never, Tried}
 use Rattle.attempts.proofs.Lasts.{known, last_append, last_known}
-use Rattle.attempts.proofs.Named.{named}
 use Rattle.chip.proofs.Laws.{and_left, and_right}
 use Rattle.evidence.specs.Alike.{Agree, SameLasts, demod_places}
 use Rattle.evidence.specs.Cuts.{among}

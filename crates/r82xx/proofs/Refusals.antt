@@ -1,14 +1,11 @@
 -- The refusals of a frequency, case by case. Assumes nothing.
-use Prim.Native.Nat.{ℕ, ◌+◌, ◌*◌, ◌^◌, ◌≤◌, ◌<◌}
-use mathlib.Core.Path.{◌≡◌, refl, sym, ap, ◌∙◌}
-use mathlib.Core.Bool.{Bool, true, false, not, ◌&&◌, ◌||◌, cond}
+use Prim.Native.Nat.{ℕ, ◌+◌, ◌^◌, ◌≤◌, ◌<◌}
+use mathlib.Core.Path.{◌≡◌, refl}
+use mathlib.Core.Bool.{Bool, true, false}
 use native.Mathlib.Omega.{arith}
-use borrow.Author.Tests.{eq-eqb, eqb-false, eqb-true, le-leb, leb-false, lt-leb, ltb-false, ne_eqb}
-use lib.Dec.{eqb, leb, ltb}
-use Rattle.chip.specs.Calls.{too_short}
-use Rattle.r82xx.specs.declared.Tuner.{Tuner}
-use Rattle.r82xx.specs.Record.{sound}
-use Rattle.r82xx.specs.Calls.{hz_refusal, refusal_of}
+use borrow.Author.Tests.{eq-eqb, le-leb, leb-false, lt-leb, ne_eqb}
+use lib.Dec.{eqb, leb}
+use Rattle.r82xx.specs.Calls.{hz_refusal}
 
 -- hz 0; hz + IF over u64
 pub no_hz : (hz ifreq : ℕ) → hz ≡ 0 → 2 ≡ hz_refusal hz ifreq

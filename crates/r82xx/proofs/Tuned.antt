@@ -1,21 +1,18 @@
 -- A tuning's call over the code, and the calls that are told by cases: path, correction. Assumes nothing.
-use Prim.Native.Nat.{ℕ, ◌+◌, ◌-◌, ◌^◌, ◌≤◌, ◌<◌}
-use mathlib.Core.Path.{◌≡◌, refl, sym, ap, subst⁻¹, ◌∙◌}
-use mathlib.Core.Bool.{Bool, true, false, not, ◌&&◌, ◌||◌, cond}
-use mathlib.Core.List.{List, [], ◌∷◌, map}
+use Prim.Native.Nat.{ℕ, ◌≤◌, ◌<◌}
+use mathlib.Core.Path.{◌≡◌, refl, sym, ap, ◌∙◌}
+use mathlib.Core.Bool.{Bool, true, false, cond}
+use mathlib.Core.List.{List, [], map}
 use native.Mathlib.Omega.{arith}
-use borrow.Author.Tests.{le-leb, lt-leb}
-use lib.Dec.{leb}
 use lib.Ieee.{Float, binary32, to_bits}
 use lib.IntN.{ℤ, pos}
-use lib.ListN.{get_or, length, replicate}
+use lib.ListN.{length, replicate}
 use Rattle.board.specs.declared.Path.{Path}
 use Rattle.board.specs.declared.PathRead.{PathRead}
 use Rattle.board.specs.declared.PathRead.TheVariants as path-read
 use Rattle.refusals.specs.declared.Answer.{Answer}
 use Rattle.refusals.specs.declared.Answer.TheVariants.{Done, Refused}
 use Rattle.refusals.specs.Table.{SETUP}
-use Rattle.chip.specs.declared.Chip.{Chip}
 use Rattle.chip.specs.declared.Flow.{Flow}
 use Rattle.chip.specs.declared.LockTries.{LockTries}
 use Rattle.chip.specs.declared.Updates.{Updates}
@@ -23,7 +20,7 @@ use Rattle.chip.specs.declared.Progress.TheVariants.{Going}
 use Rattle.chip.specs.Calls.{Called, answer_of, called, performed, lock_tries_in}
 use Rattle.chip.specs.Entries.{no_tries}
 use Rattle.chip.specs.InCode.{laid_out, sealed, Logged, in_room, listed, logged, meant_of, on_room}
-use Rattle.chip.specs.Steps.{Line, Step, Trace, while_open, eight, every, line, run, trace}
+use Rattle.chip.specs.Steps.{Line, Step, Trace, eight, every, line, run, trace}
 use Rattle.chip.proofs.Taken.{handed, performs, seen_in, stands, tried, untried}
 use Rattle.gain.specs.Steps.{chosen_of, clamped, steps}
 use Rattle.gain.proofs.Steps.{chosen_lt}
@@ -39,9 +36,8 @@ use Rattle.tuning.proofs.Programs.{eight_inner}
 use Rattle.writes.specs.Lists.{path_updates}
 use Rattle.writes.proofs.Lists.{path_two}
 use Rattle.r82xx.specs.declared.Tuner.{Tuner}
-use Rattle.r82xx.specs.Record.{sound, sound_by, with_chip, with_lock, with_notch}
+use Rattle.r82xx.specs.Record.{sound, with_chip, with_lock, with_notch}
 use Rattle.chip.specs.Courses.{left_by}
-use Rattle.chip.specs.Courses.Course.{Still}
 use Rattle.r82xx.specs.InCode.{kept_notch, sound_answer}
 use Rattle.r82xx.specs.Calls.{hz_refusal, plan_for, refusal_of}
 use Rattle.r82xx.specs.Orders.{lock_kept, path_row, quietly, result_of, lock_tries_of, table_of, tune_of}

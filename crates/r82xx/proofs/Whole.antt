@@ -1,8 +1,8 @@
 -- A whole call over the code: refused before any step, or performed. Assumes nothing.
-use Prim.Native.Nat.{ℕ, ◌+◌}
+use Prim.Native.Nat.{ℕ}
 use lib.Ieee.{Float, binary32, to_bits}
 use mathlib.Core.Path.{◌≡◌, refl, sym, ap, ◌∙◌}
-use mathlib.Core.Bool.{Bool, true, false, ◌&&◌, cond}
+use mathlib.Core.Bool.{Bool, true, false, cond}
 use mathlib.Core.List.{List, [], ◌∷◌, ◌++◌}
 use borrow.Author.Tests.{eq-eqb}
 use lib.ListN.{length}
@@ -18,8 +18,8 @@ use Rattle.chip.specs.declared.Progress.TheVariants.{Going}
 use Rattle.chip.specs.Calls.{Called, answer_of, call_of, called}
 use Rattle.chip.specs.Entries.{no_tries}
 use Rattle.chip.specs.InCode.{laid_out, sealed, Logged, in_room, listed, logged, meant_of, on_room}
-use Rattle.chip.specs.Steps.{Line, Step, Trace, while_open, eight, every, goes, line, run, trace, tuner_write, updates}
-use Rattle.chip.specs.Steps.Step.{Open, Close, Plain}
+use Rattle.chip.specs.Steps.{Line, Step, Trace, while_open, eight, every, goes, line, run, trace, updates}
+use Rattle.chip.specs.Steps.Step.{Close, Plain}
 use Rattle.chip.proofs.Chunks.{chunk_eight}
 use Rattle.chip.proofs.Lists.{meant_all, meant_count}
 use Rattle.chip.proofs.Taken.{handed, performs, refuses, stands}

@@ -1,7 +1,7 @@
 -- The driver's record: what the code reads and stores is what the definitions say, and a record is read from exactly the bytes that one is
 -- written to: what was written is read (`driver_read_lem`), and bytes that are accepted are written again from what was read (`driver_written`).
 -- Assumes nothing.
-use Prim.Native.Nat.{ℕ, zero, suc, ◌+◌, ◌^◌, ◌<◌, ◌≤◌}
+use Prim.Native.Nat.{ℕ, zero, suc, ◌+◌, ◌<◌, ◌≤◌}
 use mathlib.Core.Path.{◌≡◌, refl, sym, ap, ap₂, ◌∙◌}
 use mathlib.Core.Bool.{Bool, true, false, ◌&&◌}
 use mathlib.Core.List.{List, []}

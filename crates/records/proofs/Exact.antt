@@ -1,7 +1,7 @@
 -- A tuner's record is read from exactly the bytes that one is written to: what was written is read (`read_written`), and bytes that are
 -- accepted are written again from what was read, which is a record in its ranges (`written_read`).
 -- Assumes nothing.
-use Prim.Native.Nat.{ℕ, zero, suc, ◌+◌, ◌^◌, ◌%◌, ◌<◌, ◌≤◌}
+use Prim.Native.Nat.{ℕ, zero, suc, ◌+◌, ◌%◌, ◌<◌, ◌≤◌}
 use mathlib.Core.Path.{◌≡◌, refl, sym, ap, ap₂, ◌∙◌}
 use mathlib.Core.Bool.{Bool, true, false, ◌&&◌}
 use mathlib.Core.List.{List, [], ◌∷◌, map}
@@ -10,7 +10,7 @@ use borrow.Author.Tests.{eq-eqb, eqb-true, le-leb, leb-true, leb-false}
 use lib.Dec.{T, eqb, leb}
 use lib.Ieee.{Float, binary32, fits, of_bits, to_bits}
 use lib.Ieee.Bits.{of_bits-to_bits, of_bits-fits, to_bits-lt}
-use lib.ListN.{length, take, drop, length-take, length-drop, length-map}
+use lib.ListN.{length, take, drop, length-map}
 use lib.Seq.{take_all}
 use Rattle.wire.specs.Bytes.{Bytes, le_bytes, le_value}
 use Rattle.wire.proofs.Widths.{one_below, one_long, one_number, value_bytes}

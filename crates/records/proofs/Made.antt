@@ -1,16 +1,15 @@
 -- What the code reads and stores, part by part, is what the definitions say: a chip, a tuner, the tests, the image; and the ways in which `decode_tuner` ends.
 -- Assumes nothing.
 use Prim.Native.Nat.{ℕ}
-use mathlib.Core.Path.{◌≡◌, refl, ◌∙◌}
+use mathlib.Core.Path.{◌≡◌, ◌∙◌}
 use mathlib.Core.Bool.{Bool, true, false, ◌&&◌}
-use mathlib.Core.List.{List, [], ◌∷◌, map}
+use mathlib.Core.List.{List, map}
 use native.Mathlib.Omega.{arith}
 use borrow.Author.Tests.{eq-eqb, ne_eqb}
 use lib.Dec.{eqb, leb}
 use lib.Ieee.{Float, binary32, of_bits, to_bits}
-use lib.ListN.{length, take, drop, replicate, length-map}
-use lib.Seq.{sets}
-use Rattle.wire.specs.Bytes.{le_bytes, le_value}
+use lib.ListN.{length, take, drop, length-map}
+use Rattle.wire.specs.Bytes.{le_value}
 use Rattle.wire.proofs.Widths.{length-le_bytes}
 use Rattle.chip.specs.declared.Chip.{Chip}
 use Rattle.pll.specs.declared.Kind.{Kind}

@@ -7,7 +7,6 @@ use Rattle.refusals.specs.declared.Answer.{Answer}
 use Rattle.refusals.specs.declared.Answer.TheVariants.{Refused}
 use Rattle.refusals.specs.Table.{SETUP}
 use Rattle.chip.specs.Calls.{Called}
-use Rattle.r82xx.specs.declared.Tuner.{Tuner}
 use Rattle.r82xx.specs.Orders.{Order, quietly}
 use Rattle.r82xx.specs.Record.{made_of}
 use Rattle.records.specs.Tuners.{tuner_bytes, tuner_of}

@@ -3,10 +3,6 @@ use Rattle.chip.specs.InCode.{in_room}
 use Rattle.chip.proofs.Laws.{by_program}
 use Rattle.boards.proofs.Hops.{no_ddc, planned_ddc}
 use native.Mathlib.Omega.{arith}
-use borrow.Author.Rules.{rules}
-use Rattle.boards.proofs.ddc_part.Reads as reads
-use Rattle.boards.proofs.ddc_part.Lts as lts
-use Rattle.demod.proofs.ddc.Reads as ddc-reads
 use Rattle.boards.proofs.ddc_part.Goals as goal
 
 pub returns-in-Refused : goal.returns-in-Refused

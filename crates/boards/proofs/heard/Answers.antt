@@ -1,9 +1,6 @@
 -- `boards::heard` meets its contract: the frequency asked is recorded where all steps are done. Assumes nothing.
 use mathlib.Core.Path.{sym, ap}
 use Rattle.boards.specs.Hops.{heard_by}
-use borrow.Author.Rules.{rules}
-use Rattle.boards.proofs.heard.Reads as reads
-use Rattle.boards.proofs.heard.Lts as lts
 use Rattle.boards.proofs.heard.Goals as goal
 
 pub returns-in-Done : goal.returns-in-Done

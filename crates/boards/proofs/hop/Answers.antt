@@ -1,14 +1,6 @@
 -- `boards::hop` meets its contract. Assumes nothing.
 use native.Mathlib.Omega.{arith}
 use Rattle.boards.proofs.Hops.{hop_by}
-use borrow.Author.Rules.{rules}
-use Rattle.boards.proofs.hop.Reads as reads
-use Rattle.boards.proofs.hop.Lts as lts
-use Rattle.boards.proofs.heard.Reads as heard-reads
-use Rattle.boards.proofs.hop_steps.Reads as hop-steps-reads
-use Rattle.chip.proofs.finish.Reads as finish-reads
-use Rattle.tuning.proofs.lock_after.Reads as lock-after-reads
-use Rattle.tuning.proofs.whole_answer.Reads as whole-answer-reads
 use Rattle.boards.proofs.hop.Goals as goal
 
 pub returns : goal.returns

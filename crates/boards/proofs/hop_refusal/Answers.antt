@@ -1,9 +1,5 @@
 -- `boards::hop_refusal` meets its contract. Assumes nothing.
 use Rattle.boards.proofs.Hops.{by_hz, by_plan_lem}
-use borrow.Author.Rules.{rules}
-use Rattle.boards.proofs.hop_refusal.Reads as reads
-use Rattle.boards.proofs.hop_refusal.Lts as lts
-use Rattle.r82xx.proofs.hz_refusal.Reads as hz-refusal-reads
 use Rattle.boards.proofs.hop_refusal.Goals as goal
 
 pub returns-then-p-ne0 : goal.returns-then-p-ne0

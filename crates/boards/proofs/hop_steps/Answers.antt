@@ -1,22 +1,15 @@
 -- `boards::hop_steps` meets its contract. Assumes nothing.
-use mathlib.Core.Path.{◌≡◌, sym, ap, ◌∙◌}
+use mathlib.Core.Path.{◌≡◌, ap, ◌∙◌}
 use mathlib.Core.List.{◌++◌}
 use Prim.Native.Nat.{ℕ}
 use lib.ListN.{drop}
 use native.Mathlib.Omega.{arith}
-use Rattle.chip.specs.InCode.{Logged, in_room, on_room}
+use Rattle.chip.specs.InCode.{Logged, in_room}
 use Rattle.chip.specs.Steps.{Line}
 use Rattle.chip.proofs.Laws.{by_program, run_address, then}
 use Rattle.tuning.specs.Program.{tune_steps}
 use Rattle.boards.specs.Hops.{ddc_part, path_part, path_replies}
 use Rattle.boards.proofs.Hops.{rest}
-use borrow.Author.Rules.{rules}
-use Rattle.boards.proofs.hop_steps.Reads as reads
-use Rattle.boards.proofs.hop_steps.Lts as lts
-use Rattle.boards.proofs.ddc_part.Reads as ddc-part-reads
-use Rattle.boards.proofs.path_part.Reads as path-part-reads
-use Rattle.boards.proofs.path_replies.Reads as path-replies-reads
-use Rattle.tuning.proofs.tune.Reads as tune-reads
 use Rattle.boards.proofs.hop_steps.Goals as goal
 
 pub returns : goal.returns

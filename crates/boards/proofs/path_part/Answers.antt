@@ -3,10 +3,6 @@ use Rattle.chip.specs.InCode.{in_room}
 use Rattle.chip.proofs.Laws.{by_program}
 use Rattle.boards.proofs.Hops.{direct, no_path, switched}
 use native.Mathlib.Omega.{arith}
-use borrow.Author.Rules.{rules}
-use Rattle.boards.proofs.path_part.Reads as reads
-use Rattle.boards.proofs.path_part.Lts as lts
-use Rattle.driver.proofs.path_steps.Reads as path-steps-reads
 use Rattle.boards.proofs.path_part.Goals as goal
 
 pub returns-in-R820T : goal.returns-in-R820T

@@ -1,11 +1,7 @@
 -- `boards::tune_board` meets its contract: the plan by the table, then the tune by the plan. Assumes nothing.
-use mathlib.Core.Path.{◌≡◌, ap, subst, ◌∙◌}
+use mathlib.Core.Path.{ap, ◌∙◌}
 use Rattle.bands.specs.declared.Planned.{Planned}
-use Rattle.chip.specs.declared.LockTries.{LockTries}
-use Rattle.chip.specs.Calls.{Called}
-use Rattle.driver.specs.Calls.{Both}
 use Rattle.boards.specs.Hops.{hop_result, hop_lock_tries}
-use borrow.Author.Rules.{rules}
 use Rattle.boards.proofs.tune_board.Goals as goal
 
 pub returns : goal.returns

@@ -10,19 +10,9 @@ use mir.Syntax.{w32}
 use Rattle.chip.proofs.Refusals.{taken_by}
 use Rattle.driver.specs.Record.{xtal_by}
 use Rattle.pll.specs.declared.Pll.{Pll}
-use Rattle.r82xx.proofs.Refusals.{hz_fits}
 use Rattle.r82xx.proofs.Tuned.{number_small}
 use Rattle.tuning.specs.Program.{divider_number}
 use Rattle.boards.proofs.Hops.{hop_hz, hop_refused, hop_taken}
-use borrow.Author.Rules.{rules}
-use Rattle.boards.proofs.tune_planned.Reads as reads
-use Rattle.boards.proofs.tune_planned.Lts as lts
-use Rattle.boards.proofs.hop.Reads as hop-reads
-use Rattle.boards.proofs.hop_refusal.Reads as hop-refusal-reads
-use Rattle.chip.proofs.refusal.Reads as refusal-reads
-use Rattle.driver.proofs.xtal_by.Reads as xtal-by-reads
-use Rattle.pll.proofs.plan_pll.Reads as plan-pll-reads
-use Rattle.r82xx.proofs.sound.Reads as sound-reads
 use Rattle.boards.proofs.tune_planned.Goals as goal
 
 pub returns-then-number-ne0 : goal.returns-then-number-ne0

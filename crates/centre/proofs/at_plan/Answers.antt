@@ -1,7 +1,5 @@
 -- `centre::at_plan` meets its contract. Assumes nothing.
-use native.Mathlib.Omega.{arith}
 use Rattle.centre.proofs.Rows.{no_plan, planned}
-use borrow.Author.Rules.{rules}
 use Rattle.centre.proofs.at_plan.Goals as goal
 
 pub returns-then-planned-ne0 : goal.returns-then-planned-ne0

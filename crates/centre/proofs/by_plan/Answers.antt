@@ -1,10 +1,9 @@
 -- `centre::by_plan` meets its contract: each case of the oscillator's answer is its definition's. Assumes nothing.
 use Prim.Native.Nat.{ℕ}
-use mathlib.Core.Path.{refl, sym, ap, ◌∙◌}
+use mathlib.Core.Path.{sym, ap, ◌∙◌}
 use Rattle.refusals.specs.declared.Answer.{Answer}
 use Rattle.centre.specs.Centre.{centre_at, on_done}
 use Rattle.centre.proofs.Rows.{by_told, no_table}
-use borrow.Author.Rules.{rules}
 use Rattle.centre.proofs.by_plan.Goals as goal
 
 pub returns-then-planned-eq-TABLE : goal.returns-then-planned-eq-TABLE

@@ -1,7 +1,6 @@
 -- `centre::centre` meets its contract: the oscillator by the tuner's record, the plan by the driver's frequency. Assumes nothing.
 use mathlib.Core.Path.{◌∙◌}
 use Rattle.centre.specs.Centre.{centre_by, centre_of}
-use borrow.Author.Rules.{rules}
 use Rattle.centre.proofs.centre.Goals as goal
 
 pub returns : goal.returns

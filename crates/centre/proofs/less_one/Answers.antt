@@ -1,7 +1,6 @@
 -- `centre::less_one` meets its contract: what is put on may make up for what the oscillator lacks. Assumes nothing.
 use native.Mathlib.Omega.{arith}
 use Rattle.centre.proofs.Rows.{below_0, left, past_64}
-use borrow.Author.Rules.{rules}
 use Rattle.centre.proofs.less_one.Goals as goal
 
 pub returns-then-down-lack : goal.returns-then-down-lack

@@ -2,7 +2,6 @@
 use mathlib.Core.Path.{◌∙◌}
 use native.Mathlib.Omega.{arith}
 use Rattle.centre.proofs.Rows.{same}
-use borrow.Author.Rules.{rules}
 use Rattle.centre.proofs.unshifted.Goals as goal
 
 pub returns-then-hz-tuned : goal.returns-then-hz-tuned

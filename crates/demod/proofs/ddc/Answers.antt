@@ -6,10 +6,6 @@ use Rattle.device.specs.Accesses.{access_step, demod_write}
 use Rattle.demod.specs.Programs.{ddc_steps}
 use Rattle.chip.proofs.Laws.{by_entry}
 use borrow.Author.Rules.{rules}
-use Rattle.demod.proofs.ddc.Reads as reads
-use Rattle.demod.proofs.ddc.Lts as lts
-use Rattle.demod.proofs.ddc_byte.Reads as ddc-byte-reads
-use Rattle.device.proofs.one_access.Reads as one-access-reads
 use Rattle.demod.proofs.ddc.Goals as goal
 
 pub returns : goal.returns

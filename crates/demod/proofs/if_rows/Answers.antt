@@ -4,10 +4,6 @@ use mathlib.Core.Path.{ap}
 use mathlib.Core.List.{[], ◌∷◌}
 use Rattle.device.specs.InCode.{ten}
 use Rattle.device.specs.Accesses.{access}
-use borrow.Author.Rules.{rules}
-use Rattle.demod.proofs.if_rows.Reads as reads
-use Rattle.demod.proofs.if_rows.Lts as lts
-use Rattle.registers.proofs.if_value.Reads as if-value-reads
 use Rattle.demod.proofs.if_rows.Goals as goal
 
 pub returns : goal.returns

@@ -4,12 +4,6 @@ use Rattle.chip.specs.InCode.{in_room}
 use Rattle.device.specs.Accesses.{access_step}
 use Rattle.demod.specs.Programs.{mode_steps}
 use Rattle.demod.proofs.Baseband.{in_three}
-use borrow.Author.Rules.{rules}
-use Rattle.demod.proofs.init_steps.Reads as reads
-use Rattle.demod.proofs.init_steps.Lts as lts
-use Rattle.demod.proofs.power_steps.Reads as power-steps-reads
-use Rattle.demod.proofs.set_fir.Reads as set-fir-reads
-use Rattle.device.proofs.access_all.Reads as access-all-reads
 use Rattle.demod.proofs.init_steps.Goals as goal
 
 pub returns : goal.returns

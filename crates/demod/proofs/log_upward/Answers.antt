@@ -1,18 +1,14 @@
 -- `demod::log_upward` meets its contract. The invariant: the bytes that are left, written from where the loop stands, give what all of them give.
 -- Assumes nothing.
 use borrow.Author.Rules.{rules}
-use Prim.Native.Nat.{◌+◌, ◌-◌, ◌≤◌}
-use mathlib.Core.Path.{◌≡◌, refl, ap, ◌∙◌}
-use lib.ListN.{length, take, drop}
-use Rattle.chip.specs.declared.Chip.{Chip}
-use Rattle.chip.specs.InCode.{in_room, on_log}
-use Rattle.chip.specs.Steps.{closing_owed, run}
+use Prim.Native.Nat.{◌+◌}
+use mathlib.Core.Path.{refl, ap, ◌∙◌}
+use lib.ListN.{take, drop}
+use Rattle.chip.specs.InCode.{in_room}
+use Rattle.chip.specs.Steps.{run}
 use Rattle.device.specs.Accesses.{access_step}
 use Rattle.demod.specs.Programs.{upward}
 use Rattle.demod.proofs.Upward.{begin, turn, end}
-use Rattle.demod.proofs.log_upward.Reads as reads
-use Rattle.demod.proofs.log_upward.Lts as lts
-use Rattle.device.proofs.log_access.Reads as log-access-reads
 use Rattle.demod.proofs.log_upward.Goals as goal
 
 pub loop-i-init : goal.loop-i-init

@@ -5,11 +5,6 @@ use Rattle.chip.specs.InCode.{in_room}
 use Rattle.device.specs.Accesses.{access_step}
 use Rattle.demod.specs.Programs.{power_steps, upward}
 use Rattle.chip.proofs.Laws.{then}
-use borrow.Author.Rules.{rules}
-use Rattle.demod.proofs.power_steps.Reads as reads
-use Rattle.demod.proofs.power_steps.Lts as lts
-use Rattle.demod.proofs.write_upward.Reads as write-upward-reads
-use Rattle.device.proofs.access_all.Reads as access-all-reads
 use Rattle.demod.proofs.power_steps.Goals as goal
 
 pub returns : goal.returns

@@ -5,11 +5,6 @@ use mathlib.Core.List.{[], ◌∷◌}
 use Rattle.registers.specs.Rates.{sent_of}
 use Rattle.device.specs.InCode.{ten}
 use Rattle.device.specs.Accesses.{access}
-use borrow.Author.Rules.{rules}
-use Rattle.demod.proofs.rate_rows.Reads as reads
-use Rattle.demod.proofs.rate_rows.Lts as lts
-use Rattle.registers.proofs.ratio.Reads as ratio-reads
-use Rattle.registers.proofs.sent.Reads as sent-reads
 use Rattle.demod.proofs.rate_rows.Goals as goal
 
 pub returns : goal.returns

@@ -8,10 +8,6 @@ use Rattle.fir.specs.Packing.{pack_of}
 use Rattle.demod.specs.Programs.{fir_steps, upward}
 use Rattle.chip.proofs.Laws.{by_program}
 use borrow.Author.Rules.{rules}
-use Rattle.demod.proofs.set_fir.Reads as reads
-use Rattle.demod.proofs.set_fir.Lts as lts
-use Rattle.demod.proofs.write_upward.Reads as write-upward-reads
-use Rattle.fir.proofs.default_bytes.Reads as default-bytes-reads
 use Rattle.demod.proofs.set_fir.Goals as goal
 
 pub returns : goal.returns

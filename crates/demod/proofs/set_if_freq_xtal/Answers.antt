@@ -5,11 +5,6 @@ use Rattle.demod.specs.Programs.{if_steps}
 use Rattle.device.proofs.Programs.{rows_meant}
 use Rattle.device.proofs.Free.{argument_bad, argument_good}
 use mathlib.Core.Path.{◌∙◌}
-use borrow.Author.Rules.{rules}
-use Rattle.demod.proofs.set_if_freq_xtal.Reads as reads
-use Rattle.demod.proofs.set_if_freq_xtal.Lts as lts
-use Rattle.demod.proofs.if_rows.Reads as if-rows-reads
-use Rattle.device.proofs.perform.Reads as perform-reads
 use Rattle.demod.proofs.set_if_freq_xtal.Goals as goal
 
 pub returns-then-xtal-eq0 : goal.returns-then-xtal-eq0

@@ -4,11 +4,6 @@ use Rattle.demod.specs.Programs.{rate_steps}
 use Rattle.registers.proofs.Ratios.{taken}
 use Rattle.device.proofs.Programs.{rows_meant}
 use Rattle.device.proofs.Free.{argument_bad, argument_good}
-use borrow.Author.Rules.{rules}
-use Rattle.demod.proofs.set_sample_rate_xtal.Reads as reads
-use Rattle.demod.proofs.set_sample_rate_xtal.Lts as lts
-use Rattle.demod.proofs.rate_rows.Reads as rate-rows-reads
-use Rattle.device.proofs.perform.Reads as perform-reads
 use Rattle.demod.proofs.set_sample_rate_xtal.Goals as goal
 
 pub returns-then-number-ne0 : goal.returns-then-number-ne0

@@ -3,10 +3,6 @@ use Rattle.device.specs.Accesses.{access_step}
 use Rattle.demod.specs.Programs.{direct_steps}
 use Rattle.chip.specs.Courses.{left_by}
 use Rattle.device.specs.Calls.{free_result}
-use borrow.Author.Rules.{rules}
-use Rattle.demod.proofs.write_reg_direct.Reads as reads
-use Rattle.demod.proofs.write_reg_direct.Lts as lts
-use Rattle.device.proofs.perform.Reads as perform-reads
 use Rattle.demod.proofs.write_reg_direct.Goals as goal
 
 pub returns : goal.returns

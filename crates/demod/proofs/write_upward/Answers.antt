@@ -1,5 +1,4 @@
 -- `demod::write_upward` meets its contract: the log's, at this chip. Assumes nothing.
-use borrow.Author.Rules.{rules}
 use Rattle.demod.proofs.write_upward.Goals as goal
 
 pub returns : goal.returns

@@ -5,7 +5,6 @@ use lib.ListN.{length}
 use Rattle.chip.proofs.Refusals.{taken_by}
 use Rattle.driver.proofs.Rates.{path_none, path_performed, path_refused}
 use Rattle.driver.specs.Calls.{board_result}
-use borrow.Author.Rules.{rules}
 use Rattle.driver.proofs.apply_input_path.Goals as goal
 
 pub returns-in_default : goal.returns-in_default

@@ -4,10 +4,6 @@ use native.Mathlib.Omega.{arith}
 use mir.Facts.{to_z-of_z}
 use Rattle.driver.specs.InCode.{correction_refusal}
 use Rattle.driver.proofs.Corrections.{answers_no, answers_yes}
-use borrow.Author.Rules.{rules}
-use Rattle.driver.proofs.correction_answer.Reads as reads
-use Rattle.driver.proofs.correction_answer.Lts as lts
-use Rattle.driver.proofs.correction_refusal.Reads as correction-refusal-reads
 use Rattle.driver.proofs.correction_answer.Goals as goal
 
 pub returns-then-number-ne0 : goal.returns-then-number-ne0

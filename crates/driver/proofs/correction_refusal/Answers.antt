@@ -1,14 +1,8 @@
 -- `driver::correction_refusal` meets its contract. Each return is one law of the definition, with what the calls before it ensure. Assumes nothing.
 use mathlib.Core.Path.{ap, ◌∙◌}
 use mir.Facts.{to_z-of_z}
-use borrow.Author.Tests.{not-false, not-true}
 use Rattle.driver.specs.Record.{xtal_by}
 use Rattle.driver.proofs.Corrections.{not_taken, not_whole, taken}
-use borrow.Author.Rules.{rules}
-use Rattle.driver.proofs.correction_refusal.Reads as reads
-use Rattle.driver.proofs.correction_refusal.Lts as lts
-use Rattle.driver.proofs.xtal_by.Reads as xtal-by-reads
-use Rattle.r82xx.proofs.sound.Reads as sound-reads
 use Rattle.driver.proofs.correction_refusal.Goals as goal
 
 pub returns-then-not-whole : goal.returns-then-not-whole

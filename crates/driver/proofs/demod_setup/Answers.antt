@@ -4,12 +4,6 @@ use mathlib.Core.List.{◌++◌}
 use Rattle.chip.specs.InCode.{in_room}
 use Rattle.demod.specs.Programs.{if_steps, rate_steps, reset_steps}
 use Rattle.chip.proofs.Laws.{then}
-use borrow.Author.Rules.{rules}
-use Rattle.driver.proofs.demod_setup.Reads as reads
-use Rattle.driver.proofs.demod_setup.Lts as lts
-use Rattle.demod.proofs.if_steps.Reads as if-steps-reads
-use Rattle.demod.proofs.rate_steps.Reads as rate-steps-reads
-use Rattle.demod.proofs.reset_steps.Reads as reset-steps-reads
 use Rattle.driver.proofs.demod_setup.Goals as goal
 
 pub returns : goal.returns

@@ -4,7 +4,6 @@ use Rattle.chip.specs.InCode.{in_room}
 use Rattle.chip.specs.Steps.{while_open, updates}
 use Rattle.writes.specs.Lists.{bandwidth_updates, if_updates}
 use Rattle.chip.proofs.Laws.{then}
-use borrow.Author.Rules.{rules}
 use Rattle.driver.proofs.filter_steps.Goals as goal
 
 pub set_bandwidth-log-requires : goal.set_bandwidth-log-requires

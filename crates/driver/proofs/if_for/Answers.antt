@@ -1,7 +1,5 @@
 -- `driver::if_for` meets its contract. Assumes nothing.
 use borrow.Author.Tests.{eq-eqb, le-leb, lt-leb, ne_eqb}
-use Rattle.driver.proofs.if_for.Reads as reads
-use Rattle.driver.proofs.if_for.Lts as lts
 use Rattle.driver.proofs.if_for.Goals as goal
 
 pub returns-then-current-eq0 : goal.returns-then-current-eq0

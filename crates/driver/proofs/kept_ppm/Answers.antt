@@ -4,10 +4,6 @@ use native.Mathlib.Omega.{arith}
 use mir.Facts.{to_z-of_z}
 use Rattle.driver.specs.InCode.{correction_refusal}
 use Rattle.driver.proofs.Corrections.{ppm_changes, ppm_stays}
-use borrow.Author.Rules.{rules}
-use Rattle.driver.proofs.kept_ppm.Reads as reads
-use Rattle.driver.proofs.kept_ppm.Lts as lts
-use Rattle.driver.proofs.correction_refusal.Reads as correction-refusal-reads
 use Rattle.driver.proofs.kept_ppm.Goals as goal
 
 pub returns-then-correction_refusal-ne0 : goal.returns-then-correction_refusal-ne0

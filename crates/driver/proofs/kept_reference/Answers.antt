@@ -5,11 +5,6 @@ use mir.Facts.{to_z-of_z}
 use Rattle.driver.specs.Record.{xtal_by}
 use Rattle.driver.specs.InCode.{correction_refusal}
 use Rattle.driver.proofs.Corrections.{reference_changes, reference_stays}
-use borrow.Author.Rules.{rules}
-use Rattle.driver.proofs.kept_reference.Reads as reads
-use Rattle.driver.proofs.kept_reference.Lts as lts
-use Rattle.driver.proofs.correction_refusal.Reads as correction-refusal-reads
-use Rattle.driver.proofs.xtal_by.Reads as xtal-by-reads
 use Rattle.driver.proofs.kept_reference.Goals as goal
 
 pub returns-then-correction_refusal-ne0 : goal.returns-then-correction_refusal-ne0

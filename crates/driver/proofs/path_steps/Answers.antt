@@ -8,7 +8,6 @@ use Rattle.device.specs.Gpio.{bit_steps, output_steps}
 use Rattle.driver.specs.Programs.{level_for, tuner_path}
 use Prim.Native.Nat.{ℕ}
 use Rattle.chip.proofs.Laws.{by_program, then}
-use borrow.Author.Rules.{rules}
 use Rattle.driver.proofs.path_steps.Goals as goal
 
 pub tuner_path-requires : goal.tuner_path-requires

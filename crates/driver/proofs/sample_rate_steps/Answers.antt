@@ -5,12 +5,6 @@ use Rattle.chip.specs.InCode.{in_room}
 use Rattle.demod.specs.Programs.{ddc_steps}
 use Rattle.driver.specs.Programs.{demod_setup, filter_steps}
 use Rattle.chip.proofs.Laws.{then}
-use borrow.Author.Rules.{rules}
-use Rattle.driver.proofs.sample_rate_steps.Reads as reads
-use Rattle.driver.proofs.sample_rate_steps.Lts as lts
-use Rattle.demod.proofs.ddc.Reads as ddc-reads
-use Rattle.driver.proofs.demod_setup.Reads as demod-setup-reads
-use Rattle.driver.proofs.filter_steps.Reads as filter-steps-reads
 use Rattle.driver.proofs.sample_rate_steps.Goals as goal
 
 pub returns : goal.returns

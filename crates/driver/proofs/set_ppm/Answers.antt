@@ -1,7 +1,6 @@
 -- `driver::set_ppm` meets its contract: what its three calls give is what the definition leaves and answers. The numbers below zero are read back from their bits.
 -- Assumes nothing.
-use Rattle.std.proofs.Common.{◌≡◌, ap, ap₂, ◌∙◌, ℕ, ℤ, [], rules, arith, w32, FitsSigned, to_z, of_z}
-use mir.Val.{SFits}
+use Rattle.std.proofs.Common.{◌≡◌, ap, ap₂, ◌∙◌, ℤ, [], rules, w32, to_z, of_z}
 use mir.Facts.{to_z-of_z}
 use Rattle.chip.specs.Calls.{called}
 use Rattle.r82xx.specs.Record.{with_corrected}

@@ -4,7 +4,6 @@ use Rattle.chip.specs.InCode.{in_room}
 use Rattle.driver.proofs.Paths.{own_path, still}
 use Rattle.chip.proofs.Laws.{by_program}
 use Rattle.writes.proofs.Lists.{path_meant, path_meant_in, path_meant_two}
-use borrow.Author.Rules.{rules}
 use Rattle.driver.proofs.tuner_path.Goals as goal
 
 pub with_repeater-requires : goal.with_repeater-requires

@@ -3,10 +3,6 @@ use mathlib.Core.Path.{ap, ◌∙◌}
 use mir.Facts.{to_z-of_z}
 use Rattle.reference.specs.Correct.{corrected_of}
 use Rattle.driver.proofs.Xtals.{xtal_none, xtal_some}
-use borrow.Author.Rules.{rules}
-use Rattle.driver.proofs.xtal_by.Reads as reads
-use Rattle.driver.proofs.xtal_by.Lts as lts
-use Rattle.reference.proofs.correct.Reads as correct-reads
 use Rattle.driver.proofs.xtal_by.Goals as goal
 
 pub returns-in_default : goal.returns-in_default

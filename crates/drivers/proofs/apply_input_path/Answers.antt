@@ -6,7 +6,6 @@ use Rattle.board.specs.Numbers.{path_of}
 use Rattle.driver.specs.Calls.{board_result, board_row}
 use Rattle.drivers.proofs.Passed.{board_path_argued}
 use Rattle.tuners.proofs.Passed.{fits, handed_back, path_byte, refused_by_lem}
-use borrow.Author.Rules.{rules}
 use Rattle.drivers.proofs.apply_input_path.Goals as goal
 
 pub returns-then-number-ne0 : goal.returns-then-number-ne0

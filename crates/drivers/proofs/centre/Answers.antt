@@ -1,7 +1,5 @@
 -- `drivers::centre` meets its contract: bytes of which either are no record, or the centre of those that they are. Assumes nothing.
-use borrow.Author.Tests.{not-false, not-true}
 use Rattle.drivers.proofs.Passed.{centred, no_centre}
-use borrow.Author.Rules.{rules}
 use Rattle.drivers.proofs.centre.Goals as goal
 
 pub returns-then-not-whole : goal.returns-then-not-whole

@@ -7,7 +7,6 @@ use Rattle.driver.specs.declared.Made.{Made}
 use Rattle.driver.specs.Record.{driver_of}
 use Rattle.records.specs.Drivers.{driver_bytes}
 use Rattle.refusals.specs.Lent.{answered_to}
-use borrow.Author.Rules.{rules}
 use Rattle.drivers.proofs.fresh.Goals as goal
 
 pub returns : goal.returns

@@ -3,13 +3,6 @@ use mathlib.Core.Path.{ap, ◌∙◌}
 use Rattle.chip.specs.Entries.{lock_tries}
 use Rattle.reply.specs.declared.Reply.{Reply}
 use Rattle.reply.specs.Replies.{tuned_of}
-use borrow.Author.Rules.{rules}
-use Rattle.drivers.proofs.hand_hop.Reads as reads
-use Rattle.drivers.proofs.hand_hop.Lts as lts
-use Rattle.drivers.proofs.store.Reads as store-reads
-use Rattle.reply.proofs.numbers.Reads as numbers-reads
-use Rattle.reply.proofs.tuned.Reads as tuned-reads
-use Rattle.tuners.proofs.store.Reads as store-reads'
 use Rattle.drivers.proofs.hand_hop.Goals as goal
 
 pub returns : goal.returns

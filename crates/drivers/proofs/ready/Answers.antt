@@ -3,7 +3,6 @@
 use mathlib.Core.Bool.{◌||◌}
 use native.Mathlib.Omega.{arith}
 use lib.Dec.{ltb}
-use borrow.Author.Tests.{not-false, not-true}
 use Rattle.tuners.proofs.Passed.{all_there, bad_argument, not_ok, too_short}
 use Rattle.drivers.specs.Drivers.{both_ready}
 use Rattle.drivers.proofs.Passed.{driver_short, neither_short, tuner_short}

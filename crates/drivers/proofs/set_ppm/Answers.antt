@@ -2,10 +2,8 @@
 use mathlib.Core.Path.{ap, ◌∙◌}
 use lib.IntN.{ℤ}
 use mir.Facts.{to_z-of_z}
-use borrow.Author.Tests.{not-false, not-true}
 use Rattle.driver.specs.Calls.{correction_call}
 use Rattle.drivers.proofs.Passed.{corrected_back, lengths, no_records}
-use borrow.Author.Rules.{rules}
 use Rattle.drivers.proofs.set_ppm.Goals as goal
 
 pub returns-then-not-whole : goal.returns-then-not-whole

@@ -7,7 +7,6 @@ use Rattle.chip.specs.Courses.{argument_of}
 use Rattle.driver.specs.Calls.{rate_argument, rate_result, rate_row}
 use native.Mathlib.Omega.{arith}
 use Rattle.drivers.proofs.Passed.{fits, handed_back, refused_by_lem}
-use borrow.Author.Rules.{rules}
 use Rattle.drivers.proofs.set_sample_rate.Goals as goal
 
 pub returns-then-number-ne0 : goal.returns-then-number-ne0

@@ -6,7 +6,6 @@ use Prim.Native.Nat.{ℕ}
 use lib.Seq.{sets}
 use Rattle.records.specs.Drivers.{driver_bytes}
 use Rattle.tuners.proofs.Passed.{left, written}
-use borrow.Author.Rules.{rules}
 use Rattle.drivers.proofs.store.Goals as goal
 
 pub returns-then-is_written : goal.returns-then-is_written

@@ -6,18 +6,6 @@ use Rattle.bands.specs.Tables.{plan_by}
 use Rattle.boards.specs.Hops.{hop_refusal, hop_result, hop_lock_tries}
 use Rattle.drivers.specs.Drivers.{hop_argument}
 use Rattle.drivers.proofs.Passed.{fits, handed_back, hop_told, refused_by_lem, told, untold}
-use borrow.Author.Rules.{rules}
-use Rattle.drivers.proofs.tune_board.Reads as reads
-use Rattle.drivers.proofs.tune_board.Lts as lts
-use Rattle.bands.proofs.plan_by_table.Reads as plan-by-table-reads
-use Rattle.boards.proofs.hop_refusal.Reads as hop-refusal-reads
-use Rattle.boards.proofs.tune_planned.Reads as tune-planned-reads
-use Rattle.drivers.proofs.hand_hop.Reads as hand-hop-reads
-use Rattle.drivers.proofs.ready.Reads as ready-reads
-use Rattle.records.proofs.decode_driver.Reads as decode-driver-reads
-use Rattle.records.proofs.decode_tuner.Reads as decode-tuner-reads
-use Rattle.reply.proofs.tuned.Reads as tuned-reads
-use Rattle.tuners.proofs.refuse.Reads as refuse-reads
 use Rattle.drivers.proofs.tune_board.Goals as goal
 
 pub returns-then-number-ne0 : goal.returns-then-number-ne0

@@ -1,7 +1,6 @@
 -- `r82xx::hz_refusal` meets its contract. Each return is one law of the definition, with what the calls before it ensure. Assumes nothing.
 use native.Mathlib.Omega.{arith}
 use Rattle.r82xx.proofs.Refusals.{good_hz, no_hz, past_hz}
-use borrow.Author.Rules.{rules}
 use Rattle.r82xx.proofs.hz_refusal.Goals as goal
 
 pub returns-then-hz-eq0 : goal.returns-then-hz-eq0

@@ -1,7 +1,6 @@
 -- `records::chip_in` meets its contract: each part is read from its place.
 -- Assumes nothing.
 use Rattle.records.proofs.Made.{chip_made}
-use borrow.Author.Rules.{rules}
 use Rattle.records.proofs.chip_in.Goals as goal
 
 pub returns : goal.returns

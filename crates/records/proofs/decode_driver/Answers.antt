@@ -1,6 +1,5 @@
 -- `records::decode_driver` meets its contract: it ends in one of three ways.
 -- Assumes nothing.
-use borrow.Author.Tests.{not-true, not-false}
 use Rattle.records.proofs.Driven.{driver_tested, driver_short, driver_bad, driver_good}
 use borrow.Author.Rules.{rules}
 use Rattle.records.proofs.decode_driver.Goals as goal

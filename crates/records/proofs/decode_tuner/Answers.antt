@@ -1,8 +1,6 @@
 -- `records::decode_tuner` meets its contract: it ends in one of three ways.
 -- Assumes nothing.
-use borrow.Author.Tests.{not-true, not-false}
 use Rattle.records.proofs.Made.{no_length, no_fit, whole}
-use borrow.Author.Rules.{rules}
 use Rattle.records.proofs.decode_tuner.Goals as goal
 
 pub returns-then-b-ne-TUNER : goal.returns-then-b-ne-TUNER

@@ -1,10 +1,10 @@
 -- `records::flag_bytes` meets its contract. The loop's invariant: storing the bytes that are left gives all of them.
 -- Assumes nothing.
-use Prim.Native.Nat.{◌+◌, ◌-◌}
-use mathlib.Core.Path.{◌≡◌, refl, ap, ◌∙◌}
+use Prim.Native.Nat.{◌+◌}
+use mathlib.Core.Path.{refl, ap, ◌∙◌}
 use native.Mathlib.Omega.{arith}
 use mathlib.Core.Bool.{false}
-use lib.ListN.{length, drop, replicate, set}
+use lib.ListN.{drop, replicate, set}
 use borrow.Author.Rules.{rules}
 use mathlib.Core.List.{map}
 use lib.Seq.{sets}

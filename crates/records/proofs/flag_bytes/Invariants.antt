@@ -1,15 +1,11 @@
 -- `records::flag_bytes` meets its contract. The loop's invariant: storing the bytes that are left gives all of them.
 -- Assumes nothing.
-use Prim.Native.Nat.{◌+◌, ◌-◌}
-use mathlib.Core.Path.{◌≡◌, refl, ap, ◌∙◌}
-use native.Mathlib.Omega.{arith}
-use mathlib.Core.Bool.{false}
-use lib.ListN.{length, drop, replicate, set}
-use borrow.Author.Rules.{rules}
+use Prim.Native.Nat.{◌-◌}
+use mathlib.Core.Path.{◌≡◌}
+use lib.ListN.{length, drop}
 use mathlib.Core.List.{map}
 use lib.Seq.{sets}
 use Rattle.records.specs.Fields.{flag_byte}
-use Rattle.records.proofs.Turns.{store_turn, store_start, store_end}
 use Rattle.records.proofs.flag_bytes.Given as goal
 
 abbrev pub invariant-loop-i : goal.invariant-loop-i

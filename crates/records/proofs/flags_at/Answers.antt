@@ -1,13 +1,11 @@
 -- `records::flags_at` meets its contract. The loop's invariant: storing the flags that are left gives all of them.
 -- Assumes nothing.
-use Prim.Native.Nat.{◌-◌}
-use mathlib.Core.Path.{◌≡◌, refl, ap, ◌∙◌}
+use mathlib.Core.Path.{refl, ap, ◌∙◌}
 use native.Mathlib.Omega.{arith}
 use mathlib.Core.Bool.{false}
-use lib.ListN.{length, drop, replicate}
+use lib.ListN.{replicate}
 use borrow.Author.Rules.{rules}
 use mathlib.Core.List.{map}
-use lib.Seq.{sets}
 use Rattle.records.specs.Fields.{flag_read}
 use Rattle.records.proofs.Turns.{store_turn, store_start, store_end}
 use Rattle.records.proofs.flags_at.Goals as goal

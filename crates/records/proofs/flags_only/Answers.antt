@@ -1,10 +1,7 @@
 -- `records::flags_only` meets its contract. The loop's invariant: `ok`, and whether the bytes from i on are flags, say it for all.
 -- Assumes nothing.
-use Prim.Native.Nat.{◌-◌}
-use mathlib.Core.Path.{◌≡◌, refl, ap, ◌∙◌}
-use mathlib.Core.Bool.{◌&&◌}
+use mathlib.Core.Path.{refl, ap, ◌∙◌}
 use native.Mathlib.Omega.{arith}
-use lib.ListN.{length, drop}
 use borrow.Author.Rules.{rules}
 use Rattle.records.specs.Fields.{flags_only}
 use Rattle.records.proofs.Turns.{flags_turn, flags_end}

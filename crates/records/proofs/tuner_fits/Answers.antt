@@ -1,7 +1,6 @@
 -- `records::tuner_fits` meets its contract: each test is made on its part.
 -- Assumes nothing.
 use Rattle.records.proofs.Made.{fits_made}
-use borrow.Author.Rules.{rules}
 use Rattle.records.proofs.tuner_fits.Goals as goal
 
 pub returns : goal.returns

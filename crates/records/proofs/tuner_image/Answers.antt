@@ -5,7 +5,6 @@ use mathlib.Core.List.{map}
 use lib.ListN.{length, replicate, length-map}
 use Rattle.records.specs.Fields.{flag_byte}
 use Rattle.records.proofs.Made.{image_whole}
-use borrow.Author.Rules.{rules}
 use Rattle.records.proofs.tuner_image.Goals as goal
 
 pub returns : goal.returns

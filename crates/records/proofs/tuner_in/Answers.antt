@@ -1,7 +1,6 @@
 -- `records::tuner_in` meets its contract: each field is read from its part.
 -- Assumes nothing.
 use Rattle.records.proofs.Made.{tuner_made}
-use borrow.Author.Rules.{rules}
 use Rattle.records.proofs.tuner_in.Goals as goal
 
 pub returns : goal.returns

@@ -3,7 +3,6 @@ use mathlib.Core.Path.{◌≡◌, sym, ap, ◌∙◌}
 use Prim.Native.Nat.{ℕ}
 use Rattle.transcript.specs.declared.Section.TheVariants as section
 use Rattle.transcript.specs.Sections.{refusal_of}
-use borrow.Author.Rules.{rules}
 use Rattle.reply.specs.Replies.{parts_of}
 use Rattle.reply.proofs.located.Goals as goal
 

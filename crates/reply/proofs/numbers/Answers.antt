@@ -1,7 +1,6 @@
 -- `replies::numbers` meets its contract: each case of the answer is its definition's. Assumes nothing.
 use Prim.Native.Nat.{ℕ, ◌%◌}
 use mathlib.Core.Path.{◌≡◌, sym, ap, ◌∙◌}
-use borrow.Author.Rules.{rules}
 use Rattle.refusals.specs.declared.Answer.{Answer}
 use Rattle.refusals.specs.Answers.{index_of, number_of, value_of}
 use Rattle.reply.specs.declared.Reply.{Reply}

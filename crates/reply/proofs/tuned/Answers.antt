@@ -5,7 +5,6 @@ use mathlib.Core.Bool.{Bool, true, false, cond}
 use mir.Val.{bool_byte}
 use Rattle.reply.specs.declared.Reply.{Reply}
 use Rattle.reply.specs.declared.TuneReply.{TuneReply}
-use borrow.Author.Rules.{rules}
 use Rattle.reply.proofs.tuned.Goals as goal
 
 told : (b : Bool) → bool_byte b ≡ cond b 1 0

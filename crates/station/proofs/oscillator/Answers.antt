@@ -1,7 +1,5 @@
 -- `station::oscillator` meets its contract: each return is a row of the definition. Assumes nothing.
 use mathlib.Core.Path.{sym, ◌∙◌}
-use borrow.Author.Rules.{rules}
-use borrow.Author.Tests.{not-false, not-true}
 use Rattle.station.proofs.Told.{doubted, not_sound, told}
 use Rattle.station.proofs.oscillator.Goals as goal
 

@@ -6,7 +6,6 @@ use Rattle.records.specs.Tuners.{tuner_bytes}
 use Rattle.tuners.proofs.Record.{changed, no_record}
 use Rattle.r82xx.specs.Orders.{quietly}
 use Rattle.r82xx.specs.Orders.Order.{Notch}
-use borrow.Author.Rules.{rules}
 use Rattle.tuners.proofs.apply_notch.Goals as goal
 
 pub returns-then-not-read : goal.returns-then-not-read

@@ -4,7 +4,6 @@ use mathlib.Core.Path.{ap, ◌∙◌}
 use Rattle.r82xx.specs.declared.Made.{Made}
 use Rattle.records.specs.Tuners.{tuner_bytes}
 use Rattle.refusals.specs.Lent.{answered_to}
-use borrow.Author.Rules.{rules}
 use Rattle.tuners.proofs.fresh.Goals as goal
 
 pub returns : goal.returns

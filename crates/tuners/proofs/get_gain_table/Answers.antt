@@ -3,7 +3,6 @@
 use borrow.Author.Tests.{not-false, not-true}
 use Rattle.records.specs.declared.TunerRead.{TunerRead}
 use Rattle.tuners.proofs.Record.{no_record, of_record_lem}
-use borrow.Author.Rules.{rules}
 use Rattle.tuners.proofs.get_gain_table.Goals as goal
 
 pub returns-then-not-read : goal.returns-then-not-read

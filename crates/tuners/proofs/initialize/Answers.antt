@@ -2,7 +2,6 @@
 -- Assumes nothing.
 use mathlib.Core.Path.{refl, sym, ◌∙◌}
 use native.Mathlib.Omega.{arith}
-use borrow.Author.Rules.{rules}
 use Rattle.r82xx.specs.Orders.{course_of, result_of}
 use Rattle.r82xx.specs.Orders.Order.{Initialize}
 use Rattle.tuners.proofs.Passed.{fits, handed_back, refused_by_lem}

@@ -1,10 +1,8 @@
 -- `tuners::is_written` meets its contract: each case of the answer is its definition's.
 -- Assumes nothing.
-use mathlib.Core.Path.{sym, ap, ◌∙◌}
-use native.Mathlib.Omega.{arith}
+use mathlib.Core.Path.{sym, ap}
 use Rattle.refusals.specs.declared.Answer.{Answer}
 use Rattle.tuners.specs.Over.{is_written}
-use borrow.Author.Rules.{rules}
 use Rattle.tuners.proofs.is_written.Goals as goal
 
 pub returns-in-Refused : goal.returns-in-Refused

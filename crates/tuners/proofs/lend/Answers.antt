@@ -4,7 +4,6 @@ use Prim.Native.Nat.{ℕ}
 use mathlib.Core.Path.{ap, ◌∙◌}
 use mathlib.Core.List.{List}
 use Rattle.refusals.specs.Lent.{answered_to}
-use borrow.Author.Rules.{rules}
 use Rattle.tuners.proofs.lend.Goals as goal
 
 pub returns : goal.returns

@@ -2,7 +2,7 @@
 -- Assumes nothing.
 use native.Mathlib.Omega.{arith}
 use lib.Dec.{ltb}
-use borrow.Author.Tests.{le-ltb, lt-ltb, not-false, not-true}
+use borrow.Author.Tests.{le-ltb, lt-ltb}
 use Rattle.tuners.proofs.Passed.{all_there, bad_argument, not_ok, too_short}
 use Rattle.tuners.specs.Over.{ready_of}
 use Rattle.tuners.proofs.ready.Goals as goal

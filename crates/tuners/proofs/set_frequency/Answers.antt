@@ -1,8 +1,7 @@
 -- `tuners::set_frequency` meets its contract: refused before its steps, or made and handed back, with what it tells of the lock.
 -- Assumes nothing.
-use mathlib.Core.Path.{refl, sym, ◌∙◌}
+use mathlib.Core.Path.{sym, ◌∙◌}
 use native.Mathlib.Omega.{arith}
-use borrow.Author.Rules.{rules}
 use Rattle.r82xx.specs.Orders.{course_of, result_of, lock_tries_of}
 use Rattle.r82xx.specs.Orders.Order.{Tune}
 use Rattle.tuners.proofs.Passed.{fits, handed_tried, refused_untried}

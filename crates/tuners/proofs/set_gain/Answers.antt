@@ -2,7 +2,6 @@
 -- Assumes nothing.
 use mathlib.Core.Path.{refl, sym, ◌∙◌}
 use native.Mathlib.Omega.{arith}
-use borrow.Author.Rules.{rules}
 use Rattle.r82xx.specs.Orders.{bracket, course_of, gain_row, result_of}
 use Rattle.r82xx.specs.Orders.Order.{Gain}
 use Rattle.tuners.proofs.Passed.{fits, handed_back, refused_by_lem}

@@ -1,8 +1,7 @@
 -- `tuners::set_input_path` meets its contract: refused before its steps, or made and handed back.
 -- Assumes nothing.
-use mathlib.Core.Path.{refl, sym, ◌∙◌}
+use mathlib.Core.Path.{sym, ◌∙◌}
 use native.Mathlib.Omega.{arith}
-use borrow.Author.Rules.{rules}
 use Rattle.r82xx.specs.Orders.{course_of, result_of}
 use Rattle.r82xx.specs.Orders.Order.{InputPath}
 use Rattle.tuners.proofs.Passed.{fits, handed_back, path_byte, refused_by_lem, tuner_path_argued}

@@ -4,10 +4,8 @@ use mathlib.Core.Path.{sym, ap, ◌∙◌}
 use mathlib.Core.List.{List}
 use Prim.Native.Nat.{ℕ}
 use lib.Seq.{sets}
-use borrow.Author.Tests.{not-false, not-true}
 use Rattle.records.specs.Tuners.{tuner_bytes}
 use Rattle.tuners.proofs.Passed.{left, written}
-use borrow.Author.Rules.{rules}
 use Rattle.tuners.proofs.store.Goals as goal
 
 pub returns-then-is_written : goal.returns-then-is_written

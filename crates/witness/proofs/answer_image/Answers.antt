@@ -1,6 +1,5 @@
 -- `witness::answer_image` meets its contract: the parts, stored one after the other over 52 bytes, are the answer's.
 -- Assumes nothing.
-use borrow.Author.Rules.{rules}
 use mathlib.Core.Path.{refl, ap₂, ◌∙◌}
 use lib.ListN.{replicate}
 use Rattle.witness.specs.Answer.{if_sure}

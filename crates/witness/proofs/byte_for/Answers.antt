@@ -1,6 +1,5 @@
 -- `witness::byte_for` meets its contract.
 -- Assumes nothing.
-use borrow.Author.Rules.{rules}
 use mathlib.Core.Path.{sym, ◌∙◌}
 use native.Mathlib.Omega.{arith}
 use Rattle.witness.proofs.Slots.{reached}

@@ -1,6 +1,5 @@
 -- `witness::centre_mark` meets its contract.
 -- Assumes nothing.
-use borrow.Author.Rules.{rules}
 use mathlib.Core.Path.{sym}
 use Rattle.witness.specs.Answer.{centre_mark}
 use Rattle.witness.proofs.centre_mark.Goals as goal

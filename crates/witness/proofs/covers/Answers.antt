@@ -1,6 +1,5 @@
 -- `witness::covers` meets its contract.
 -- Assumes nothing.
-use borrow.Author.Rules.{rules}
 use mathlib.Core.Path.{refl}
 use Rattle.evidence.specs.Demodulator.{covers}
 use Rattle.witness.proofs.covers.Goals as goal

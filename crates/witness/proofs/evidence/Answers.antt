@@ -1,6 +1,5 @@
 -- `witness::evidence` meets its contract: refused by a reference or by the walk, or the answer that is laid out is lent.
 -- Assumes nothing.
-use borrow.Author.Rules.{rules}
 use native.Mathlib.Omega.{arith}
 use mathlib.Core.Path.{◌∙◌}
 use Rattle.sections.specs.Chain.{chain_entries}

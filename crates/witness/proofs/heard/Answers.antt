@@ -1,6 +1,5 @@
 -- `witness::heard` meets its contract.
 -- Assumes nothing.
-use borrow.Author.Rules.{rules}
 use Rattle.restoring.specs.Standing.{known_all}
 use Rattle.witness.specs.Walk.{seen}
 use Rattle.witness.proofs.Gathered.{heard_one}

@@ -1,15 +1,11 @@
 -- `witness::heard_all` meets its contract. The loop's invariant: the first i entries, over what is gathered by then, are all entries over what was.
 -- Assumes nothing.
-use Prim.Native.Nat.{◌≤◌, ◌-◌}
-use mathlib.Core.Path.{◌≡◌, refl, ◌∙◌}
-use native.Mathlib.Omega.{arith}
-use borrow.Author.Rules.{rules}
+use Prim.Native.Nat.{◌≤◌}
+use mathlib.Core.Path.{◌≡◌}
 use lib.ListN.{length, drop}
 use Rattle.transcript.specs.Sections.{entries_in}
 use Rattle.restoring.specs.Standing.{known_all}
-use Rattle.restoring.proofs.Telling.{few, turn_end, turn_on}
 use Rattle.witness.specs.Walk.{seen, seen_all}
-use Rattle.witness.proofs.Gathered.{all_both, all_empty}
 use Rattle.witness.proofs.heard_all.Given as goal
 
 abbrev pub invariant-loop-i : goal.invariant-loop-i

@@ -1,6 +1,5 @@
 -- `witness::lock_told` meets its contract.
 -- Assumes nothing.
-use borrow.Author.Rules.{rules}
 use Rattle.witness.proofs.lock_told.Goals as goal
 
 pub returns-then-read : goal.returns-then-read

@@ -1,6 +1,5 @@
 -- `witness::marks_in` meets its contract.
 -- Assumes nothing.
-use borrow.Author.Rules.{rules}
 use Rattle.witness.specs.InCode.{marks_in}
 use Rattle.witness.proofs.marks_in.Goals as goal
 

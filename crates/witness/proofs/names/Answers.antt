@@ -1,6 +1,5 @@
 -- `witness::names` meets its contract.
 -- Assumes nothing.
-use borrow.Author.Rules.{rules}
 use Rattle.attempts.specs.Attempts.{names}
 use Rattle.witness.proofs.names.Goals as goal
 

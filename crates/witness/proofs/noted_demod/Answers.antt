@@ -1,16 +1,14 @@
 -- `witness::noted_demod` meets its contract. The loop's invariant: the slots from k on, over what is told by then, are all slots over what was told.
 -- Assumes nothing.
-use Prim.Native.Nat.{◌≤◌, ◌-◌}
-use mathlib.Core.Path.{◌≡◌, refl, ap, ◌∙◌}
+use mathlib.Core.Path.{refl, ap, ◌∙◌}
 use mathlib.Core.Bool.{Bool, not, ◌&&◌}
 use mathlib.Core.List.{[], ◌∷◌}
 use native.Mathlib.Omega.{arith}
 use borrow.Author.Rules.{rules}
 use lib.Dec.{eqb}
-use lib.ListN.{length}
-use Rattle.restoring.specs.Standing.{known_all, mark_of, over}
+use Rattle.restoring.specs.Standing.{known_all, mark_of}
 use Rattle.evidence.specs.Demodulator.{demod_settles}
-use Rattle.witness.proofs.Slots.{from, from_end, from_start, from_turn, high_kind, low_kind}
+use Rattle.witness.proofs.Slots.{from_end, from_start, from_turn, high_kind, low_kind}
 use Rattle.witness.proofs.noted_demod.Goals as goal
 
 pub returns-then-e-lt-DEMOD : goal.returns-then-e-lt-DEMOD

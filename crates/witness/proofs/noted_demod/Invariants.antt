@@ -1,16 +1,11 @@
 -- `witness::noted_demod` meets its contract. The loop's invariant: the slots from k on, over what is told by then, are all slots over what was told.
 -- Assumes nothing.
 use Prim.Native.Nat.{◌≤◌, ◌-◌}
-use mathlib.Core.Path.{◌≡◌, refl, ap, ◌∙◌}
-use mathlib.Core.Bool.{Bool, not, ◌&&◌}
+use mathlib.Core.Path.{◌≡◌}
 use mathlib.Core.List.{[], ◌∷◌}
-use native.Mathlib.Omega.{arith}
-use borrow.Author.Rules.{rules}
-use lib.Dec.{eqb}
 use lib.ListN.{length}
-use Rattle.restoring.specs.Standing.{known_all, mark_of, over}
-use Rattle.evidence.specs.Demodulator.{demod_settles}
-use Rattle.witness.proofs.Slots.{from, from_end, from_start, from_turn, high_kind, low_kind}
+use Rattle.restoring.specs.Standing.{known_all, over}
+use Rattle.witness.proofs.Slots.{from}
 use Rattle.witness.proofs.noted_demod.Given as goal
 
 abbrev pub invariant-loop-k : goal.invariant-loop-k

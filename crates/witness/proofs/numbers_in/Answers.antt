@@ -1,6 +1,5 @@
 -- `witness::numbers_in` meets its contract.
 -- Assumes nothing.
-use borrow.Author.Rules.{rules}
 use Rattle.evidence.specs.Evidence.{if_units, lo_units, rate_in}
 use Rattle.witness.specs.InCode.{numbers_in}
 use Rattle.witness.proofs.numbers_in.Goals as goal

@@ -1,6 +1,5 @@
 -- `witness::offset_of` meets its contract.
 -- Assumes nothing.
-use borrow.Author.Rules.{rules}
 use Prim.Native.Nat.{◌-◌, ◌%◌}
 use native.Mathlib.Omega.{arith}
 use Rattle.witness.proofs.Sizes.{steps_small}

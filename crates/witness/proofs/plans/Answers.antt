@@ -1,6 +1,5 @@
 -- `witness::plans` meets its contract.
 -- Assumes nothing.
-use borrow.Author.Rules.{rules}
 use Rattle.witness.proofs.plans.Goals as goal
 
 pub returns : goal.returns

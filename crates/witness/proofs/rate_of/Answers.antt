@@ -1,6 +1,5 @@
 -- `witness::rate_of` meets its contract.
 -- Assumes nothing.
-use borrow.Author.Rules.{rules}
 use borrow.Author.Tests.{eq-eqb, ne_eqb}
 use Rattle.witness.proofs.rate_of.Goals as goal
 

@@ -1,6 +1,5 @@
 -- `witness::shakes` meets its contract.
 -- Assumes nothing.
-use borrow.Author.Rules.{rules}
 use Rattle.evidence.specs.Demodulator.{shakes}
 use Rattle.witness.proofs.shakes.Goals as goal
 

@@ -1,6 +1,5 @@
 -- `witness::tries_after` meets its contract.
 -- Assumes nothing.
-use borrow.Author.Rules.{rules}
 use Rattle.witness.proofs.tries_after.Goals as goal
 
 pub returns-then-read : goal.returns-then-read

@@ -1,6 +1,5 @@
 -- `witness::waited` meets its contract.
 -- Assumes nothing.
-use borrow.Author.Rules.{rules}
 use borrow.Author.Tests.{eq-eqb, ne_eqb}
 use Rattle.witness.specs.Walk.{waited_by}
 use Rattle.witness.proofs.waited.Goals as goal

@@ -1,16 +1,11 @@
 -- `witness::walked` meets its contract. The loop's invariant: what stands before `end` is sections end to end exactly where the slice is, and its entries, over what is gathered by then, are all entries over nothing.
 -- Assumes nothing.
-use Prim.Native.Nat.{ℕ, ◌≤◌, ◌-◌}
-use mathlib.Core.Path.{◌≡◌, refl, sym, ap, ◌∙◌}
-use mathlib.Core.List.{List}
-use native.Mathlib.Omega.{arith}
-use borrow.Author.Rules.{rules}
+use Prim.Native.Nat.{◌≤◌}
+use mathlib.Core.Path.{◌≡◌}
 use lib.ListN.{length, take}
 use Rattle.sections.specs.Chain.{chain, chain_entries}
 use Rattle.restoring.specs.Standing.{known_all}
-use Rattle.restoring.proofs.Backward.{all_sections, all_turned, begin, chain_on, few, fit, lower, not_both, refused, stopped, turned, within}
 use Rattle.witness.specs.Walk.{seen, seen_all, waiting}
-use Rattle.witness.proofs.Gathered.{all_both, all_empty}
 use Rattle.witness.proofs.walked.Given as goal
 
 abbrev pub invariant-loop-end : goal.invariant-loop-end

@@ -4,10 +4,6 @@ use mir.Facts.{to_z-of_z}
 use mir.Syntax.{w32}
 use Rattle.driver.specs.Record.{xtal_by}
 use Rattle.driver.proofs.Making.{xtal_refused, xtal_told}
-use borrow.Author.Rules.{rules}
-use Rattle.driver.proofs.Driver.corrected_xtal_hz.Reads as reads
-use Rattle.driver.proofs.Driver.corrected_xtal_hz.Lts as lts
-use Rattle.driver.proofs.xtal_by.Reads as xtal-by-reads
 use Rattle.driver.proofs.Driver.corrected_xtal_hz.Goals as goal
 
 pub returns-then-xtal-lt1 : goal.returns-then-xtal-lt1

@@ -4,12 +4,6 @@ use mir.Facts.{to_z-of_z}
 use Rattle.refusals.specs.declared.Answer.TheVariants.{Done}
 use Rattle.driver.specs.Record.{driver, made, xtal_by}
 use Rattle.driver.proofs.Making.{new_bad, new_good, new_high, new_low, new_no_board}
-use borrow.Author.Rules.{rules}
-use Rattle.driver.proofs.Driver.new.Reads as reads
-use Rattle.driver.proofs.Driver.new.Lts as lts
-use Rattle.driver.proofs.board_named.Reads as board-named-reads
-use Rattle.driver.proofs.nothing.Reads as nothing-reads
-use Rattle.driver.proofs.xtal_by.Reads as xtal-by-reads
 use Rattle.driver.proofs.Driver.new.Goals as goal
 
 pub returns-in_default : goal.returns-in_default

@@ -11,7 +11,6 @@ use Rattle.driver.proofs.Refusals.{xtal_taken}
 use Rattle.registers.proofs.Ratios.{taken}
 use Rattle.chip.proofs.Refusals.{taken_by}
 use Rattle.driver.proofs.Rates.{rate_performed, rate_refused, under}
-use borrow.Author.Rules.{rules}
 use Rattle.driver.proofs.Driver.rate_planned.Goals as goal
 
 pub returns-then-number-ne0 : goal.returns-then-number-ne0

@@ -8,7 +8,6 @@ use mir.Syntax.{w32}
 use Rattle.refusals.specs.Table.{TABLE}
 use Rattle.registers.specs.Rates.{rate_number}
 use Rattle.driver.specs.Record.{xtal_by}
-use borrow.Author.Rules.{rules}
 use Rattle.driver.proofs.Driver.rate_refusal.Goals as goal
 
 pub returns : goal.returns

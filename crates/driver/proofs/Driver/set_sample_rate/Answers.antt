@@ -2,11 +2,6 @@
 use mathlib.Core.Path.{ap, ◌∙◌}
 use Rattle.bands.specs.declared.Planned.{Planned}
 use Rattle.driver.specs.Calls.{rate_result}
-use borrow.Author.Rules.{rules}
-use Rattle.driver.proofs.Driver.set_sample_rate.Reads as reads
-use Rattle.driver.proofs.Driver.set_sample_rate.Lts as lts
-use Rattle.bands.proofs.plan_by_table.Reads as plan-by-table-reads
-use Rattle.driver.proofs.Driver.rate_planned.Reads as rate-planned-reads
 use Rattle.driver.proofs.Driver.set_sample_rate.Goals as goal
 
 pub returns : goal.returns

@@ -2,7 +2,6 @@
 use mathlib.Core.Path.{ap, ◌∙◌}
 use Rattle.r82xx.specs.InCode.{sound_answer}
 use Rattle.r82xx.proofs.Tuned.{gain_told}
-use borrow.Author.Rules.{rules}
 use Rattle.r82xx.proofs.Tuner.get_gain.Goals as goal
 
 pub returns : goal.returns

@@ -1,8 +1,6 @@
 -- `r82xx::Tuner::get_gain_table` meets its contract. Each return is one law of the definition, with what the calls before it ensure. Assumes nothing.
 use mathlib.Core.Path.{sym, ◌∙◌}
-use borrow.Author.Tests.{not-false, not-true}
 use Rattle.r82xx.proofs.Tuned.{table_given, table_refused}
-use borrow.Author.Rules.{rules}
 use Rattle.r82xx.proofs.Tuner.get_gain_table.Goals as goal
 
 pub returns-then-not-sound : goal.returns-then-not-sound

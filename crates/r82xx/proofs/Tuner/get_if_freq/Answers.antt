@@ -1,6 +1,5 @@
 -- `r82xx::Tuner::get_if_freq` meets its contract. Assumes nothing.
 use mathlib.Core.Path.{◌∙◌}
-use borrow.Author.Rules.{rules}
 use Rattle.r82xx.proofs.Tuned.{if_told}
 use Rattle.r82xx.proofs.Tuner.get_if_freq.Goals as goal
 

@@ -10,7 +10,6 @@ use Rattle.chip.specs.InCode.{Logged}
 use Rattle.chip.specs.Steps.{Line}
 use Rattle.r82xx.specs.Orders.{result_of}
 use Rattle.chip.specs.Courses.{left_by}
-use borrow.Author.Rules.{rules}
 use Rattle.r82xx.proofs.Tuner.initialize.Goals as goal
 
 pub returns-then-number-ne0 : goal.returns-then-number-ne0

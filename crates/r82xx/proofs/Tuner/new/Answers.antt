@@ -1,7 +1,6 @@
 -- `r82xx::Tuner::new` meets its contract. Each return is one law of the definition, with what the calls before it ensure. Assumes nothing.
 use borrow.Author.Tests.{eq-eqb, le-leb, lt-leb, ne_eqb}
 use Rattle.r82xx.specs.Record.{made_of}
-use borrow.Author.Rules.{rules}
 use Rattle.r82xx.proofs.Tuner.new.Goals as goal
 
 pub returns-then-nominal-lt1 : goal.returns-then-nominal-lt1

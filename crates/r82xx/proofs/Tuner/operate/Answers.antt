@@ -10,7 +10,6 @@ use Rattle.chip.specs.InCode.{Logged, meant_of}
 use Rattle.chip.specs.Steps.{Line, while_open, updates}
 use Rattle.r82xx.specs.Orders.{bracket}
 use Rattle.chip.specs.Courses.{left_by}
-use borrow.Author.Rules.{rules}
 use Rattle.r82xx.proofs.Tuner.operate.Goals as goal
 
 pub overflow_add-us : goal.overflow_add-us

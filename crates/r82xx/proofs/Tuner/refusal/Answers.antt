@@ -1,7 +1,6 @@
 -- `r82xx::Tuner::refusal` meets its contract: chip's, of the record's soundness. Assumes nothing.
 use mathlib.Core.Path.{ap, ◌∙◌}
 use mathlib.Core.Bool.{Bool}
-use borrow.Author.Rules.{rules}
 use Rattle.chip.specs.Calls.{refusal_with}
 use Rattle.r82xx.proofs.Tuner.refusal.Goals as goal
 

@@ -7,7 +7,6 @@ use Rattle.writes.proofs.Lists.{bandwidth_in}
 use Rattle.r82xx.proofs.Whole.{bracket_by}
 use Rattle.r82xx.specs.Orders.{result_of}
 use Rattle.refusals.specs.declared.Answer.TheVariants.{Done}
-use borrow.Author.Rules.{rules}
 use Rattle.r82xx.proofs.Tuner.set_bandwidth.Goals as goal
 
 pub operate-told-requires : goal.operate-told-requires

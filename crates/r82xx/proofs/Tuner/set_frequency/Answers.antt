@@ -10,7 +10,6 @@ use Rattle.r82xx.specs.Calls.{refusal_of}
 use Rattle.r82xx.specs.Record.{sound}
 use Rattle.r82xx.proofs.Refusals.{hz_fits}
 use Rattle.r82xx.proofs.Tuned.{number_small, tune_refused, tune_taken}
-use borrow.Author.Rules.{rules}
 use Rattle.r82xx.proofs.Tuner.set_frequency.Goals as goal
 
 pub returns-then-number-ne0 : goal.returns-then-number-ne0

@@ -2,7 +2,6 @@
 use Rattle.r82xx.proofs.Tuned.{at_step, chosen_step}
 use Rattle.gain.specs.Steps.{chosen_of}
 use Rattle.r82xx.specs.Orders.{result_of}
-use borrow.Author.Rules.{rules}
 use Rattle.r82xx.proofs.Tuner.set_gain.Goals as goal
 
 pub returns : goal.returns

@@ -11,7 +11,6 @@ use Rattle.r82xx.proofs.Tuned.{at_step}
 use Rattle.r82xx.proofs.Whole.{bracket_eight, gain_kept, perform_by, step_by, step_refused}
 use Rattle.r82xx.specs.Orders.{bracket, result_of}
 use Rattle.chip.specs.Courses.{left_by}
-use borrow.Author.Rules.{rules}
 use Rattle.r82xx.proofs.Tuner.set_gain_by_index.Goals as goal
 
 pub returns-then-number-ne0 : goal.returns-then-number-ne0

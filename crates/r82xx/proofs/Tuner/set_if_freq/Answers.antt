@@ -8,7 +8,6 @@ use Rattle.r82xx.proofs.Whole.{bracket_by}
 use Rattle.r82xx.specs.Orders.{result_of}
 use Rattle.refusals.specs.declared.Answer.TheVariants.{Done}
 use Rattle.r82xx.specs.Record.{with_if}
-use borrow.Author.Rules.{rules}
 use Rattle.r82xx.proofs.Tuner.set_if_freq.Goals as goal
 
 pub operate-requires : goal.operate-requires

@@ -4,7 +4,6 @@ use native.Mathlib.Omega.{arith}
 use Rattle.writes.proofs.Lists.{path_meant_in, path_meant_two}
 use Rattle.r82xx.proofs.Tuned.{path_by, path_none, path_still}
 use Rattle.r82xx.specs.Orders.{result_of}
-use borrow.Author.Rules.{rules}
 use Rattle.r82xx.proofs.Tuner.set_input_path.Goals as goal
 
 pub returns-in_default : goal.returns-in_default

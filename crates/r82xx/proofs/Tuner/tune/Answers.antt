@@ -1,7 +1,6 @@
 -- `r82xx::Tuner::tune` meets its contract. What it hands back, and what it tells of the lock, is one law of the definition, with what the calls before it ensure. Assumes nothing.
 use native.Mathlib.Omega.{arith}
 use Rattle.r82xx.proofs.Tuned.{tune_by}
-use borrow.Author.Rules.{rules}
 use Rattle.r82xx.proofs.Tuner.tune.Goals as goal
 
 pub returns : goal.returns
