@@ -1,7 +1,6 @@
 -- `packets::became` meets its contract: a repeater entry is turned, any other stays.
 -- Assumes nothing.
 use Rattle.packets.proofs.Written.{stays, turns}
-use borrow.Author.Rules.{rules}
 use Rattle.packets.proofs.became.Goals as goal
 
 pub returns-then-e-ne-REPEATER : goal.returns-then-e-ne-REPEATER

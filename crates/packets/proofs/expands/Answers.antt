@@ -1,7 +1,6 @@
 -- `packets::expands` meets its contract: each return is one case of the definition.
 -- Assumes nothing.
 use Rattle.packets.specs.Packets.{expands}
-use borrow.Author.Rules.{rules}
 use Rattle.packets.proofs.expands.Goals as goal
 
 pub returns-then-is_demod : goal.returns-then-is_demod

@@ -2,7 +2,6 @@
 -- Assumes nothing.
 use mathlib.Core.Path.{refl}
 use native.Mathlib.Omega.{arith}
-use borrow.Author.Rules.{rules}
 use Rattle.packets.proofs.followed_by.Goals as goal
 
 pub returns-then-is_demod-outcome : goal.returns-then-is_demod-outcome

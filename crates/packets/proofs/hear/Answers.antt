@@ -2,10 +2,8 @@
 -- Assumes nothing.
 use mathlib.Core.Path.{◌∙◌}
 use native.Mathlib.Omega.{arith}
-use borrow.Author.Tests.{not-true, not-false}
 use lib.ListN.{drop, length-drop}
 use Rattle.packets.proofs.Reading.{heard_short, heard_other, heard_cut, heard_told, few, row}
-use borrow.Author.Rules.{rules}
 use Rattle.packets.proofs.hear.Goals as goal
 
 pub returns-then-left-lt8 : goal.returns-then-left-lt8

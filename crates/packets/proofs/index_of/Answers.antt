@@ -3,7 +3,6 @@
 use mathlib.Core.Path.{sym, ◌∙◌}
 use native.Mathlib.Omega.{arith}
 use Rattle.packets.proofs.Written.{index_demod, index_i2c, index_block}
-use borrow.Author.Rules.{rules}
 use Rattle.packets.proofs.index_of.Goals as goal
 
 pub returns-then-is_demod : goal.returns-then-is_demod

@@ -2,7 +2,6 @@
 -- Assumes nothing.
 use mathlib.Core.Path.{◌∙◌}
 use Rattle.packets.proofs.Reading.{page_named, i2c_named, block_named}
-use borrow.Author.Rules.{rules}
 use Rattle.packets.proofs.named.Goals as goal
 
 pub returns-then-high-eq0 : goal.returns-then-high-eq0

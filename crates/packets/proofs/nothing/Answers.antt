@@ -3,7 +3,6 @@
 use mathlib.Core.Path.{ap}
 use Rattle.packets.specs.declared.Heard.{Heard}
 use Rattle.transcript.specs.declared.Entry.{Entry}
-use borrow.Author.Rules.{rules}
 use Rattle.packets.proofs.nothing.Goals as goal
 
 abbrev told : Entry → Heard

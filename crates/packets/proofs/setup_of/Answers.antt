@@ -1,7 +1,6 @@
 -- `packets::setup_of` meets its contract: the four fields, each at its place.
 -- Assumes nothing.
 use Rattle.packets.proofs.Written.{setup_made}
-use borrow.Author.Rules.{rules}
 use Rattle.packets.proofs.setup_of.Goals as goal
 
 pub returns : goal.returns

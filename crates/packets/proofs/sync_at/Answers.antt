@@ -1,7 +1,6 @@
 -- `packets::sync_at` meets its contract: eight bytes are there, and their number is that of the read.
 -- Assumes nothing.
 use Rattle.packets.proofs.Reading.{no_sync, sync_told}
-use borrow.Author.Rules.{rules}
 use Rattle.packets.proofs.sync_at.Goals as goal
 
 pub returns-then-s-at-lt8 : goal.returns-then-s-at-lt8

@@ -2,7 +2,6 @@
 -- Assumes nothing.
 use mathlib.Core.Path.{refl}
 use native.Mathlib.Omega.{arith}
-use borrow.Author.Rules.{rules}
 use Rattle.packets.proofs.sync_len.Goals as goal
 
 pub returns-then-is_demod-sync_at : goal.returns-then-is_demod-sync_at

@@ -1,7 +1,6 @@
 -- `packets::with_data` meets its contract: the data are the bytes after the setup packet.
 -- Assumes nothing.
 use Rattle.packets.proofs.Reading.{told_made}
-use borrow.Author.Rules.{rules}
 use Rattle.packets.proofs.with_data.Goals as goal
 
 pub returns : goal.returns
