@@ -1,7 +1,7 @@
 -- Both directions, exactly. A section's packets are read back as its entries without waits, outcomes and read data, repeaters as the demod writes that they
 -- became; and bytes are accepted only if some section expands to them, and the answer is that section's.
 -- Assumes nothing.
-use Prim.Native.Nat.{ℕ, zero, suc, ◌+◌, ◌*◌, ◌≤◌}
+use Prim.Native.Nat.{ℕ, zero, suc, ◌*◌, ◌≤◌}
 use mathlib.Core.Path.{◌≡◌, refl, sym, ap, ap₂, ◌∙◌, subst}
 use mathlib.Core.List.{List, [], ◌∷◌, ◌++◌, map}
 use mathlib.Core.Bool.{Bool, true, false, cond, ◌&&◌}

@@ -10,7 +10,6 @@ use lib.ListN.{length, get_or, take, drop, length-append}
 use lib.Seq.{sets, drop-drop}
 use Rattle.wire.proofs.Stores.{sets_append}
 use Rattle.transcript.specs.declared.Entry.{Entry}
-use Rattle.transcript.specs.declared.Section.TheVariants as section
 use Rattle.transcript.specs.Entries.{entry_of, entry_fits, fits}
 use Rattle.transcript.specs.Sections.{all_fit, entries_in}
 use Rattle.transcript.proofs.Reading.{both}

@@ -1,13 +1,10 @@
 -- `expansion::counted` meets its contract. The loop's invariant: the entries so far and those of the bytes left make the whole, and all are heard if those left are.
 -- Assumes nothing.
-use Prim.Native.Nat.{◌+◌, ◌-◌, ◌≤◌}
-use mathlib.Core.Path.{◌≡◌, refl, ap, ◌∙◌}
+use mathlib.Core.Path.{refl, ap, ◌∙◌}
 use native.Mathlib.Omega.{arith}
-use lib.ListN.{length, drop}
+use lib.ListN.{drop}
 use Rattle.packets.specs.declared.Heard.{Heard}
-use Rattle.expansion.specs.Expansion.{all_heard, heard_entries}
 use Rattle.expansion.proofs.Hearing.{below, heard, unheard, too_many, stray, inside, heard_on, count_on, refused, ended}
-use borrow.Author.Rules.{rules}
 use Rattle.expansion.proofs.counted.Goals as goal
 
 pub loop-at-init : goal.loop-at-init

@@ -1,13 +1,9 @@
 -- `expansion::counted` meets its contract. The loop's invariant: the entries so far and those of the bytes left make the whole, and all are heard if those left are.
 -- Assumes nothing.
 use Prim.Native.Nat.{◌+◌, ◌-◌, ◌≤◌}
-use mathlib.Core.Path.{◌≡◌, refl, ap, ◌∙◌}
-use native.Mathlib.Omega.{arith}
+use mathlib.Core.Path.{◌≡◌}
 use lib.ListN.{length, drop}
-use Rattle.packets.specs.declared.Heard.{Heard}
 use Rattle.expansion.specs.Expansion.{all_heard, heard_entries}
-use Rattle.expansion.proofs.Hearing.{below, heard, unheard, too_many, stray, inside, heard_on, count_on, refused, ended}
-use borrow.Author.Rules.{rules}
 use Rattle.expansion.proofs.counted.Given as goal
 
 abbrev pub invariant-loop-at : goal.invariant-loop-at

@@ -3,7 +3,6 @@
 use mathlib.Core.Path.{sym, ◌∙◌}
 use native.Mathlib.Omega.{arith}
 use Rattle.expansion.proofs.Cases.{no_section, ready, cannot, sized, too_short, written}
-use borrow.Author.Rules.{rules}
 use Rattle.expansion.proofs.expand.Goals as goal
 
 pub returns-in_default : goal.returns-in_default

@@ -1,15 +1,13 @@
 -- `expansion::measured` meets its contract. The loop's invariant: the size so far and that of the entries left make the whole, and all expand if those left do.
 -- Assumes nothing.
-use Prim.Native.Nat.{◌+◌, ◌-◌, ◌*◌, ◌≤◌}
-use mathlib.Core.Path.{◌≡◌, ap, ◌∙◌}
+use Prim.Native.Nat.{◌+◌}
+use mathlib.Core.Path.{ap, ◌∙◌}
 use mathlib.Core.List.{List}
 use native.Mathlib.Omega.{arith}
-use borrow.Author.Tests.{not-true, not-false}
-use lib.ListN.{length, drop}
+use lib.ListN.{length}
 use Rattle.transcript.specs.declared.Entry.{Entry}
-use Rattle.transcript.specs.Sections.{entries_in}
 use Rattle.expansion.specs.Expansion.{all_expand, expanded}
-use Rattle.expansion.proofs.Turns.{left, left_all, few, stops, goes, grows, within, refused, ended}
+use Rattle.expansion.proofs.Turns.{left_all, few, stops, goes, grows, within, refused, ended}
 use borrow.Author.Rules.{rules}
 use Rattle.expansion.proofs.measured.Goals as goal
 

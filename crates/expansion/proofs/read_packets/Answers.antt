@@ -4,7 +4,6 @@ use mathlib.Core.Path.{sym, ◌∙◌}
 use native.Mathlib.Omega.{arith}
 use Rattle.expansion.proofs.Cases.{no_packets, counts, no_room, read}
 use Rattle.expansion.proofs.Hearing.{heard_most}
-use borrow.Author.Rules.{rules}
 use Rattle.expansion.proofs.read_packets.Goals as goal
 
 pub returns-in_default : goal.returns-in_default

@@ -1,16 +1,15 @@
 -- `expansion::write_packets` meets its contract. The loop's invariant: the packets of the entries left, stored after what was stored, leave what all packets leave.
 -- Assumes nothing.
-use Prim.Native.Nat.{◌+◌, ◌-◌, ◌≤◌}
-use mathlib.Core.Path.{◌≡◌, refl, ap, ◌∙◌}
+use Prim.Native.Nat.{◌+◌}
+use mathlib.Core.Path.{refl, ap, ◌∙◌}
 use mathlib.Core.List.{List}
 use native.Mathlib.Omega.{arith}
-use lib.ListN.{length, drop}
+use lib.ListN.{length}
 use lib.Seq.{sets, length-sets}
 use Rattle.transcript.specs.declared.Entry.{Entry}
-use Rattle.transcript.specs.Sections.{entries_in}
 use Rattle.packets.specs.Packets.{packets_of}
 use Rattle.expansion.specs.Expansion.{expanded}
-use Rattle.expansion.proofs.Turns.{left, left_all, few, grows, stores, stored}
+use Rattle.expansion.proofs.Turns.{left_all, few, grows, stores, stored}
 use borrow.Author.Rules.{rules}
 use Rattle.expansion.proofs.write_packets.Goals as goal
 

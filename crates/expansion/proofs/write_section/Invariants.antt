@@ -1,18 +1,14 @@
 -- `expansion::write_section` meets its contract. The loop's invariant: the entries of the bytes left, stored after what was stored, leave what all entries leave; then the trailer.
 -- Assumes nothing.
 use Prim.Native.Nat.{◌+◌, ◌-◌, ◌*◌, ◌≤◌}
-use mathlib.Core.Path.{◌≡◌, refl, ap, ◌∙◌}
+use mathlib.Core.Path.{◌≡◌}
 use mathlib.Core.List.{map}
 use mathlib.Core.Bool.{true}
-use native.Mathlib.Omega.{arith}
 use lib.ListN.{length, drop}
-use lib.Seq.{sets, length-sets}
-use Rattle.transcript.specs.Entries.{bare, entry_bytes}
+use lib.Seq.{sets}
+use Rattle.transcript.specs.Entries.{bare}
 use Rattle.transcript.specs.Sections.{entries_bytes}
-use Rattle.packets.specs.declared.Heard.{Heard}
 use Rattle.expansion.specs.Expansion.{all_heard, heard_entries}
-use Rattle.expansion.proofs.Hearing.{heard_so, not_full, stands_there, inside, heard_on, count_on, entry_stored, sealed}
-use borrow.Author.Rules.{rules}
 use Rattle.expansion.proofs.write_section.Given as goal
 
 abbrev pub invariant-loop-at : goal.invariant-loop-at
