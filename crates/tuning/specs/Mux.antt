@@ -1,7 +1,7 @@
 -- The registers that a tuning writes first: `set_mux_raw`'s eleven, and the five of `set_pll_raw`. Document 01, "PLL": "Steps after that (0x10,
 -- 0x14, 0x16, 0x15, 0x12, wait 2, status, divider repair, up to ten lock tries) follow `set_pll_raw`."
 -- Assumes nothing.
-use Rattle.std.specs.Prelude.{ℕ, ◌*◌, ◌/◌, ◌%◌, Bool, cond, List, [], ◌∷◌, ◌++◌, eqb, leb}
+use Rattle.std.specs.Prelude.{ℕ, ◌*◌, ◌/◌, ◌%◌, Bool, cond, List, [], ◌∷◌, eqb, leb}
 use Rattle.chip.specs.declared.Update.{Update}
 use Rattle.chip.specs.Steps.{masked}
 use Rattle.pll.specs.declared.Plan.{Plan}

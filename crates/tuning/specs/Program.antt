@@ -1,7 +1,7 @@
 -- The program of a tuning. Document 01, "Refusal numbers": "A PLL refusal comes after the mux: all done, it leaves 13 entries (open, 11 writes,
 -- close) and the mux's shadow."
 -- Assumes nothing.
-use Rattle.std.specs.Prelude.{ℕ, Bool, List, [], ◌++◌, get_or}
+use Rattle.std.specs.Prelude.{ℕ, Bool, List, ◌++◌, get_or}
 use Rattle.refusals.specs.declared.Answer.{Answer}
 use Rattle.refusals.specs.declared.Answer.TheVariants as answer
 use Rattle.refusals.specs.Table.{FREQUENCY}

@@ -10,7 +10,7 @@ use Rattle.chip.specs.declared.Update.{Update}
 use Rattle.transcript.specs.Entries.{zeros8}
 use Rattle.chip.specs.Entries.{pointer, read_entry, wait}
 use Rattle.chip.specs.Steps.{Step, masked, updates}
-use Rattle.chip.specs.Steps.Step.{Mask, Plain}
+use Rattle.chip.specs.Steps.Step.{Plain}
 use Rattle.pll.specs.declared.Kind.{Kind}
 use Rattle.pll.specs.declared.Kind.TheVariants.{R820T, R828D}
 

@@ -257,6 +257,7 @@ fn vco_fine_tune(byte: u8) -> u8
 }
 
 // Pass 2: the divider is repaired by one where the VCO's band is off.
+#[tactic(auto, using(crate::proofs::Turns::repair_down, crate::proofs::Turns::repair_up, crate::proofs::Turns::repair_none))]
 fn repair(kind: Kind, number: u8, byte: u8) -> Fix
     requires { number ≤ 5 }
     ensures { fix_updates result ≡ repair_updates kind number byte }

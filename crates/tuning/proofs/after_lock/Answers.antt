@@ -6,7 +6,6 @@ use Rattle.chip.specs.declared.Update.{Update}
 use Rattle.chip.specs.InCode.{in_room}
 use Rattle.chip.specs.Steps.{in_range, updates}
 use Rattle.chip.proofs.Laws.{swap}
-use borrow.Author.Rules.{rules}
 use Rattle.tuning.proofs.after_lock.Goals as goal
 
 pub write_one-requires : goal.write_one-requires

@@ -10,7 +10,6 @@ use Rattle.chip.specs.Steps.Step.{Plain}
 use Rattle.chip.proofs.Laws.{parts, swap}
 use Rattle.tuning.specs.Tries.{again}
 use Rattle.tuning.proofs.Turns.{first_write, wait_alone}
-use borrow.Author.Rules.{rules}
 use Rattle.tuning.proofs.after_try.Goals as goal
 
 pub write_one-written-requires : goal.write_one-written-requires

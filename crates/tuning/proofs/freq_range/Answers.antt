@@ -1,7 +1,7 @@
 -- `tuning::freq_range` meets its contract. The loop's invariant: what is left, from here, gives what all of it gives from the start. Assumes nothing.
-use mathlib.Core.Path.{◌≡◌, refl, ap, ◌∙◌}
+use mathlib.Core.Path.{refl, ap, ◌∙◌}
 use borrow.Author.Rules.{rules}
-use Prim.Native.Nat.{◌+◌, ◌-◌}
+use Prim.Native.Nat.{◌+◌}
 use lib.ListN.{drop}
 use Rattle.tuning.specs.declared.FreqRange.{FreqRange}
 use Rattle.tuning.specs.Mux.{last_at, range_of, ranges}

@@ -1,11 +1,8 @@
 -- `tuning::freq_range` meets its contract. The loop's invariant: what is left, from here, gives what all of it gives from the start. Assumes nothing.
-use mathlib.Core.Path.{◌≡◌, refl, ap, ◌∙◌}
-use borrow.Author.Rules.{rules}
-use Prim.Native.Nat.{◌+◌, ◌-◌}
+use mathlib.Core.Path.{◌≡◌}
+use Prim.Native.Nat.{◌-◌}
 use lib.ListN.{drop}
-use Rattle.tuning.specs.declared.FreqRange.{FreqRange}
 use Rattle.tuning.specs.Mux.{last_at, range_of, ranges}
-use Rattle.tuning.proofs.Rows.{range_turn, range_end}
 use Rattle.tuning.proofs.freq_range.Given as goal
 
 abbrev pub invariant-loop-i : goal.invariant-loop-i

@@ -1,6 +1,5 @@
 -- `tuning::lock_after` meets its contract. Each return is one law of the definition, with what the calls before it ensure. Assumes nothing.
 use borrow.Author.Tests.{eq-eqb, ne_eqb}
-use borrow.Author.Rules.{rules}
 use Rattle.tuning.proofs.lock_after.Goals as goal
 
 pub returns-then-lock-eq10 : goal.returns-then-lock-eq10

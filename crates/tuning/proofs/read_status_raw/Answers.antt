@@ -2,7 +2,6 @@
 use Rattle.chip.specs.InCode.{in_room}
 use Rattle.chip.proofs.Laws.{swap}
 use Rattle.tuning.proofs.Turns.{status_made}
-use borrow.Author.Rules.{rules}
 use Rattle.tuning.proofs.read_status_raw.Goals as goal
 
 pub returns : goal.returns

@@ -2,7 +2,6 @@
 use Rattle.chip.specs.InCode.{in_room}
 use Rattle.chip.proofs.Laws.{swap}
 use Rattle.tuning.proofs.Turns.{try_made}
-use borrow.Author.Rules.{rules}
 use Rattle.tuning.proofs.read_try.Goals as goal
 
 pub returns : goal.returns

@@ -3,7 +3,6 @@ use mathlib.Core.Path.{◌≡◌, ◌∙◌}
 use native.Mathlib.Omega.{arith}
 use Prim.Native.Nat.{◌+◌, ◌-◌}
 use Rattle.tuning.specs.Tries.{reply_bytes}
-use borrow.Author.Rules.{rules}
 use Rattle.tuning.proofs.reply_bytes.Goals as goal
 
 pub returns : goal.returns

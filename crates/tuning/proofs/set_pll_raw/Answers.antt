@@ -7,7 +7,6 @@ use Rattle.chip.proofs.Laws.{parts}
 use Rattle.tuning.specs.InCode.{fix_updates}
 use Rattle.tuning.specs.Tries.{status_steps, tries_from}
 use Rattle.tuning.proofs.Programs.{every_app, inner_tries, inner_updates}
-use borrow.Author.Rules.{rules}
 use Rattle.tuning.proofs.set_pll_raw.Goals as goal
 
 -- antt refused `returns` as it was built: the module's report says why

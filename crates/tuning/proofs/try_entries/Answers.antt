@@ -4,7 +4,6 @@ use native.Mathlib.Omega.{arith}
 use Rattle.chip.specs.InCode.{in_room}
 use Rattle.chip.specs.Steps.{every, goes}
 use Rattle.chip.proofs.Laws.{by_entry, cut_here, ended_here, progress_on}
-use borrow.Author.Rules.{rules}
 use Rattle.tuning.proofs.try_entries.Goals as goal
 
 pub log_close-requires : goal.log_close-requires

@@ -6,7 +6,6 @@ use Rattle.chip.specs.Steps.{goes}
 use Rattle.chip.proofs.Laws.{bracketed, unopened}
 use Rattle.tuning.specs.Program.{inner_steps}
 use Rattle.tuning.proofs.Programs.{inner_inner}
-use borrow.Author.Rules.{rules}
 use Rattle.tuning.proofs.tune.Goals as goal
 
 -- antt refused `returns` as it was built: the module's report says why

@@ -1,13 +1,13 @@
 -- `tuning::tune_inner` meets its contract. Each return is one law of the definition, with what the calls before it ensure. Assumes nothing.
-use mathlib.Core.Path.{subst, ◌≡◌, ap}
+use mathlib.Core.Path.{subst, ap}
 use native.Mathlib.Omega.{arith}
-use Prim.Native.Nat.{ℕ, ◌≤◌}
+use Prim.Native.Nat.{◌≤◌}
 use mathlib.Core.List.{List, ◌++◌}
-use lib.ListN.{get_or, take}
+use lib.ListN.{take}
 use Rattle.chip.specs.declared.Update.{Update}
 use Rattle.pll.specs.declared.Pll.{Pll}
 use Rattle.chip.specs.InCode.{in_room}
-use Rattle.chip.specs.Steps.{Step, every, in_range, updates}
+use Rattle.chip.specs.Steps.{every, in_range, updates}
 use Rattle.chip.proofs.Laws.{parts, swap}
 use Rattle.tuning.specs.Program.{pll_steps, divider_number}
 use Rattle.tuning.specs.Tries.{status_steps, tries_from}

@@ -4,7 +4,6 @@ use native.Mathlib.Omega.{arith}
 use mathlib.Core.List.{[], ◌∷◌}
 use Prim.Native.Nat.{ℕ}
 use Rattle.chip.specs.Steps.{masked}
-use borrow.Author.Rules.{rules}
 use Rattle.tuning.proofs.tune_updates.Goals as goal
 
 pub overflow_mul-p : goal.overflow_mul-p

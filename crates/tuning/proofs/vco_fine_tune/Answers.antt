@@ -1,5 +1,4 @@
 -- `tuning::vco_fine_tune` meets its contract. Each return is one law of the definition, with what the calls before it ensure. Assumes nothing.
-use borrow.Author.Rules.{rules}
 use Rattle.tuning.proofs.vco_fine_tune.Goals as goal
 
 pub returns : goal.returns

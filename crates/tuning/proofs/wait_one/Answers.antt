@@ -2,7 +2,6 @@
 use native.Mathlib.Omega.{arith}
 use Rattle.chip.specs.InCode.{in_room}
 use Rattle.chip.proofs.Laws.{by_entry, ended_here}
-use borrow.Author.Rules.{rules}
 use Rattle.tuning.proofs.wait_one.Goals as goal
 
 pub returns : goal.returns

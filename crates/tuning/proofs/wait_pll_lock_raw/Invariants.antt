@@ -1,16 +1,11 @@
 -- `tuning::wait_pll_lock_raw` meets its contract. The loop's invariant: what is left, from here, gives what all of it gives from the start. Assumes nothing.
-use mathlib.Core.Path.{◌≡◌, refl, sym, ap, ◌∙◌}
-use native.Mathlib.Omega.{arith}
+use mathlib.Core.Path.{◌≡◌}
 use Prim.Native.Nat.{◌+◌, ◌*◌, ◌-◌, ◌≤◌, min}
 use lib.ListN.{length}
 use Rattle.chip.specs.Chips.{chip_of}
 use Rattle.chip.specs.InCode.{closing, in_room, on_log}
-use Rattle.chip.specs.Steps.{closing_owed, goes, run}
-use Rattle.chip.proofs.Laws.{closing_closing, closing_going, stop}
+use Rattle.chip.specs.Steps.{closing_owed, run}
 use Rattle.tuning.specs.Tries.{tries_from}
-use Rattle.tuning.proofs.Turns.{cut_try, end_try, lock_try, next_try}
-use Rattle.tuning.proofs.Programs.{inner_tries}
-use borrow.Author.Rules.{rules}
 use Rattle.tuning.proofs.wait_pll_lock_raw.Given as goal
 
 abbrev pub invariant-loop-i : goal.invariant-loop-i

@@ -2,7 +2,6 @@
 use mathlib.Core.Path.{sym, ap}
 use Rattle.tuning.specs.Program.{tune_answer}
 use Rattle.pll.specs.declared.Pll.{Pll}
-use borrow.Author.Rules.{rules}
 use Rattle.tuning.proofs.whole_answer.Goals as goal
 
 pub returns-in-Refused : goal.returns-in-Refused

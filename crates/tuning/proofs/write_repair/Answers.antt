@@ -5,7 +5,6 @@ use Rattle.chip.specs.InCode.{in_room}
 use Rattle.chip.specs.Steps.{in_range}
 use Rattle.chip.proofs.Laws.{swap}
 use Rattle.tuning.proofs.Turns.{fix_made, no_fix}
-use borrow.Author.Rules.{rules}
 use Rattle.tuning.proofs.write_repair.Goals as goal
 
 pub write_one-requires : goal.write_one-requires
