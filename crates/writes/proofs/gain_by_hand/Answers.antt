@@ -5,7 +5,6 @@ use Rattle.chip.specs.InCode.{in_room}
 use Rattle.chip.specs.Steps.{every, goes, in_range}
 use Rattle.chip.proofs.Laws.{cut_here, ended_here, progress_on}
 use Rattle.chip.proofs.Lists.{by_masked}
-use borrow.Author.Rules.{rules}
 use Rattle.writes.proofs.gain_by_hand.Goals as goal
 
 pub write_reg_mask_raw-l-requires : goal.write_reg_mask_raw-l-requires

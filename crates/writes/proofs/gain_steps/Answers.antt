@@ -6,7 +6,6 @@ use Rattle.chip.specs.Steps.{goes, update_step, updates}
 use Rattle.chip.proofs.Laws.{bracketed, unopened}
 use Rattle.chip.proofs.Lists.{every_inner, inner_update}
 use Rattle.writes.specs.Lists.{gain_updates}
-use borrow.Author.Rules.{rules}
 use Rattle.writes.proofs.gain_steps.Goals as goal
 
 pub log_close-shut-requires : goal.log_close-shut-requires

@@ -7,7 +7,6 @@ use Rattle.chip.proofs.Laws.{parts, swap}
 use Rattle.gain.specs.declared.GainEntry.{GainEntry}
 use Rattle.gain.specs.Table.{entry_at}
 use Rattle.writes.specs.Lists.{by_hand, step_values}
-use borrow.Author.Rules.{rules}
 use Rattle.writes.proofs.gain_writes.Goals as goal
 
 pub returns : goal.returns

@@ -3,7 +3,6 @@ use Rattle.chip.specs.Steps.{masked}
 use Rattle.chip.proofs.Lists.{two_made}
 use mathlib.Core.Path.{ap, ◌∙◌}
 use Prim.Native.Nat.{ℕ}
-use borrow.Author.Rules.{rules}
 use Rattle.writes.proofs.if_updates.Goals as goal
 
 pub returns : goal.returns

@@ -1,7 +1,6 @@
 -- `writes::init_updates` meets its contract: row by row. Assumes nothing.
 use Rattle.chip.specs.InCode.{listed}
 use mathlib.Core.List.{[], ◌∷◌}
-use borrow.Author.Rules.{rules}
 use Rattle.writes.proofs.init_updates.Goals as goal
 
 pub returns : goal.returns

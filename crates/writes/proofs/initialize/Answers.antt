@@ -10,7 +10,6 @@ use Rattle.writes.specs.Programs.{send_all}
 use Rattle.chip.proofs.Laws.{by_program, then}
 use Rattle.chip.proofs.Lists.{meant_all, meant_count, meant_in}
 use Rattle.writes.proofs.Lists.{if_in, init_in}
-use borrow.Author.Rules.{rules}
 use Rattle.writes.proofs.initialize.Goals as goal
 
 pub with_repeater-set-requires : goal.with_repeater-set-requires

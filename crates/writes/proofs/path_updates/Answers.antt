@@ -4,7 +4,6 @@ use Rattle.board.specs.declared.Path.{Path}
 use Rattle.chip.specs.InCode.{listed}
 use Rattle.chip.proofs.Lists.{two_made}
 use Rattle.writes.specs.Lists.{path_updates}
-use borrow.Author.Rules.{rules}
 use Rattle.writes.proofs.path_updates.Goals as goal
 
 pub returns-in-Hf : goal.returns-in-Hf

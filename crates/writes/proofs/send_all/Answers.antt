@@ -3,7 +3,6 @@ use native.Mathlib.Omega.{arith}
 use Rattle.chip.specs.InCode.{in_room}
 use Rattle.chip.specs.Steps.{tuner_write}
 use Rattle.chip.proofs.Laws.{then}
-use borrow.Author.Rules.{rules}
 use Rattle.writes.proofs.send_all.Goals as goal
 
 pub returns : goal.returns

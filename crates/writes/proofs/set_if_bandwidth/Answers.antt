@@ -1,6 +1,6 @@
 -- `writes::set_if_bandwidth` meets its contract: an opening, two updates and a closing. Assumes nothing.
 use Prim.Native.Nat.{ℕ}
-use mathlib.Core.Path.{◌≡◌, ap, ◌∙◌}
+use mathlib.Core.Path.{ap, ◌∙◌}
 use mathlib.Core.List.{[], ◌∷◌}
 use native.Mathlib.Omega.{arith}
 use Rattle.chip.specs.InCode.{in_room}
@@ -8,7 +8,6 @@ use Rattle.chip.specs.Steps.{goes, in_range, masked, update_step, updates}
 use Rattle.chip.proofs.Laws.{bracketed, swap, unopened}
 use Rattle.chip.proofs.Lists.{every_inner, inner_update}
 use Rattle.writes.specs.Lists.{if_updates}
-use borrow.Author.Rules.{rules}
 use Rattle.writes.proofs.set_if_bandwidth.Goals as goal
 
 -- antt refused `returns` as it was built: the module's report says why
