@@ -6,7 +6,7 @@ use mathlib.Core.Bool.{Bool, true, false, cond}
 use mathlib.Core.List.{List, [], ◌∷◌, map}
 use native.Mathlib.Omega.{arith}
 use borrow.Author.Tests.{ltb-false, ne_eqb}
-use lib.Dec.{eqb, ltb}
+use lib.Dec.{ltb}
 use lib.ListN.{length}
 use Rattle.refusals.specs.declared.Answer.{Answer}
 use Rattle.refusals.specs.declared.Answer.TheVariants.{Done, Refused}
@@ -19,7 +19,7 @@ use Rattle.chip.specs.InCode.{sealed, in_room, logged, on_room}
 use Rattle.chip.specs.Steps.{Step, eight, every, line, run}
 use Rattle.chip.proofs.Taken.{handed}
 use Rattle.device.specs.declared.Access.{Access}
-use Rattle.device.specs.Accesses.{access_entry, access_step, is_two}
+use Rattle.device.specs.Accesses.{access_step, is_two}
 use Rattle.device.specs.Calls.{free, free_call, free_result, no_chip}
 
 -- an access has its eight data bytes

@@ -1,7 +1,7 @@
 -- Calls that touch no record: they are performed over a chip of zeros, and nothing of it is handed back.
 -- Document 01, "Refusal numbers": "`set_gpio_*` touch no record"; src/demod.rs' calls have none either.
 -- Assumes nothing.
-use Rattle.std.specs.Prelude.{ℕ, Bool, true, false, List, replicate}
+use Rattle.std.specs.Prelude.{ℕ, true, false, List, replicate}
 use Rattle.refusals.specs.declared.Answer.TheVariants.{Done}
 use Rattle.chip.specs.declared.Chip.{Chip}
 use Rattle.chip.specs.Calls.{Called, call_of}

@@ -1,5 +1,4 @@
 -- `device::access_all` meets its contract: the log's, at this chip. Assumes nothing.
-use borrow.Author.Rules.{rules}
 use Rattle.device.proofs.access_all.Goals as goal
 
 pub returns : goal.returns

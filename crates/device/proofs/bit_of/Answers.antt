@@ -1,11 +1,7 @@
 -- `device::bit_of` meets its contract: a bit of eight is not cut. Assumes nothing.
-use Prim.Native.Nat.{ℕ, ◌*◌, ◌%◌, ◌^◌, ◌<◌}
-use mathlib.Core.Path.{◌≡◌, refl, ◌∙◌}
+use Prim.Native.Nat.{◌^◌, ◌<◌}
 use native.Mathlib.Omega.{arith}
-use borrow.Author.Rules.{rules}
 use lib.Pow.{pow-lt}
-use Rattle.device.proofs.bit_of.Reads as reads
-use Rattle.device.proofs.bit_of.Lts as lts
 use Rattle.device.proofs.bit_of.Goals as goal
 
 pub returns : goal.returns

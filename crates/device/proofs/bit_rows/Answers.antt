@@ -4,10 +4,6 @@ use mathlib.Core.List.{[], ◌∷◌}
 use Prim.Native.Nat.{ℕ}
 use Rattle.device.specs.InCode.{ten}
 use Rattle.device.specs.Accesses.{access}
-use borrow.Author.Rules.{rules}
-use Rattle.device.proofs.bit_rows.Reads as reads
-use Rattle.device.proofs.bit_rows.Lts as lts
-use Rattle.device.proofs.changed.Reads as changed-reads
 use Rattle.device.proofs.bit_rows.Goals as goal
 
 pub returns : goal.returns

@@ -1,10 +1,5 @@
 -- `device::changed` meets its contract. Assumes nothing.
 use borrow.Author.Tests.{eq-eqb, ne_eqb}
-use borrow.Author.Rules.{rules}
-use Rattle.device.proofs.changed.Reads as reads
-use Rattle.device.proofs.changed.Lts as lts
-use Rattle.device.proofs.with_bit.Reads as with-bit-reads
-use Rattle.device.proofs.without_bit.Reads as without-bit-reads
 use Rattle.device.proofs.changed.Goals as goal
 
 pub returns-then-value-eq0 : goal.returns-then-value-eq0

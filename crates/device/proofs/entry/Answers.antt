@@ -1,5 +1,4 @@
 -- `device::entry` meets its contract: a case for each width. Assumes nothing.
-use borrow.Author.Rules.{rules}
 use borrow.Author.Tests.{eq-eqb, ne_eqb}
 use Rattle.device.proofs.entry.Goals as goal
 

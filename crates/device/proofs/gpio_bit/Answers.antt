@@ -4,10 +4,6 @@ use Rattle.chip.proofs.Laws.{by_program}
 use Rattle.device.specs.Gpio.{bit_steps}
 use Rattle.device.proofs.Programs.{rows_meant}
 use borrow.Author.Rules.{rules}
-use Rattle.device.proofs.gpio_bit.Reads as reads
-use Rattle.device.proofs.gpio_bit.Lts as lts
-use Rattle.device.proofs.access_all.Reads as access-all-reads
-use Rattle.device.proofs.bit_rows.Reads as bit-rows-reads
 use Rattle.device.proofs.gpio_bit.Goals as goal
 
 pub returns : goal.returns

@@ -4,10 +4,6 @@ use Rattle.chip.proofs.Laws.{by_program}
 use Rattle.device.specs.Gpio.{output_steps}
 use Rattle.device.proofs.Programs.{rows_meant}
 use borrow.Author.Rules.{rules}
-use Rattle.device.proofs.gpio_output.Reads as reads
-use Rattle.device.proofs.gpio_output.Lts as lts
-use Rattle.device.proofs.access_all.Reads as access-all-reads
-use Rattle.device.proofs.output_rows.Reads as output-rows-reads
 use Rattle.device.proofs.gpio_output.Goals as goal
 
 pub returns : goal.returns

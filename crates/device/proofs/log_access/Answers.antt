@@ -3,10 +3,6 @@ use Rattle.chip.proofs.Laws.{by_entry}
 use borrow.Author.Rules.{rules}
 use Rattle.chip.specs.InCode.{in_room}
 use Rattle.device.specs.Accesses.{access_step}
-use Rattle.device.proofs.log_access.Reads as reads
-use Rattle.device.proofs.log_access.Lts as lts
-use Rattle.chip.proofs.log_plain.Reads as log-plain-reads
-use Rattle.device.proofs.entry.Reads as entry-reads
 use Rattle.device.proofs.log_access.Goals as goal
 
 pub returns : goal.returns

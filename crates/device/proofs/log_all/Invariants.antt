@@ -1,19 +1,13 @@
 -- `device::log_all` meets its contract. The invariant: what is left of the list, run from where the loop stands, gives what all of it gives.
 -- Assumes nothing.
-use mathlib.Core.Path.{◌≡◌, refl, sym, ap, ◌∙◌}
-use borrow.Author.Rules.{rules}
-use native.Mathlib.Omega.{arith}
+use mathlib.Core.Path.{◌≡◌}
 use Prim.Native.Nat.{◌≤◌, ◌+◌, ◌-◌}
 use mathlib.Core.List.{map}
 use lib.ListN.{length, take, drop}
 use Rattle.chip.specs.declared.Chip.{Chip}
 use Rattle.chip.specs.InCode.{in_room, on_log}
 use Rattle.chip.specs.Steps.{closing_owed, run}
-use Rattle.chip.proofs.Lists.{turn, end}
 use Rattle.device.specs.Accesses.{access_step}
-use Rattle.device.proofs.log_all.Reads as reads
-use Rattle.device.proofs.log_all.Lts as lts
-use Rattle.device.proofs.log_access.Reads as log-access-reads
 use Rattle.device.proofs.log_all.Given as goal
 
 abbrev pub invariant-loop-i : goal.invariant-loop-i

@@ -1,5 +1,4 @@
 -- `device::one_access` meets its contract: the log's, at this chip. Assumes nothing.
-use borrow.Author.Rules.{rules}
 use Rattle.device.proofs.one_access.Goals as goal
 
 pub returns : goal.returns

@@ -2,11 +2,6 @@
 use mathlib.Core.List.{[], ◌∷◌}
 use Rattle.device.specs.InCode.{ten}
 use Rattle.device.specs.Accesses.{access}
-use borrow.Author.Rules.{rules}
-use Rattle.device.proofs.output_rows.Reads as reads
-use Rattle.device.proofs.output_rows.Lts as lts
-use Rattle.device.proofs.with_bit.Reads as with-bit-reads
-use Rattle.device.proofs.without_bit.Reads as without-bit-reads
 use Rattle.device.proofs.output_rows.Goals as goal
 
 pub returns : goal.returns

@@ -1,9 +1,6 @@
 -- `device::reply` meets its contract. Assumes nothing.
 use mathlib.Core.Path.{sym}
 use lib.ListN.{get_or-eq_default}
-use borrow.Author.Rules.{rules}
-use Rattle.device.proofs.reply.Reads as reads
-use Rattle.device.proofs.reply.Lts as lts
 use Rattle.device.proofs.reply.Goals as goal
 
 pub returns : goal.returns

@@ -5,12 +5,6 @@ use borrow.Author.Tests.{lt-ltb, le-ltb}
 use Rattle.device.specs.Gpio.{bit_steps}
 use Rattle.device.proofs.Programs.{rows_meant}
 use Rattle.device.proofs.Free.{argument_bad, argument_good}
-use borrow.Author.Rules.{rules}
-use Rattle.device.proofs.set_gpio_bit.Reads as reads
-use Rattle.device.proofs.set_gpio_bit.Lts as lts
-use Rattle.device.proofs.bit_rows.Reads as bit-rows-reads
-use Rattle.device.proofs.perform.Reads as perform-reads
-use Rattle.device.proofs.reply.Reads as reply-reads
 use Rattle.device.proofs.set_gpio_bit.Goals as goal
 
 pub returns-then-gpio-gt7 : goal.returns-then-gpio-gt7

@@ -5,12 +5,6 @@ use borrow.Author.Tests.{lt-ltb, le-ltb}
 use Rattle.device.specs.Gpio.{output_steps}
 use Rattle.device.proofs.Programs.{rows_meant}
 use Rattle.device.proofs.Free.{argument_bad, argument_good}
-use borrow.Author.Rules.{rules}
-use Rattle.device.proofs.set_gpio_output.Reads as reads
-use Rattle.device.proofs.set_gpio_output.Lts as lts
-use Rattle.device.proofs.output_rows.Reads as output-rows-reads
-use Rattle.device.proofs.perform.Reads as perform-reads
-use Rattle.device.proofs.reply.Reads as reply-reads
 use Rattle.device.proofs.set_gpio_output.Goals as goal
 
 pub returns-then-gpio-gt7 : goal.returns-then-gpio-gt7

@@ -2,10 +2,6 @@
 use mathlib.Core.Path.{ap}
 use Prim.Native.Nat.{ℕ, ◌-◌}
 use lib.Bits.{bit_and}
-use borrow.Author.Rules.{rules}
-use Rattle.device.proofs.without_bit.Reads as reads
-use Rattle.device.proofs.without_bit.Lts as lts
-use Rattle.device.proofs.bit_of.Reads as bit-of-reads
 use Rattle.device.proofs.without_bit.Goals as goal
 
 pub returns : goal.returns
