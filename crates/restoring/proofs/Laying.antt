@@ -15,7 +15,7 @@ use Rattle.transcript.specs.Sections.{entries_bytes, section_bytes, trailer_byte
 use Rattle.transcript.proofs.Laid.{length-entry_bytes, section_laid}
 use Rattle.restore.specs.Restore.{Run, run_of, run_len, runs, slot, write_of}
 use Rattle.restore.proofs.Runs.{at_doubt, at_sure, run_most, run_some}
-use Rattle.restoring.specs.Standing.{held_of, next_sure, sure_of, known_all}
+use Rattle.restoring.specs.Standing.{held_of, next_sure, sure_of}
 
 -- past the last register nothing is told
 pub none_past : (ms : List ℕ) (r : ℕ) → length ms ≤ r → false ≡ sure_of ms r

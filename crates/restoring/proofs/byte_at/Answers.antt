@@ -2,7 +2,6 @@
 -- Assumes nothing.
 use mathlib.Core.Path.{◌∙◌}
 use native.Mathlib.Omega.{arith}
-use borrow.Author.Rules.{rules}
 use Rattle.restoring.specs.Standing.{held_of}
 use Rattle.restoring.proofs.Laying.{slot_in, slot_past}
 use Rattle.restoring.proofs.byte_at.Goals as goal

@@ -2,7 +2,6 @@
 -- Assumes nothing.
 use mathlib.Core.Path.{sym, ◌∙◌}
 use native.Mathlib.Omega.{arith}
-use borrow.Author.Rules.{rules}
 use Rattle.restoring.proofs.Laying.{held_not, held_there, nil_past}
 use Rattle.restoring.proofs.byte_held.Goals as goal
 

@@ -1,7 +1,6 @@
 -- `restoring::marked` meets its contract: each return is one case of a register over what is told.
 -- Assumes nothing.
 use native.Mathlib.Omega.{arith}
-use borrow.Author.Rules.{rules}
 use Rattle.restoring.proofs.Telling.{past, told_before, told_now, under}
 use Rattle.restoring.proofs.marked.Goals as goal
 

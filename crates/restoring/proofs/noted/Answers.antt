@@ -1,13 +1,13 @@
 -- `restoring::noted` meets its contract. The loop's invariant: the registers from the j-th on, over what is told by then, are all registers of the write over what was told.
 -- Assumes nothing.
-use Prim.Native.Nat.{ℕ, ◌≤◌, ◌+◌, ◌-◌}
-use mathlib.Core.Path.{◌≡◌, refl, ap, ◌∙◌}
+use Prim.Native.Nat.{ℕ, ◌+◌}
+use mathlib.Core.Path.{refl, ap, ◌∙◌}
 use native.Mathlib.Omega.{arith}
 use borrow.Author.Rules.{rules}
 use lib.Dec.{eqb}
-use lib.ListN.{length, get_or}
+use lib.ListN.{get_or}
 use Rattle.restoring.specs.Standing.{only, over, known_as, known_all}
-use Rattle.restoring.proofs.Telling.{mark_some, other_chip, other_kind, rest, rest_end, rest_start, rest_turn}
+use Rattle.restoring.proofs.Telling.{mark_some, other_chip, other_kind, rest_end, rest_start, rest_turn}
 use Rattle.restoring.proofs.noted.Goals as goal
 
 pub returns-then-e-ne-I2C_WRITE : goal.returns-then-e-ne-I2C_WRITE

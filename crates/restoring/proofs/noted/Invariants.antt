@@ -1,13 +1,10 @@
 -- `restoring::noted` meets its contract. The loop's invariant: the registers from the j-th on, over what is told by then, are all registers of the write over what was told.
 -- Assumes nothing.
-use Prim.Native.Nat.{ℕ, ◌≤◌, ◌+◌, ◌-◌}
-use mathlib.Core.Path.{◌≡◌, refl, ap, ◌∙◌}
-use native.Mathlib.Omega.{arith}
-use borrow.Author.Rules.{rules}
-use lib.Dec.{eqb}
-use lib.ListN.{length, get_or}
-use Rattle.restoring.specs.Standing.{only, over, known_as, known_all}
-use Rattle.restoring.proofs.Telling.{mark_some, other_chip, other_kind, rest, rest_end, rest_start, rest_turn}
+use Prim.Native.Nat.{◌≤◌, ◌-◌}
+use mathlib.Core.Path.{◌≡◌}
+use lib.ListN.{length}
+use Rattle.restoring.specs.Standing.{over, known_all}
+use Rattle.restoring.proofs.Telling.{rest}
 use Rattle.restoring.proofs.noted.Given as goal
 
 abbrev pub invariant-loop-j : goal.invariant-loop-j

@@ -1,13 +1,10 @@
 -- `restoring::noted_all` meets its contract. The loop's invariant: the first i entries, over what is told by then, are all entries over what was told.
 -- Assumes nothing.
-use Prim.Native.Nat.{◌≤◌, ◌-◌}
-use mathlib.Core.Path.{◌≡◌, refl, ◌∙◌}
-use native.Mathlib.Omega.{arith}
-use borrow.Author.Rules.{rules}
+use Prim.Native.Nat.{◌≤◌}
+use mathlib.Core.Path.{◌≡◌}
 use lib.ListN.{length, drop}
 use Rattle.transcript.specs.Sections.{entries_in}
 use Rattle.restoring.specs.Standing.{over, known_in, known_all}
-use Rattle.restoring.proofs.Telling.{entries_end, entry_turn, few}
 use Rattle.restoring.proofs.noted_all.Given as goal
 
 abbrev pub invariant-loop-i : goal.invariant-loop-i

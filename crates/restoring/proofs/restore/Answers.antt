@@ -1,6 +1,5 @@
 -- `restoring::restore` meets its contract: refused by the walk, or the list that is laid out is lent.
 -- Assumes nothing.
-use Prim.Native.Nat.{◌-◌}
 use mathlib.Core.Path.{◌≡◌, ◌∙◌}
 use native.Mathlib.Omega.{arith}
 use borrow.Author.Rules.{rules}

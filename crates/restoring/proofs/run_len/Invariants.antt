@@ -1,13 +1,9 @@
 -- `restoring::run_len` meets its contract. The loop's invariant: what is counted, and the run from there, are the whole run.
 -- Assumes nothing.
 use Prim.Native.Nat.{◌≤◌, ◌+◌, ◌-◌}
-use mathlib.Core.Path.{◌≡◌, sym, ◌∙◌}
-use native.Mathlib.Omega.{arith}
-use borrow.Author.Rules.{rules}
-use borrow.Author.Tests.{not-true, not-false}
+use mathlib.Core.Path.{◌≡◌}
 use Rattle.restore.specs.Restore.{run_len}
 use Rattle.restoring.specs.Standing.{sure_of}
-use Rattle.restoring.proofs.Laying.{run_full, run_on, run_start, run_stops}
 use Rattle.restoring.proofs.run_len.Given as goal
 
 abbrev pub invariant-loop-k : goal.invariant-loop-k

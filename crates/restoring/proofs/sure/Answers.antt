@@ -1,7 +1,6 @@
 -- `restoring::sure` meets its contract.
 -- Assumes nothing.
 use native.Mathlib.Omega.{arith}
-use borrow.Author.Rules.{rules}
 use mathlib.Core.Path.{refl}
 use Rattle.restoring.specs.Standing.{sure_of}
 use Rattle.restoring.proofs.Laying.{none_past}

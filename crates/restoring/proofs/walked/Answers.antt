@@ -1,12 +1,12 @@
 -- `restoring::walked` meets its contract. The loop's invariant: what stands before `end` is sections end to end exactly where the slice is, and its entries, over what is told by then, are all entries over what was told.
 -- Assumes nothing.
-use Prim.Native.Nat.{◌≤◌, ◌-◌}
-use mathlib.Core.Path.{◌≡◌, refl, sym, ap, ◌∙◌}
+use Prim.Native.Nat.{◌-◌}
+use mathlib.Core.Path.{refl, sym, ap, ◌∙◌}
 use mathlib.Core.List.{List}
 use native.Mathlib.Omega.{arith}
 use borrow.Author.Rules.{rules}
 use Prim.Native.Nat.{ℕ}
-use lib.ListN.{length, take}
+use lib.ListN.{take}
 use Rattle.sections.specs.Chain.{chain, chain_entries}
 use Rattle.restoring.specs.Standing.{over, known_in, known_all}
 use Rattle.restoring.proofs.Backward.{all_sections, all_told, begin, chain_on, few, fit, lower, not_both, refused, stopped, told_on, within}

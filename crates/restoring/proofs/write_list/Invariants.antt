@@ -1,17 +1,15 @@
 -- `restoring::write_list` meets its contract. The loop's invariant: the writes of the runs that are left, stored after those that are stored, leave what all of them leave; then the trailer.
 -- Assumes nothing.
 use Prim.Native.Nat.{◌<◌, ◌+◌, ◌-◌, ◌*◌}
-use mathlib.Core.Path.{◌≡◌, refl, sym, ap, ◌∙◌}
+use mathlib.Core.Path.{◌≡◌}
 use mathlib.Core.Bool.{true}
-use mathlib.Core.List.{List, map}
-use native.Mathlib.Omega.{arith}
-use borrow.Author.Rules.{rules}
+use mathlib.Core.List.{map}
 use lib.ListN.{length}
 use lib.Seq.{sets}
 use Rattle.transcript.specs.Sections.{entries_bytes}
-use Rattle.restore.specs.Restore.{Run, run_of, runs, write_of}
+use Rattle.restore.specs.Restore.{runs, write_of}
 use Rattle.restoring.specs.Standing.{held_of, sure_of}
-use Rattle.restoring.proofs.Laying.{few_runs, laid_all, laid_on, later, left, none_above, none_left, one_run, run_size, skipped, stands_sure}
+use Rattle.restoring.proofs.Laying.{left}
 use Rattle.restoring.proofs.write_list.Given as goal
 
 abbrev pub invariant-loop-i : goal.invariant-loop-i

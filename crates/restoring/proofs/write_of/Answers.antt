@@ -1,6 +1,5 @@
 -- `restoring::write_of` meets its contract: the entry is the definition's, byte by byte.
 -- Assumes nothing.
-use borrow.Author.Rules.{rules}
 use Rattle.restoring.specs.Standing.{held_of}
 use Rattle.restoring.proofs.Laying.{write_told}
 use Rattle.restoring.proofs.write_of.Goals as goal
