@@ -9,7 +9,6 @@ use lib.Dec.{eqb}
 use lib.ListN.{drop, get_or, get_or-replicate, length, replicate, take}
 use Rattle.transcript.specs.declared.Entry.{Entry}
 use Rattle.attempts.specs.Attempts.{byte_in, doubt_in, last_in, tuner_at}
-use Rattle.attempts.specs.Namings as any
 use Rattle.attempts.specs.Namings.{Last}
 use Rattle.attempts.specs.Namings.Last.{Never, Tried}
 use Rattle.attempts.proofs.Lasts.{known, last_append, last_known}

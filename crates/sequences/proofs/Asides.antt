@@ -12,14 +12,12 @@ use Rattle.transcript.specs.declared.Entry.{Entry}
 use Rattle.refusals.specs.declared.Answer.TheVariants.{Done}
 use Rattle.chip.specs.declared.Chip.{Chip}
 use Rattle.chip.specs.Calls.{call_entries}
-use Rattle.chip.specs.Courses.{Asked, asked_by, left_by, most_of, steps_of}
+use Rattle.chip.specs.Courses.{asked_by, left_by, steps_of}
 use Rattle.chip.specs.Steps.{Step, every}
 use Rattle.chip.proofs.Laws.{and_left, and_right}
 use Rattle.device.specs.Calls.{free, free_result, no_chip}
-use Rattle.device.specs.Gpio as gpio
 use Rattle.device.specs.Gpio.Order.{Output, Bit}
 use Rattle.device.proofs.Lengths.{bit_length, output_length}
-use Rattle.demod.specs.Calls as demod
 use Rattle.demod.specs.Calls.Order.{Baseband, LowIf, ZeroIf, Reset, Direct, Start, Stop, IfXtal, RateXtal}
 use Rattle.demod.proofs.Lengths.{direct_length, if_length, init_length, low_if_length, rate_length, reset_length, start_length, stop_length, zero_if_length}
 use Rattle.history.specs.Programs.{beside, fine}

@@ -46,8 +46,7 @@ use Rattle.r82xx.specs.Orders.Order.{Initialize, Reload, Bandwidth, IfFreq, Gain
 use Rattle.driver.specs.declared.Driver.{Driver}
 use Rattle.driver.specs.Calls.{Both, both}
 use Rattle.driver.specs.Record.{driver, sound_driver, xtal_by}
-use Rattle.chip.specs.Courses.{Course, asked_by, left_by, steps_of}
-use Rattle.chip.specs.Courses.Course.{Still, Taken}
+use Rattle.chip.specs.Courses.{asked_by, left_by}
 use Rattle.sequences.specs.Calls.{Call, Order, asked, call, entries, most, row_of, sound_for}
 use Rattle.sequences.specs.Calls.Order.{Tuned, SampleRate, BoardPath, BoardTune}
 use Rattle.sequences.specs.Asides.{Aside, Other, aside, aside_asked, aside_entries, aside_most, aside_row}

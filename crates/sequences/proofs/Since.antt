@@ -36,7 +36,7 @@ use Rattle.r82xx.specs.Orders as tuner
 use Rattle.r82xx.specs.Orders.{bracket, gain_row, path_row}
 use Rattle.r82xx.specs.Orders.Order.{Initialize, Reload, Bandwidth, IfFreq, Gain, GainIndex, InputPath, Tune, Notch, GainTold, IfTold, TableTold}
 use Rattle.writes.specs.Lists.{bandwidth_updates, gain_updates, if_updates, path_updates}
-use Rattle.sequences.specs.Calls.{Call, Order, tuner_after, call, result_of, result, row_of, sound_for, tuner_part}
+use Rattle.sequences.specs.Calls.{Call, Order, tuner_after, call, result, row_of, sound_for, tuner_part}
 use Rattle.sequences.specs.Calls.Order.{Tuned, SampleRate, Correction, BoardPath, BoardTune}
 use Rattle.sequences.specs.Since.{Since, rates, sets_if}
 use Rattle.sequences.specs.Since.Since.{start, later}

@@ -33,7 +33,6 @@ use Rattle.status.specs.Reversal.{locked_by}
 use Rattle.tuning.specs.Mux.{mux_updates, pll_updates, range_of}
 use Rattle.tuning.specs.Program.{inner_steps, tune_steps}
 use Rattle.tuning.specs.Tries.{after_try, locked, locks_at, repair_updates, reply_bytes, status_steps, tries_from, try_read}
-use Rattle.tuning.proofs.Programs.{every_app}
 use Rattle.sequences.specs.Calls.{call, entries}
 use Rattle.sequences.specs.Calls.Order.{BoardTune, Tuned}
 use Rattle.sequences.specs.Waited.{Waited, bit_last}

@@ -11,7 +11,7 @@ use lib.Dec.{eqb}
 use lib.ListN.{length, set, take, length-set}
 use Rattle.transcript.specs.declared.Entry.{Entry}
 use Rattle.transcript.specs.Sections.{Parted}
-use Rattle.refusals.specs.declared.Answer.TheVariants.{Refused, Stopped}
+use Rattle.refusals.specs.declared.Answer.TheVariants.{Stopped}
 use Rattle.chip.specs.declared.Chip.{Chip}
 use Rattle.chip.specs.declared.Progress.TheVariants.{Refused11}
 use Rattle.chip.specs.Calls.{Called, call_entries}

@@ -1,15 +1,15 @@
 -- A call that is no tuning, no initialising and no reload names none of the five registers that the oscillator stands by: whatever its outcomes, the
 -- oscillator stays where it was, on every chip and by the record. Assumes nothing.
-use Prim.Native.Nat.{ℕ, ◌+◌, ◌-◌, ◌≤◌, ◌<◌}
+use Prim.Native.Nat.{ℕ, ◌+◌, ◌<◌}
 use mathlib.Core.Path.{◌≡◌, refl, sym, ap, subst, ◌∙◌}
-use mathlib.Core.Bool.{Bool, true, false, not, cond, ◌&&◌, ◌||◌, false≢true, true≢false}
+use mathlib.Core.Bool.{Bool, true, false, not, cond, ◌&&◌, false≢true, true≢false}
 use mathlib.Core.List.{List, [], ◌∷◌, ◌++◌}
 use native.Mathlib.Omega.{arith}
-use borrow.Author.Tests.{eqb-true, ltb-false, ltb-true, not-true}
+use borrow.Author.Tests.{ltb-false, ltb-true, not-true}
 use lib.Dec.{eqb, leb, ltb}
 use lib.ListN.{get_or, length}
 use Rattle.transcript.specs.declared.Entry.{Entry}
-use Rattle.attempts.specs.Attempts.{Last, Played, Regs, byte_in, doubt_in, last_from, last_in, names, tuner_at}
+use Rattle.attempts.specs.Attempts.{Last, Played, Regs, byte_in, doubt_in, last_in, names, tuner_at}
 use Rattle.attempts.specs.Namings as any
 use Rattle.attempts.specs.Namings.Last.{Never}
 use Rattle.attempts.proofs.Named.{below_first, other_kind, past_last}
@@ -23,10 +23,10 @@ use Rattle.bands.specs.Tables.{plan_by}
 use Rattle.board.specs.Numbers.{path_of}
 use Rattle.refusals.specs.declared.Answer.{Answer}
 use Rattle.chip.specs.declared.Chip.{Chip}
-use Rattle.chip.specs.Calls.{Called, call_entries, call_of}
+use Rattle.chip.specs.Calls.{Called, call_of}
 use Rattle.chip.specs.Chips.{attempted_by, masked_byte, pair}
-use Rattle.chip.specs.Courses.{Course, steps_of}
-use Rattle.chip.specs.Courses.Course.{Still, Taken}
+use Rattle.chip.specs.Courses.{steps_of}
+use Rattle.chip.specs.Courses.Course.{Still}
 use Rattle.chip.specs.Entries.{repeater, written}
 use Rattle.chip.specs.Steps.{Step, Trace, acts, emit, every, in_list, ok_for, taken, trace, updates, while_open}
 use Rattle.chip.specs.Steps.Step.{Open, Close, Send, Mask, Plain}

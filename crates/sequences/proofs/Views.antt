@@ -19,8 +19,6 @@ use Rattle.refusals.specs.declared.Answer.TheVariants.{Done, Refused}
 use Rattle.refusals.specs.Table.{SETUP, CORRECTION}
 use Rattle.chip.specs.declared.Chip.{Chip}
 use Rattle.chip.specs.declared.Update.{Update}
-use Rattle.chip.specs.declared.Progress.{Progress}
-use Rattle.chip.specs.declared.Progress.TheVariants.{Going, Refused11}
 use Rattle.chip.specs.Calls.{Called, call_of, called, too_short, performed, refusal_with}
 use Rattle.chip.specs.Courses.{Asked, Course, ask, asked_by, left_by, most_of, steps_of}
 use Rattle.chip.specs.Courses.Course.{Still, Taken}
@@ -43,15 +41,15 @@ use Rattle.r82xx.specs.Orders.Order.{Initialize, Reload, Bandwidth, IfFreq, Gain
 use Rattle.driver.specs.declared.Driver.{Driver}
 use Rattle.driver.specs.Record.{sound_driver, with_ppm, xtal_by, xtal_of}
 use Rattle.driver.specs.Programs.{board_path_steps, if_for}
-use Rattle.driver.specs.Calls.{Both, board_result, board_row, both, correction_result, correction_row, rate_result, rate_row}
+use Rattle.driver.specs.Calls.{Both, board_result, board_row, both, correction_result, rate_result, rate_row}
 use Rattle.driver.proofs.Lengths.{sample_rate_length}
 use Rattle.history.specs.Programs.{fine}
 use Rattle.history.specs.Histories.{stops}
 use Rattle.history.proofs.Calls.{lent_room}
 use Rattle.history.proofs.Fine.{fine_reload}
-use Rattle.sequences.specs.Calls.{Call, Order, asked, call, given, most, result_of, row_of, sound_for, tuner_of, tuner_part}
+use Rattle.sequences.specs.Calls.{Order, asked, call, given, most, result_of, row_of, sound_for, tuner_of, tuner_part}
 use Rattle.sequences.specs.Calls.Order.{Tuned, SampleRate, Correction, BoardPath, BoardTune}
-use Rattle.writes.proofs.Lists.{bandwidth_in, gain_in, if_in, path_in, path_two}
+use Rattle.writes.proofs.Lists.{bandwidth_in, gain_in, if_in, path_in}
 use Rattle.sequences.proofs.Programs.{board_length, fine_board, fine_bracket, fine_hop, fine_init, fine_rate, fine_tune, hop_length, path_length, tune_length}
 
 pub record Stepping (R : Type 0) (c : Chip) (old : R) (x : Called R) (a : Asked) (os room : List ℕ) : Type 0 where
