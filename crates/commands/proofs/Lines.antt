@@ -1,9 +1,9 @@
 -- A host's loop over the exported call is the feeding of the definition, and so the cuts of the line can't be seen. Document 02, #105.
 -- Assumes nothing.
-use Prim.Native.Nat.{ℕ, zero, suc, ◌+◌, ◌≤◌}
+use Prim.Native.Nat.{ℕ, zero, suc, ◌≤◌}
 use mathlib.Core.Path.{◌≡◌, refl, sym, ap, ◌∙◌}
 use mathlib.Core.Bool.{Bool, true, false, cond}
-use mathlib.Core.List.{List, [], ◌∷◌, ◌++◌}
+use mathlib.Core.List.{List, [], ◌∷◌}
 use native.Mathlib.Omega.{arith}
 use native.Mathlib.Nat.{add-zero}
 use lib.Dec.{eqb}
@@ -12,11 +12,11 @@ use Rattle.stream.specs.Commands.{command_of}
 use lib.ListN.{drop, length}
 use Rattle.wire.specs.Parts.{joined}
 use Rattle.stream.specs.Feeding.{Fed, Ran, call_once, calls, completed, feed, waiting}
-use Rattle.stream.specs.Pending.{gathered, is_stream, pending_of, stream_bytes, used_by}
-use Rattle.stream.proofs.Cuts.{Counted, counted, feed_append, host_loop, left_over, still_less}
+use Rattle.stream.specs.Pending.{gathered, stream_bytes, used_by}
+use Rattle.stream.proofs.Cuts.{counted, feed_append, host_loop, still_less}
 use Rattle.stream.proofs.Images.{back, kept}
 use Rattle.commands.specs.Over.{Feeds, completed_by, feed_over, gotten_over, run_over, waiting_by}
-use Rattle.commands.specs.Lines.{Lends, Line, Records, CommandResult, after_call, exec_by, feeds_of, host_calls, host_feeds, line_of}
+use Rattle.commands.specs.Lines.{Lends, Records, CommandResult, after_call, exec_by, feeds_of, host_calls, host_feeds, line_of}
 
 module _ (table : List ℕ) (lends : ℕ → Lends) where
   abbrev exec : ℕ → List ℕ → Records → Ran Records CommandResult

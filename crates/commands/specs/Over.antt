@@ -5,7 +5,7 @@ use Rattle.refusals.specs.declared.Answer.TheVariants.{Done, Refused}
 use Rattle.refusals.specs.declared.Answer.{Answer}
 use Rattle.refusals.specs.Table.{SETUP, COMMAND}
 use Rattle.chip.specs.Entries.{no_tries}
-use Rattle.drivers.specs.Drivers.{Hops, hops, hops_by, rates_made, rates_refused}
+use Rattle.drivers.specs.Drivers.{Hops, hops_by, rates_made, rates_refused}
 use Rattle.records.specs.Drivers.{driver_of}
 use Rattle.records.specs.Tuners.{tuner_of}
 use Rattle.reply.specs.declared.TuneReply.{TuneReply}

@@ -1,19 +1,9 @@
-use mathlib.Core.Path.{◌≡◌, sym, ap, ◌∙◌}
+use mathlib.Core.Path.{◌≡◌}
 use native.Mathlib.Omega.{arith}
 use lib.ListN.{length}
 use borrow.Author.Tests.{not-false, not-true}
 use Rattle.commands.proofs.Overs.{completes, nine, not_fed, waits}
 use borrow.Author.Rules.{rules}
-use Rattle.commands.proofs.feed.Reads as reads
-use Rattle.commands.proofs.feed.Lts as lts
-use Rattle.commands.proofs.fed.Reads as fed-reads
-use Rattle.commands.proofs.none.Reads as none_reads
-use Rattle.commands.proofs.refuse.Reads as refuse-reads
-use Rattle.commands.proofs.run_over.Reads as run-over-reads
-use Rattle.stream.proofs.command_of.Reads as command-of-reads
-use Rattle.stream.proofs.gather.Reads as gather-reads
-use Rattle.stream.proofs.image.Reads as image-reads
-use Rattle.wire.proofs.copy.Reads as copy-reads
 use Rattle.commands.proofs.feed.Goals as goal
 
 -- src/lib.rt:252:9

@@ -3,7 +3,6 @@ use mathlib.Core.Path.{ap, ◌∙◌}
 use Rattle.chip.specs.Entries.{no_tries}
 use Rattle.reply.specs.declared.Reply.{Reply}
 use Rattle.reply.specs.Replies.{tuned_of}
-use borrow.Author.Rules.{rules}
 use Rattle.commands.proofs.none.Goals as goal
 
 pub returns : goal.returns

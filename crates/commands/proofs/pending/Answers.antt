@@ -1,8 +1,4 @@
 use Rattle.commands.proofs.Overs.{none_pending, some_pending}
-use borrow.Author.Rules.{rules}
-use Rattle.commands.proofs.pending.Reads as reads
-use Rattle.commands.proofs.pending.Lts as lts
-use Rattle.stream.proofs.pending_count.Reads as pending-count-reads
 use Rattle.commands.proofs.pending.Goals as goal
 
 -- src/lib.rt:272:9

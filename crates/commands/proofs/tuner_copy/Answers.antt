@@ -1,6 +1,5 @@
 -- `commands::tuner_copy` meets its contract. Assumes nothing.
 use Rattle.commands.proofs.Overs.{copied}
-use borrow.Author.Rules.{rules}
 use Rattle.commands.proofs.tuner_copy.Goals as goal
 
 pub returns : goal.returns
