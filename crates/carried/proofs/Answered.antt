@@ -8,8 +8,6 @@ use Rattle.evidence.specs.Evidence.{centre_in, centre_of}
 use Rattle.stations.specs.Centre.{Filed}
 use Rattle.witness.specs.Answer as answer
 use Rattle.witness.specs.Answer.{if_sure, marks_of, numbers_of}
-use Rattle.witness.specs.declared.Marks.{Marks}
-use Rattle.witness.specs.declared.Numbers.{Numbers}
 use Rattle.witness.proofs.Told.{told_mark}
 
 pub record Answered (address r xtal : ℕ) (es : List Entry) : Type 0 where

@@ -20,16 +20,16 @@ use Rattle.pll.specs.declared.Kind.{Kind}
 use Rattle.r82xx.specs.declared.Tuner.{Tuner}
 use Rattle.r82xx.specs.Orders.Order.{Reload, Tune}
 use Rattle.records.specs.Drivers.{driver_of}
-use Rattle.records.specs.Tuners.{tuner_bytes, tuner_of}
+use Rattle.records.specs.Tuners.{tuner_of}
 use Rattle.records.specs.declared.TunerRead.{TunerRead}
 use Rattle.records.proofs.Exact.{Ranged, read_written}
 use Rattle.tuning.specs.Tries.{fine_of, power_of}
-use Rattle.sequences.specs.Calls.{Call, call, is_byte, tuner_after}
+use Rattle.sequences.specs.Calls.{is_byte, tuner_after}
 use Rattle.sequences.specs.Calls.Order.{BoardTune, Tuned}
 use Rattle.sequences.proofs.Tunings.{hop_done, tune_done}
 use Rattle.stations.proofs.Keeps.{Same, hop_same, itself, reload_same, same_then, tune_same}
 use Rattle.stations.proofs.Repaired as repaired
-use Rattle.carried.specs.Exported.{Lent, amiss, entries_of, leaves, lent, order_of, typed}
+use Rattle.carried.specs.Exported.{Lent, amiss, entries_of, leaves, lent, typed}
 use Rattle.carried.specs.Exported.Exported.{Hop, Own}
 use Rattle.carried.specs.Carried.{Carried}
 use Rattle.carried.specs.Carried.Carried.{next}
@@ -65,26 +65,30 @@ module _ (b : List ℕ) (es : List Entry) (c : Carried b es) where
       (repaired.hopped_at v es (calls b es c) hz table rs d os room (typed_given (BoardTune hz table rs d) v small)
       (hop_done v hz table rs d os room p.0) before now p.1)
 
+  kept_where_sure : (os room out : List ℕ) → (leaves (lent (Own Reload) os room out) b).reply.refusal ≡ 0 → ((i : ℕ) → i < 27 → get_or b (51 + i) 1 ≡ 0)
+      → (before now after : Regs) → Played (get_or b 1 0) es before now → Played (get_or b 1 0) (entries_of (lent (Own Reload) os room out) b) now after
+      → (i : ℕ) → i < 27 → after (5 + i) ≡ now (5 + i)
+  kept_where_sure os room out done sure before now after played again i l =
+      let reload : List Entry = entries_of (lent (Own Reload) os room out) b in
+      let both = played_append (tuner_at (get_or b 1 0)) es reload before now after played again in
+      (reload_done b es c os room out done before after both i l).0 ∙ sym (shadow_byte b es c i l) ∙ sym (sure_holds b es c before now played i l (sure i l))
+
+  five_kept : (before after : Regs) → ((i : ℕ) → i < 27 → after (5 + i) ≡ before (5 + i)) → (r : ℕ) → stands_by r ≡ true → after r ≡ before r
+  five_kept before after kept =
+      each_five (λ r. after r ≡ before r) (kept 11 (omega arith)) (kept 13 (omega arith)) (kept 15 (omega arith)) (kept 16 (omega arith)) (kept 17 (omega arith))
+
   -- a reload that is answered 0, of bytes in which no register is doubtful: on every chip the oscillator is where it was
   module _ (os room out : List ℕ) (done : (leaves (lent (Own Reload) os room out) b).reply.refusal ≡ 0) (sure : (i : ℕ) → i < 27 → get_or b (51 + i) 1 ≡ 0)
       (before now after : Regs) (played : Played (get_or b 1 0) es before now)
       (again : Played (get_or b 1 0) (entries_of (lent (Own Reload) os room out) b) now after) where
     pub reload_keeps : (i : ℕ) → i < 27 → after (5 + i) ≡ now (5 + i)
-    reload_keeps i l =
-        let reload : List Entry = entries_of (lent (Own Reload) os room out) b in
-        let both = played_append (tuner_at (get_or b 1 0)) es reload before now after played again in
-        (reload_done b es c os room out done before after both i l).0 ∙ sym (shadow_byte b es c i l) ∙ sym (sure_holds b es c before now played i l (sure i l))
+    reload_keeps = kept_where_sure os room out done sure before now after played again
 
-    five_kept : (r : ℕ) → stands_by r ≡ true → after r ≡ now r
-    five_kept =
-        each_five (λ r. after r ≡ now r) (reload_keeps 11 (omega arith)) (reload_keeps 13 (omega arith)) (reload_keeps 15 (omega arith))
-        (reload_keeps 16 (omega arith)) (reload_keeps 17 (omega arith))
+    pub reload_keeps-vco : (reference : ℕ) → vco_in reference after ≡ vco_in reference now
+    reload_keeps-vco reference = same_vco reference after now (five_kept now after (kept_where_sure os room out done sure before now after played again))
 
-    pub reload_keeps_vco : (reference : ℕ) → vco_in reference after ≡ vco_in reference now
-    reload_keeps_vco reference = same_vco reference after now five_kept
-
-    pub reload_keeps_hz : (reference : ℕ) → hz_in reference after ≡ hz_in reference now
-    reload_keeps_hz reference = same_hz reference after now five_kept
+    pub reload_keeps-hz : (reference : ℕ) → hz_in reference after ≡ hz_in reference now
+    reload_keeps-hz reference = same_hz reference after now (five_kept now after (kept_where_sure os room out done sure before now after played again))
 
   -- what a call leaves of the record that the bytes are
   left_same : (k : Lent) (h : typed k.exported ≡ true) → ((x : Tuner) → Same x (tuner_after (inner b es c k h) x))
