@@ -3,7 +3,6 @@
 -- Assumes nothing.
 use Rattle.std.specs.Prelude.{ℕ, Bool, not, List, eqb}
 use Rattle.refusals.specs.Lent.{Given}
-use Rattle.refusals.specs.declared.Answer.{Answer}
 use Rattle.chip.specs.Calls.{Called}
 use Rattle.reply.specs.declared.Reply.{Reply}
 use Rattle.reply.specs.Replies.{call_reply, reply_of}

@@ -1,6 +1,5 @@
 -- `pasetone::pasetone_centre` meets its contract: it tells what the call below answers. Assumes nothing.
 use Rattle.pasetone.proofs.Telling.{answer_told}
-use borrow.Author.Rules.{rules}
 use Rattle.pasetone.proofs.pasetone_centre.Goals as goal
 
 pub returns : goal.returns

@@ -4,7 +4,6 @@ use lib.IntN.{ℤ}
 use mir.Facts.{to_z-of_z}
 use Rattle.drivers.specs.Drivers.{fresh_into}
 use Rattle.pasetone.proofs.Telling.{lent_told}
-use borrow.Author.Rules.{rules}
 use Rattle.pasetone.proofs.pasetone_driver_new.Goals as goal
 
 pub returns : goal.returns

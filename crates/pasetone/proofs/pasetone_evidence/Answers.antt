@@ -1,6 +1,5 @@
 -- `pasetone::pasetone_evidence` meets its contract: it tells what the call below answers. Assumes nothing.
 use Rattle.pasetone.proofs.Telling.{lent_told}
-use borrow.Author.Rules.{rules}
 use Rattle.pasetone.proofs.pasetone_evidence.Goals as goal
 
 pub returns : goal.returns

@@ -1,6 +1,5 @@
 -- `pasetone::pasetone_move_settings_1_to_2` meets its contract: it tells what the call below answers. Assumes nothing.
 use Rattle.pasetone.proofs.Telling.{lent_told}
-use borrow.Author.Rules.{rules}
 use Rattle.pasetone.proofs.pasetone_move_settings_1_to_2.Goals as goal
 
 pub returns : goal.returns

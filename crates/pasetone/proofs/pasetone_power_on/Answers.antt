@@ -1,6 +1,5 @@
 -- `pasetone::pasetone_power_on` meets its contract: it tells what the call below answers. Assumes nothing.
 use Rattle.pasetone.proofs.Telling.{shown_told}
-use borrow.Author.Rules.{rules}
 use Rattle.pasetone.proofs.pasetone_power_on.Goals as goal
 
 pub returns : goal.returns

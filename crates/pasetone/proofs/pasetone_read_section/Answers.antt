@@ -1,7 +1,6 @@
 -- `pasetone::pasetone_read_section` meets its contract: it tells what the call below answers. Assumes nothing.
 use mathlib.Core.Path.{ap, ◌∙◌}
 use Rattle.reply.specs.Replies.{parts_of}
-use borrow.Author.Rules.{rules}
 use Rattle.pasetone.proofs.pasetone_read_section.Goals as goal
 
 pub returns : goal.returns

@@ -1,7 +1,6 @@
 -- `pasetone::pasetone_read_settings_2` meets its contract: it tells what the call below answers. Assumes nothing.
 use mathlib.Core.Path.{ap, ◌∙◌}
 use Rattle.settings.specs.Reading.{told_of2}
-use borrow.Author.Rules.{rules}
 use Rattle.pasetone.proofs.pasetone_read_settings_2.Goals as goal
 
 pub returns : goal.returns

@@ -1,6 +1,5 @@
 -- `pasetone::pasetone_set_gpio_output` meets its contract: it tells what the call below answers. Assumes nothing.
 use Rattle.pasetone.proofs.Telling.{shown_told}
-use borrow.Author.Rules.{rules}
 use Rattle.pasetone.proofs.pasetone_set_gpio_output.Goals as goal
 
 pub returns : goal.returns

@@ -3,7 +3,6 @@ use mathlib.Core.Path.{ap, ◌∙◌}
 use lib.IntN.{ℤ}
 use mir.Facts.{to_z-of_z}
 use Rattle.drivers.specs.Drivers.{correct_over}
-use borrow.Author.Rules.{rules}
 use Rattle.pasetone.proofs.pasetone_set_ppm.Goals as goal
 
 pub returns : goal.returns

@@ -1,6 +1,5 @@
 -- `pasetone::pasetone_set_tuner_low_if` meets its contract: it tells what the call below answers. Assumes nothing.
 use Rattle.pasetone.proofs.Telling.{shown_told}
-use borrow.Author.Rules.{rules}
 use Rattle.pasetone.proofs.pasetone_set_tuner_low_if.Goals as goal
 
 pub returns : goal.returns

@@ -1,6 +1,5 @@
 -- `pasetone::pasetone_stream_pending` meets its contract: it tells what the call below answers. Assumes nothing.
 use Rattle.pasetone.proofs.Telling.{answer_told}
-use borrow.Author.Rules.{rules}
 use Rattle.pasetone.proofs.pasetone_stream_pending.Goals as goal
 
 pub returns : goal.returns

@@ -4,7 +4,6 @@ use lib.IntN.{ℤ}
 use mir.Facts.{to_z-of_z}
 use Rattle.settings.specs.Reading.{settings, written_to1}
 use Rattle.pasetone.proofs.Telling.{lent_told}
-use borrow.Author.Rules.{rules}
 use Rattle.pasetone.proofs.pasetone_write_settings_1.Goals as goal
 
 pub returns : goal.returns

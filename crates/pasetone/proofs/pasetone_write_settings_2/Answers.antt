@@ -5,7 +5,6 @@ use mir.Facts.{to_z-of_z}
 use Rattle.settings.specs.Image.{wider}
 use Rattle.settings.specs.Reading.{settings, written_to2}
 use Rattle.pasetone.proofs.Telling.{lent_told}
-use borrow.Author.Rules.{rules}
 use Rattle.pasetone.proofs.pasetone_write_settings_2.Goals as goal
 
 pub returns : goal.returns
