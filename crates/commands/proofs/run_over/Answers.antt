@@ -1,8 +1,6 @@
 -- `commands::run_over` meets its contract. Assumes nothing.
 use mathlib.Core.Path.{sym, ◌∙◌}
-use borrow.Author.Tests.{not-false, not-true}
 use Rattle.commands.proofs.Overs.{both_ok, driver_size, no_records, tuner_size, unknown_run}
-use borrow.Author.Rules.{rules}
 use Rattle.commands.proofs.run_over.Goals as goal
 
 pub returns-then-is_unknown : goal.returns-then-is_unknown
