@@ -84,11 +84,11 @@ module _ (b : List ℕ) (es : List Entry) (c : Carried b es) where
     pub reload_keeps : (i : ℕ) → i < 27 → after (5 + i) ≡ now (5 + i)
     reload_keeps = kept_where_sure os room out done sure before now after played again
 
-    pub reload_keeps-vco : (reference : ℕ) → vco_in reference after ≡ vco_in reference now
-    reload_keeps-vco reference = same_vco reference after now (five_kept now after (kept_where_sure os room out done sure before now after played again))
+    pub reload_keeps_vco : (reference : ℕ) → vco_in reference after ≡ vco_in reference now
+    reload_keeps_vco reference = same_vco reference after now (five_kept now after (kept_where_sure os room out done sure before now after played again))
 
-    pub reload_keeps-hz : (reference : ℕ) → hz_in reference after ≡ hz_in reference now
-    reload_keeps-hz reference = same_hz reference after now (five_kept now after (kept_where_sure os room out done sure before now after played again))
+    pub reload_keeps_hz : (reference : ℕ) → hz_in reference after ≡ hz_in reference now
+    reload_keeps_hz reference = same_hz reference after now (five_kept now after (kept_where_sure os room out done sure before now after played again))
 
   -- what a call leaves of the record that the bytes are
   left_same : (k : Lent) (h : typed k.exported ≡ true) → ((x : Tuner) → Same x (tuner_after (inner b es c k h) x))
