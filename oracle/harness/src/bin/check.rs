@@ -1,5 +1,6 @@
 //! Document 01's claims against the Rust: most entries and replies, a failure at every step, what follows it, what the
-//! records hold afterwards, the order of steps, the order of refusals, the worked numbers, the whole section, FIR.
+//! records hold afterwards, the order of steps, the order of refusals, the worked numbers, the whole section, FIR; and the
+//! port's constants against those of src/registers.rs.
 use harness::answer::{answer, takes_driver, takes_tuner};
 use harness::case::{Answer, By, Case};
 use harness::cases::{self, plain, replies_for};
@@ -8,6 +9,7 @@ use harness::judge::Paper;
 use harness::records::{Driver, Tuner};
 use harness::tally::Tally;
 use harness::{hops, judge, page, requests, run, steps, tables};
+use original::registers;
 use original::tuners::r82xx;
 
 const MHZ: u64 = 1_000_000;
@@ -388,6 +390,82 @@ fn listed(tally: &mut Tally) {
     rusb::rec::with(|r| r.keep = false);
 }
 
+/// A constant of the Rust by its path below `registers`, as a number.
+macro_rules! numbers {
+    ($($path:ident $(:: $more:ident)*),* $(,)?) => {
+        [$((concat!(stringify!($path) $(, "::", stringify!($more))*), registers::$path $(:: $more)* as u64)),*]
+    };
+}
+
+/// The constants of src/registers.rs, of which no call uses all: the port has each under its name, with its number, and no other.
+fn constants(tally: &mut Tally) {
+    let rust = numbers![
+        BREQUEST,
+        block::DEMOD,
+        block::USB,
+        block::SYS,
+        block::I2C,
+        sys::DEMOD_CTL,
+        sys::DEMOD_CTL1,
+        sys::GPO,
+        sys::GPOE,
+        sys::GPD,
+        sys::DEMOD_CTL_POWER_ON,
+        sys::DEMOD_CTL_POWER_OFF,
+        usb::SYSCTL,
+        usb::EPA_MAXPKT,
+        usb::EPA_CTL,
+        demod::P0_PAGE,
+        demod::P1_PAGE,
+        demod::P2_PAGE,
+        demod::P0_AGC_CTL,
+        demod::P1_IIC_REPEAT,
+        demod::P1_IIC_REPEAT_ON,
+        demod::P1_IIC_REPEAT_OFF,
+        demod::P1_SOFT_RESET,
+        demod::P1_SOFT_RESET_ON,
+        demod::P1_SOFT_RESET_OFF,
+        demod::P1_IF_FREQ_H,
+        demod::P1_IF_FREQ_M,
+        demod::P1_IF_FREQ_L,
+        demod::P2_RESAMPLE_H,
+        demod::P2_RESAMPLE_M,
+        demod::P2_RESAMPLE_L,
+        demod::P2_RESAMPLE_LSB,
+        demod::P1_DDC_SYNC,
+        demod::P1_DDC_SYNC_NORMAL,
+        demod::P1_DDC_SYNC_INVERT,
+        tuner_ids::R82XX_I2C_ADDR,
+        tuner_ids::R828D_I2C_ADDR,
+        tuner_ids::E4000_I2C_ADDR,
+        tuner_ids::FC0012_I2C_ADDR,
+        tuner_ids::FC0013_I2C_ADDR,
+        IF_FREQ_HZ,
+        XTAL_FREQ_HZ,
+    ];
+    let mut port: Vec<(String, u64)> = Vec::new();
+    let mut within = String::new();
+    for line in include_str!("../../../../crates/registers/src/lib.rt").lines() {
+        if let Some(name) = line.strip_prefix("pub mod ") {
+            within = format!("{}::", name.trim_end_matches(" {"));
+        } else if line == "}" {
+            within.clear();
+        } else if let Some((name, rest)) = line.trim_start().strip_prefix("pub const ").and_then(|rest| rest.split_once(": ")) {
+            let digits = rest.split_once(" = ").map(|(_, value)| value.trim_end_matches(';').replace('_', "")).unwrap_or_default();
+            let value = match digits.strip_prefix("0x") {
+                Some(hex) => u64::from_str_radix(hex, 16),
+                None => digits.parse(),
+            };
+            port.push((format!("{within}{name}"), value.unwrap_or(u64::MAX)));
+        }
+    }
+    for (name, value) in rust {
+        let found = port.iter().find(|(other, _)| other == name).map(|&(_, value)| value);
+        tally.that(found == Some(value), || format!("{name}: the port has {found:?}, the Rust {value}"));
+    }
+    tally.that(port.len() == rust.len(), || format!("the port has {} constants, the Rust {}", port.len(), rust.len()));
+}
+
 fn main() {
     let (mut tally, mut dice) = (Tally::default(), Dice(0x63_6865_636b));
     let given = Driver { board: 1, nominal: 28_800_000, ppm: -3, frequency: 7, rate: 9, actual: 11 };
@@ -405,5 +483,6 @@ fn main() {
     corrections(&mut tally);
     hops(&mut tally, &mut dice);
     listed(&mut tally);
+    constants(&mut tally);
     tally.end("check", String::new())
 }
