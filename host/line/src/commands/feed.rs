@@ -49,7 +49,7 @@ struct Request {
 }
 
 pub fn run(given: &Given, out: &mut Out) {
-    let Some(Request { start, place, script, mut source, cut, mut keeper, link }) = request(given, out) else { return };
+    let Some(Request { start, place, script, mut source, cut, keeper, link }) = request(given, out) else { return };
     // What is read at once is whole chunks, by a thread of its own, so that a signal ends the line while it brings nothing.
     signals::heed();
     let hatch = Arc::new(Hatch::default());
@@ -61,28 +61,7 @@ pub fn run(given: &Given, out: &mut Out) {
     let mut block = next(out);
     let head = Head::of(&start, &place, None);
     let table = place.table.clone();
-    let begun = match (link, keeper.take_if(|_| given.has(Key::Device))) {
-        (Some(link), Some(keeper)) => ready(start, given, &table, keeper, link, out).map(|live| (live.records.clone(), Some(live))),
-        _ => begun(start, given, out).map(|records| (records, None)),
-    };
-    let Some((records, live)) = begun.filter(|_| !out.is_mistaken()) else { return };
-    let files = given.kept_files(out);
-    if out.is_mistaken() {
-        return;
-    }
-    let mut line = Line {
-        given,
-        place,
-        records,
-        script,
-        files,
-        keeper,
-        live,
-        held: Vec::new(),
-        stream: Stream::new(),
-        count: Count::default(),
-        unfed: 0,
-    };
+    let Some(mut line) = line(given, (start, place, &table), script, (keeper, link), out) else { return };
     line.begin(out);
     line.head(&head, out);
     while !block.is_empty() && !out.is_closed() {
@@ -97,6 +76,24 @@ pub fn run(given: &Given, out: &mut Out) {
         let _ = reader.join();
     }
     line.end(out);
+}
+
+/// The line, with a receiver that is brought up, or records, and its files open.
+fn line<'a>(
+    given: &'a Given,
+    (start, place, table): (Start, Place, &'a Table),
+    script: Endless,
+    (mut keeper, link): (Option<Keeper>, Option<Link>),
+    out: &mut Out,
+) -> Option<Line<'a>> {
+    let begun = match (link, keeper.take_if(|_| given.has(Key::Device))) {
+        (Some(link), Some(keeper)) => ready(start, given, table, keeper, link, out).map(|live| (live.records.clone(), Some(live))),
+        _ => begun(start, given, out).map(|records| (records, None)),
+    };
+    let (records, live) = begun.filter(|_| !out.is_mistaken())?;
+    let files = given.kept_files(out);
+    let (held, stream, count, unfed) = (Vec::new(), Stream::new(), Count::default(), 0);
+    (!out.is_mistaken()).then_some(Line { given, place, records, script, files, keeper, live, held, stream, count, unfed })
 }
 
 /// What a line has brought, handed from who reads to who answers, one piece at a time.

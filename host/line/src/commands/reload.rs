@@ -2,6 +2,7 @@
 //! then made again.
 use crate::bus::device::{self, Link};
 use crate::files::disk;
+use crate::files::kept::Kept;
 use crate::files::record::{self, Records};
 use crate::files::state::Keeper;
 use crate::printed::out::{End, Out};
@@ -17,7 +18,19 @@ use crate::words::options::Key;
 use pasetone::{Table, Tuner};
 use std::ffi::OsString;
 
-pub fn run(given: &Given, out: &mut Out) {
+/// The words, read: everything that can be wrong with them has been told.
+struct Request {
+    records: Records,
+    place: Place,
+    outcomes: Vec<u8>,
+    fail: Option<usize>,
+    files: Kept,
+    keeper: Option<Keeper>,
+    link: Option<Link>,
+}
+
+/// Reads all words, and only then opens files.
+fn request(given: &Given, out: &mut Out) -> Option<Request> {
     let fail = script::fail(given, out);
     given.names_other_files(out);
     let read = [Key::Outcomes, Key::Table];
@@ -33,15 +46,18 @@ pub fn run(given: &Given, out: &mut Out) {
     let keeper = Keeper::open(given, link.as_ref(), out);
     let records = if given.has(Key::State) { held(given, keeper.as_ref(), out) } else { kept(given, out) };
     let outcomes = script::outcomes(given, fail, out);
-    let Some(records) = records else { return };
+    let records = records?;
     let place = Place::given(given, records.driver.board(), out);
     if out.is_mistaken() {
-        return;
+        return None;
     }
     let files = given.kept_files(out);
-    let Some(name) = given.word(Key::State).or(given.operands.first().map(OsString::as_os_str)).filter(|_| !out.is_mistaken()) else {
-        return;
-    };
+    (!out.is_mistaken()).then_some(Request { records, place, outcomes, fail, files, keeper, link })
+}
+
+pub fn run(given: &Given, out: &mut Out) {
+    let Some(Request { records, place, outcomes, fail, files, keeper, link }) = request(given, out) else { return };
+    let Some(name) = given.word(Key::State).or(given.operands.first().map(OsString::as_os_str)) else { return };
     let before = records.tuner.clone();
     // By the words, or by the state; a kept record names none.
     let named = if given.has(Key::Table) { Some(place.table.clone()) } else { keeper.as_ref().and_then(Keeper::table).cloned() };

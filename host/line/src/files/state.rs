@@ -72,6 +72,20 @@ fn key(name: &OsStr, link: Option<&Link>, purpose: Use) -> Result<(Vec<u8>, bool
     }
 }
 
+/// The state of a name, and what its file held.
+fn stated(name: &OsStr, key: &[u8], out: &mut Out) -> Result<(State, Found), String> {
+    // What a file without a state begins with is made by the words; to there any receiver stands in.
+    let any = Receiver::new(TunerKind::R828d, 0, Board::Generic, 1).map_err(|error| error.to_string())?;
+    State::open_telling(name, key, any, || disk::waiting(name, out)).map_err(|error| match error {
+        StateError::Io(error) => unwritten(name, &error),
+        StateError::Form => format!("{}: it is there and no state, and stays as it is: name a state, or a new file", shown(name)),
+    })
+}
+
+fn unkept(name: &OsStr, error: &io::Error) -> String {
+    format!("--state {}", unwritten(name, error))
+}
+
 impl Keeper {
     /// The state of `--state`, its lock, and a call recovered that was under way. `None` where there is no such word, or something is wrong, which has then been told.
     pub fn open(given: &Given, link: Option<&Link>, out: &mut Out) -> Option<Keeper> {
@@ -111,16 +125,8 @@ impl Keeper {
         if fs::metadata(name).is_ok_and(|is| is.is_dir()) {
             return Err(told(unwritten(name, &io::ErrorKind::IsADirectory.into())));
         }
-        // What a file without a state begins with is made by the words; to there any receiver stands in.
-        let any = Receiver::new(TunerKind::R828d, 0, Board::Generic, 1).map_err(|error| error.to_string())?;
         let (key, is_live) = key(name, link, purpose).map_err(told)?;
-        let opened = State::open_telling(name, &key, any, || disk::waiting(name, out));
-        let (state, found) = opened.map_err(|error| {
-            told(match error {
-                StateError::Io(error) => unwritten(name, &error),
-                StateError::Form => format!("{}: it is there and no state, and stays as it is: name a state, or a new file", shown(name)),
-            })
-        })?;
+        let (state, found) = stated(name, &key, out).map_err(told)?;
         let night = night.map(Sink::open_unjudged).transpose().map_err(|why| format!("--append {why}"))?;
         let mut keeper = Keeper {
             state,
@@ -133,17 +139,23 @@ impl Keeper {
             is_recovered: matches!(found, Found::Cut(_) | Found::Other(_)),
             is_live,
         };
-        match found {
-            Found::New => {}
-            Found::Kept => keeper.kept = Some(keeper.read()?),
-            Found::Cut(cut) => keeper.recover(&cut, out)?,
-            Found::Other(receiver) => {
-                out.tell(End::Done, &keeper.other_words());
-                keeper.kept = Some(keeper.anew(&receiver)?);
-            }
-        }
+        keeper.take(found, out)?;
         keeper.night.as_ref().map_or(Ok(()), Sink::judge).map_err(|why| format!("--append {why}"))?;
         Ok(keeper)
+    }
+
+    /// What the file held.
+    fn take(&mut self, found: Found, out: &mut Out) -> Result<(), String> {
+        match found {
+            Found::New => {}
+            Found::Kept => self.kept = Some(self.read()?),
+            Found::Cut(cut) => self.recover(&cut, out)?,
+            Found::Other(receiver) => {
+                out.tell(End::Done, &self.other_words());
+                self.kept = Some(self.anew(&receiver)?);
+            }
+        }
+        Ok(())
     }
 
     /// The records that the state has, with what it notes as owed.
@@ -283,18 +295,21 @@ impl Keeper {
         }
     }
 
+    /// What the state has from before a call, and where it is on its way to.
+    fn before(&mut self, records: &Records, table: &Table, hz: Option<u64>) -> Result<(), String> {
+        *self.state.receiver_mut() = Receiver::of(records.tuner.clone(), records.driver.clone(), table.clone());
+        let noted = Owed { hz: hz.unwrap_or(records.owed.hz), ..records.owed.clone() };
+        let length = self.night.as_ref().map_or(Ok(NO_NIGHT), Sink::length).map_err(|why| format!("--append {why}"))?;
+        self.state.set_note(&noted.bytes(), length).map_err(|error| unkept(&self.name, &error))
+    }
+
     fn stored(&mut self, call: Call, made: &Made, before: &Records, next: &Records, table: &Table, hz: Option<u64>) -> Result<(), String> {
-        let (name, state) = (self.name.clone(), &mut self.state);
-        let unkept = |error: io::Error| format!("--state {}", unwritten(&name, &error));
         // Refused before its first step: no call was under way.
         if made.transcript.is_empty() {
-            *state.receiver_mut() = Receiver::of(next.tuner.clone(), next.driver.clone(), table.clone());
-            return self.keep(next).map_err(unkept);
+            *self.state.receiver_mut() = Receiver::of(next.tuner.clone(), next.driver.clone(), table.clone());
+            return self.keep(next).map_err(|error| unkept(&self.name, &error));
         }
-        *state.receiver_mut() = Receiver::of(before.tuner.clone(), before.driver.clone(), table.clone());
-        let noted = Owed { hz: hz.unwrap_or(before.owed.hz), ..before.owed.clone() };
-        let length = self.night.as_ref().map_or(Ok(NO_NIGHT), Sink::length).map_err(|why| format!("--append {why}"))?;
-        state.set_note(&noted.bytes(), length).map_err(unkept)?;
+        self.before(before, table, hz)?;
         let (night, why) = (RefCell::new(&mut self.night), RefCell::new(None));
         let mut entries = made.transcript.iter();
         let take = |_: &pasetone::Entry| match entries.next() {
@@ -303,7 +318,7 @@ impl Keeper {
             Some(_) => Outcome::Done,
             None => Outcome::Failed(None),
         };
-        let ended = state.drive_to(call, take, |state, answer| {
+        let ended = self.state.drive_to(call, take, |state, answer| {
             let mut night = night.borrow_mut();
             let added = night.as_mut().map_or(Ok(NO_NIGHT), |night| {
                 night.add(answer.transcript.bytes())?;
@@ -318,7 +333,7 @@ impl Keeper {
         match (ended, why.into_inner()) {
             (Ok(_), _) => Ok(()),
             (Err(_), Some(why)) => Err(format!("--append {why}")),
-            (Err(error), None) => Err(unkept(error)),
+            (Err(error), None) => Err(unkept(&self.name, &error)),
         }
     }
 
@@ -348,12 +363,7 @@ impl Keeper {
         hz: Option<u64>,
         link: &mut Link,
     ) -> Result<Driven<Made>, String> {
-        let (name, state) = (self.name.clone(), &mut self.state);
-        let unkept = |error: io::Error| format!("--state {}", unwritten(&name, &error));
-        *state.receiver_mut() = Receiver::of(records.tuner.clone(), records.driver.clone(), table.clone());
-        let noted = Owed { hz: hz.unwrap_or(records.owed.hz), ..records.owed.clone() };
-        let length = self.night.as_ref().map_or(Ok(NO_NIGHT), Sink::length).map_err(|why| format!("--append {why}"))?;
-        state.set_note(&noted.bytes(), length).map_err(unkept)?;
+        self.before(records, table, hz)?;
         let (night, log, synced, mut why, mut next) = (&mut self.night, &mut self.log, self.synced, None, None);
         let end = |state: &mut State, answer: &Made| {
             let added = night.as_mut().map_or(Ok(NO_NIGHT), |night| night.add(answer.transcript.bytes()).and_then(|()| night.length()));
@@ -372,14 +382,14 @@ impl Keeper {
             }
             state.set_note(&records.owed.bytes(), length)
         };
-        let ended = state.drive_to(call, |step| link.take(step), end);
+        let ended = self.state.drive_to(call, |step| link.take(step), end);
         match (ended, why) {
             (Ok(driven), _) => {
                 *records = next.unwrap_or_else(|| records.clone());
                 Ok(driven)
             }
             (Err(_), Some(why)) => Err(format!("--append {why}")),
-            (Err(error), None) => Err(unkept(error)),
+            (Err(error), None) => Err(unkept(&self.name, &error)),
         }
     }
 

@@ -107,6 +107,15 @@ fn schedule(all: &[Watched], found: &[Found]) -> String {
 }
 
 impl Watched {
+    /// Told on its station: its chips stand there, locked, at its rate.
+    fn stands(&self, hz: u64, folder: &Path, tally: &mut Tally) {
+        let receiver = self.receiver(folder).expect("a state");
+        tally.that(!self.is_wrong, "a receiver without a lock, or with another divider, is told as on its station", NAME);
+        station(tally, &self.chip, &receiver, hz, NAME);
+        tally.that(self.chip.get("locked") == 1, "told on its station, and its PLL runs nowhere", NAME);
+        tally.that((self.chip.get("rate") - i64::from(self.rate)).abs() < 2_000, "told on its station, at another rate", NAME);
+    }
+
     /// It is pulled out, and plugged in again: another node, whose chips hold anything.
     fn again(&mut self, folder: &Path) {
         let node = PathBuf::from(std::env::var("RECEIVER_FOLDER").expect("the folder")).join(format!("dev/bus/usb/001/{:03}", self.number));
@@ -198,11 +207,7 @@ impl Night<'_> {
                 row.truth.push(on.map(|on| (on && row.chip.get("locked") == 1, is_right)));
             }
             if is_right && !gone {
-                let receiver = row.receiver(&folder).expect("a state");
-                tally.that(!row.is_wrong, "a receiver without a lock, or with another divider, is told as on its station", NAME);
-                station(tally, &row.chip, &receiver, hz, NAME);
-                tally.that(row.chip.get("locked") == 1, "told on its station, and its PLL runs nowhere", NAME);
-                tally.that((row.chip.get("rate") - i64::from(row.rate)).abs() < 2_000, "told on its station, at another rate", NAME);
+                row.stands(hz, &folder, tally);
             }
         }
         if ended.is_some() {
