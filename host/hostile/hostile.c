@@ -25,7 +25,8 @@
 #include <time.h>
 #include <unistd.h>
 
-#include "hostile.h"
+#include "judged/judged.h"
+#include "made/made.h"
 
 /* The refusal numbers are 0 to 20; one place more is for any other, which no function lists. */
 #define NUMBERS 21

@@ -12,7 +12,7 @@
 #include <sys/mman.h>
 #include <unistd.h>
 
-#include "hostile.h"
+#include "made.h"
 
 #define CANARY 0xc7
 #define CANARIES 48

@@ -1,7 +1,7 @@
 /* Whether a call did what pasetone.h says, and no more. */
 #include <string.h>
 
-#include "hostile.h"
+#include "judged.h"
 
 static int same_from(const struct attempt *a, int slot, size_t from)
 {
@@ -272,5 +272,11 @@ static const char *judge_call(const struct attempt *a)
 
 const char *judge(const struct attempt *a)
 {
-    return a->call->way == FEEDING ? judge_feed(a) : judge_call(a);
+    struct attempt inner;
+    const char *wrong;
+    if (a->call->way != FEEDING) {
+        return judge_call(a);
+    }
+    wrong = judge_feed(a, &inner);
+    return wrong != NULL || inner.call == NULL ? wrong : judge_call(&inner);
 }

@@ -1,7 +1,7 @@
 /* Every function that libpasetone.a exports: what it takes, when document 01 refuses its arguments, what it answers. */
 #include <string.h>
 
-#include "hostile.h"
+#include "calls.h"
 
 #define S(slot) a->at[slot], a->told[slot]
 #define RUN(name, expression) \
@@ -338,7 +338,11 @@ static uint64_t measured_value(const struct attempt *a)
     return length;
 }
 
-VALUE(board_table_value, needed(a, OUT))
+static uint64_t board_table_value(const struct attempt *a)
+{
+    uint8_t table[PASETONE_TABLE_FOR(PASETONE_TABLE_BANDS)];
+    return built_in_model(a->arg[0], table);
+}
 
 static uint64_t tuned_value(const struct attempt *a)
 {

@@ -1,10 +1,9 @@
 /* What sections tell of the station that a receiver stands on, written down once more from the words of pasetone.h. */
 #include <string.h>
 
-#include "hostile.h"
+#include "rules.h"
 
-static const uint16_t told_of[8] = {0x15, 0x19, 0x1a, 0x1b, 0x9f, 0xa0, 0xa1, 0xa2};
-static const uint8_t oscillator[5] = {0x10, 0x12, 0x14, 0x15, 0x16};
+const uint16_t demod_registers[8] = {0x15, 0x19, 0x1a, 0x1b, 0x9f, 0xa0, 0xa1, 0xa2};
 
 /* Marks and bytes of the chip's registers and of the demodulator's eight. */
 struct heard {
@@ -20,11 +19,6 @@ static unsigned first_of(const uint8_t *e)
 static int covers(const uint8_t *e, unsigned r)
 {
     return first_of(e) <= r && r < first_of(e) + e[3];
-}
-
-static int is_demod(const uint8_t *e)
-{
-    return e[0] == 4 || e[0] == 5;
 }
 
 /* A write after which nothing of the demodulator is sure. */
@@ -46,7 +40,7 @@ static void hear_chip(struct heard *h, const uint8_t *e)
             h->bytes[r] = e[8 + i];
         }
         for (j = 0; j < 5; j++) {
-            if (oscillator[j] == r) {
+            if (oscillator_registers[j] == r) {
                 h->lock = 0;
                 h->tries = r == 0x12 ? h->tries : 0;
             }
@@ -68,9 +62,9 @@ static void hear(const uint8_t *e, void *to)
     for (i = 0; i < 8; i++) {
         if (shakes(e)) {
             h->states[i] = 1;
-        } else if (is_demod(e) && e[2] == 1 && covers(e, told_of[i])) {
+        } else if (is_demod(e) && e[2] == 1 && covers(e, demod_registers[i])) {
             h->states[i] = e[1] == 0 ? 2 : 1;
-            h->values[i] = e[8 + told_of[i] - first_of(e)];
+            h->values[i] = e[8 + demod_registers[i] - first_of(e)];
         }
     }
 }
@@ -101,7 +95,7 @@ static void answer(const struct heard *h, uint64_t r, uint64_t xtal, uint8_t *to
     uint8_t five[5];
     int i;
     for (i = 0; i < 5; i++) {
-        five[i] = h->marks[oscillator[i]];
+        five[i] = h->marks[oscillator_registers[i]];
     }
     memset(to, 0, PASETONE_EVIDENCE_SIZE);
     to[0] = joined(five, 5), to[1] = joined(h->states + 1, 3), to[2] = joined(h->states + 4, 4), to[3] = h->states[0], to[4] = h->lock;
@@ -138,21 +132,4 @@ uint32_t evidence_model(const struct attempt *a, uint8_t *to, size_t *length)
     answer(&h, r, xtal, to);
     *length = PASETONE_EVIDENCE_SIZE;
     return 0;
-}
-
-/* A demodulator's write at or near the eight, the reset or the power, and a read of this chip's status. */
-void near_demod(uint8_t *e, uint8_t chip)
-{
-    unsigned r = told_of[below(8)] - (below(4) == 0);
-    if (e[0] == 3 && e[3] == 3 && below(2) == 0) {
-        e[2] = chip;
-    }
-    if (is_demod(e) && below(4) > 0) {
-        e[2] = (uint8_t)(below(60) == 0 ? below(18) : 1);
-        r = below(60) == 0 ? (unsigned)below(260) : r;
-        e[4] = (uint8_t)r, e[5] = (uint8_t)(r >> 8);
-    }
-    if ((e[0] == 6 || e[0] == 7) && below(20) == 0) {
-        e[2] = 2, e[4] = (uint8_t)below(2), e[5] = 0x30;
-    }
 }

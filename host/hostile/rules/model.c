@@ -1,8 +1,7 @@
 /*
- * Document 01's rules on records, sections, sizes and the order of refusals, written down a second time in C. Nothing here calls the archive,
- * so that it can be judged by it.
+ * Document 01's rules on records, entries and sections, written down a second time in C. Nothing of this folder calls the archive, so that it can be judged by it.
  */
-#include "hostile.h"
+#include "rules.h"
 
 uint64_t number_at(const uint8_t *bytes, unsigned width)
 {
@@ -150,73 +149,40 @@ uint32_t read_model(const uint8_t *bytes, size_t n, uint64_t *start, uint64_t *c
     return 0;
 }
 
-size_t needed(const struct attempt *a, enum slot slot)
+void put_u32(uint8_t *to, uint64_t v)
 {
-    const struct call *call = a->call;
-    const uint8_t *bytes;
-    uint8_t table[PASETONE_TABLE_FOR(PASETONE_TABLE_BANDS)];
-    size_t length;
-    if (call->way == FEEDING) {
-        return feed_need(a, slot);
+    int i;
+    for (i = 0; i < 4; i++) {
+        to[i] = (uint8_t)(v >> 8 * i);
     }
-    switch (slot) {
-    case OUTCOMES:
-        return call->entries;
-    case REPLIES:
-        return call->replies;
-    case ROOM:
-        return PASETONE_ROOM_FOR(call->entries);
-    case NEXT:
-        return PASETONE_TUNER_SIZE;
-    case NEXT_DRIVER:
-        return PASETONE_DRIVER_SIZE;
-    case OUT:
-        if (call->way == BUILT_IN) {
-            return built_in_model(a->arg[0], table);
+}
+
+int is_read(const uint8_t *e)
+{
+    return e[0] == 3 || e[0] == 8;
+}
+
+int is_demod(const uint8_t *e)
+{
+    return e[0] == 4 || e[0] == 5;
+}
+
+uint32_t each_entry(const uint8_t *bytes, size_t n, void (*hear)(const uint8_t *e, void *to), void *to)
+{
+    static uint64_t starts[LONGEST / 8 + 1], counts[LONGEST / 8 + 1];
+    size_t sections = 0;
+    uint64_t i;
+    while (n > 0) {
+        if (read_model(bytes, n, &starts[sections], &counts[sections]) != 0) {
+            return 12;
         }
-        if (!is_measured(call)) {
-            return call->out;
+        n = (size_t)starts[sections++];
+    }
+    while (sections > 0) {
+        sections--;
+        for (i = 0; i < counts[sections]; i++) {
+            hear(bytes + starts[sections] + 16 * i, to);
         }
-        measured_model(a, &bytes, &length);
-        return length;
-    default:
-        return 0;
     }
-}
-
-/* A call that takes no step: it has none, or it is the input path of an R820T. Asked of records that are ones. */
-int without_steps(const struct attempt *a)
-{
-    return a->call->entries == 0 || (a->call->way == CHIP_PATH && a->before[TUNER][PASETONE_TUNER_KIND] == PASETONE_R820T);
-}
-
-static int too_short(const struct attempt *a, enum slot slot)
-{
-    return (a->call->slots & HAS(slot)) && a->n[slot] < needed(a, slot);
-}
-
-/* 0, or the number that every byte has to stay as it was for. */
-uint32_t refusal_before_steps(const struct attempt *a)
-{
-    unsigned slots = a->call->slots;
-    uint32_t number;
-    int free;
-    if ((slots & HAS(TUNER)) && !tuner_is_record(a->before[TUNER], a->n[TUNER])) {
-        return 1;
-    }
-    if ((slots & HAS(DRIVER)) && !driver_is_record(a->before[DRIVER], a->n[DRIVER])) {
-        return 1;
-    }
-    number = a->call->argument(a);
-    if (number != 0) {
-        return number;
-    }
-    free = without_steps(a);
-    if (too_short(a, NEXT) || too_short(a, NEXT_DRIVER) || too_short(a, OUT) || (!free && too_short(a, ROOM))) {
-        return 8;
-    }
-    if (!free && too_short(a, OUTCOMES)) {
-        return 9;
-    }
-    return !free && too_short(a, REPLIES) ? 10 : 0;
+    return 0;
 }

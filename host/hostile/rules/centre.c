@@ -1,11 +1,9 @@
-/* Where the oscillator stands and what the middle of a recording is, written down a second time in C, and records for it. Nothing here calls the archive. */
-#include <string.h>
-
-#include "hostile.h"
+/* Where the oscillator stands and what the middle of a recording is, written down a second time in C. */
+#include "rules.h"
 
 __extension__ typedef __int128 wide;
 
-static const uint8_t five[] = {0x10, 0x12, 0x14, 0x15, 0x16};
+const uint8_t oscillator_registers[5] = {0x10, 0x12, 0x14, 0x15, 0x16};
 
 static unsigned sent(const uint8_t *tuner, unsigned number)
 {
@@ -16,8 +14,8 @@ static unsigned sent(const uint8_t *tuner, unsigned number)
 uint32_t oscillator_args_model(const struct attempt *a)
 {
     size_t i;
-    for (i = 0; i < sizeof five; i++) {
-        if (a->before[TUNER][PASETONE_TUNER_DOUBTFUL + five[i] - PASETONE_FIRST_REGISTER] != 0) {
+    for (i = 0; i < sizeof oscillator_registers; i++) {
+        if (a->before[TUNER][PASETONE_TUNER_DOUBTFUL + oscillator_registers[i] - PASETONE_FIRST_REGISTER] != 0) {
             return 20;
         }
     }
@@ -57,38 +55,4 @@ uint32_t centre_model(const struct attempt *a, uint64_t *centre)
         return 0;
     }
     return 2;
-}
-
-static void put_u64(uint8_t *to, uint64_t v)
-{
-    put_u32(to, v);
-    put_u32(to + 4, v >> 32);
-}
-
-/* Often no mark at the five, with any bytes there; an IF of any size; a driver's frequency at an end of a band, or what the tuner's Hz came from. */
-void make_standing(struct attempt *a)
-{
-    uint8_t *tuner = a->before[TUNER], *driver = a->before[DRIVER];
-    uint64_t any = hostile_number(), cut = below(6);
-    size_t i;
-    if (a->n[TUNER] != PASETONE_TUNER_SIZE) {
-        return;
-    }
-    for (i = 0; i < sizeof five; i++) {
-        tuner[PASETONE_TUNER_DOUBTFUL + five[i] - PASETONE_FIRST_REGISTER] = below(3) == 0 && cut == i;
-        if (below(3) > 0) {
-            random_bytes(tuner + PASETONE_TUNER_SHADOW + five[i] - PASETONE_FIRST_REGISTER, 1);
-        }
-    }
-    if (!(a->call->slots & HAS(DRIVER)) || a->n[DRIVER] != PASETONE_DRIVER_SIZE) {
-        return;
-    }
-    if (below(2) == 0) {
-        put_u64(tuner + PASETONE_TUNER_IF, below(2) == 0 ? any : below(100000000));
-    }
-    if (a->n[INPUT] >= PASETONE_BAND_SIZE && below(4) > 0) {
-        const uint8_t *band = a->before[INPUT] + PASETONE_BAND_SIZE * below(a->n[INPUT] / PASETONE_BAND_SIZE);
-        uint64_t end = number_at(band + 8 * below(2), 8);
-        put_u64(driver + PASETONE_DRIVER_FREQUENCY, below(2) == 0 ? end : end + below(3) - 1);
-    }
 }

@@ -1,7 +1,7 @@
-/* Settings on file: document 02's #108 and #112, written down a second time in C, and images whole and damaged. Nothing here calls the archive. */
+/* Settings on file: document 02's #108 and #112, written down a second time in C. */
 #include <string.h>
 
-#include "hostile.h"
+#include "rules.h"
 
 static const unsigned width[FIELDS] = {1, 1, 4, 4, 8, 1, 4};
 
@@ -113,69 +113,4 @@ uint32_t move_model(const struct attempt *a, uint64_t *fields)
         fields[6] = 2300000;
     }
     return refusal != 0 ? refusal : fields[6] != 2300000 ? 18 : 0;
-}
-
-/* Numbers that fit, at and past the bounds, or any. */
-void make_fields(struct attempt *a)
-{
-    if (below(8) > 0) {
-        a->arg[0] %= below(6) > 0 ? 2 : 3;
-        a->arg[1] %= below(6) > 0 ? 2 : 3;
-        a->arg[5] %= below(6) > 0 ? 29 : 31;
-    }
-    a->arg[2] = (uint32_t)a->arg[2];
-    a->arg[3] = (uint32_t)a->arg[3];
-    a->arg[6] = below(3) > 0 ? 2300000 : (uint32_t)a->arg[6];
-}
-
-/* Bytes that end in an image of an edition, or nearly. */
-void make_settings(struct attempt *a)
-{
-    uint8_t *bytes = a->before[INPUT];
-    uint64_t start = below(24), any, i;
-    uint32_t edition = below(4) > 0 ? edition_of(a->call) : 3 - edition_of(a->call);
-    random_bytes(bytes, start);
-    make_fields(a);
-    a->n[INPUT] = start + image_model(a->arg, edition, bytes + start);
-    any = hostile_number();
-    switch (below(12)) {
-    case 0:
-        a->n[INPUT] = below(a->n[INPUT] + 4);
-        break;
-    case 1: /* any bit */
-        bytes[below(a->n[INPUT])] ^= (uint8_t)(1u << any % 8);
-        break;
-    case 2: /* the trailer: edition, filler or distance */
-        bytes[a->n[INPUT] - 1 - below(4)] = (uint8_t)any;
-        break;
-    case 3: /* its beginning cut away, by less than is before it or by more */
-        i = below(a->n[INPUT]);
-        a->n[INPUT] -= i;
-        memmove(bytes, bytes + i, a->n[INPUT]);
-        break;
-    case 4:
-        a->n[INPUT] = below(40);
-        random_bytes(bytes, a->n[INPUT]);
-        break;
-    case 5: /* one image behind another */
-        a->n[INPUT] += image_model(a->arg, 1 + (uint32_t)below(2), bytes + a->n[INPUT]);
-        break;
-    default:
-        break;
-    }
-}
-
-const char *judge_image(const struct attempt *a)
-{
-    uint64_t fields[FIELDS];
-    uint8_t image[64];
-    uint32_t edition = edition_of(a->call);
-    size_t n;
-    memcpy(fields, a->arg, sizeof fields);
-    if (a->call->way == SETTINGS_MOVE) {
-        move_model(a, fields);
-        edition = 3 - edition;
-    }
-    n = image_model(fields, edition, image);
-    return memcmp(a->at[OUT], image, n) == 0 ? NULL : "the image is not that of its settings";
 }

@@ -4,7 +4,7 @@
  */
 #include <string.h>
 
-#include "hostile.h"
+#include "made.h"
 
 static uint64_t state;
 static uint8_t pool[1 << 17];

@@ -1,19 +1,9 @@
 /* Document 02, #107, written down once more: a section as setup packets of USB 2.0, and packets as the entries again. */
 #include <string.h>
 
-#include "hostile.h"
+#include "rules.h"
 
-static const uint8_t sync_read[8] = {0xc0, 0x00, 0x20, 0x01, 0x0a, 0x00, 0x01, 0x00};
-
-static int is_read(const uint8_t *e)
-{
-    return e[0] == 3 || e[0] == 8;
-}
-
-static int is_demod(const uint8_t *e)
-{
-    return e[0] == 4 || e[0] == 5;
-}
+const uint8_t sync_read[8] = {0xc0, 0x00, 0x20, 0x01, 0x0a, 0x00, 0x01, 0x00};
 
 /* "demod register above 0xff, page above 15, or block 0 or 6" */
 static int looks_alike(const uint8_t *e)
@@ -125,48 +115,4 @@ uint32_t hear_model(const uint8_t *bytes, size_t n, uint8_t *to, size_t *length)
     }
     *length = 16 * count + 8;
     return 0;
-}
-
-/* An entry with packets of its own. */
-void tame(uint8_t *e)
-{
-    if (is_demod(e)) {
-        e[2] &= 15, e[5] = 0;
-    } else if (e[0] > 5 && e[0] < 9 && (e[2] == 0 || e[2] == 6)) {
-        e[2]++;
-    }
-}
-
-/* Packets of some entries, often damaged. */
-void make_packets(struct attempt *a)
-{
-    static uint8_t section[LONGEST];
-    uint8_t *bytes = a->before[INPUT];
-    size_t n = a->n[INPUT], at;
-    memcpy(section, bytes, n);
-    if (expand_model(section, n, bytes, &a->n[INPUT]) != 0 || below(4) == 0) {
-        return;
-    }
-    n = a->n[INPUT];
-    at = below(n + 1);
-    switch (below(5)) {
-    case 0:
-        a->n[INPUT] = at;
-        break;
-    case 1:
-        memcpy(bytes + n, sync_read, 8);
-        a->n[INPUT] = n + 8;
-        break;
-    case 2:
-        memmove(bytes + at + 8, bytes + at, n - at);
-        memcpy(bytes + at, sync_read, 8);
-        a->n[INPUT] = n + 8;
-        break;
-    case 3:
-        random_bytes(bytes, n);
-        break;
-    default:
-        bytes[at] = (uint8_t)(bytes[at] ^ (1u << below(8)));
-        break;
-    }
 }
