@@ -41,12 +41,6 @@ pub struct Entry {
     pub bytes: [u8; 8],
 }
 
-fn wide(x: u8) -> usize
-    ensures { (result ≡ x) × (result < 256) }
-{
-    x as usize
-}
-
 // The table of kinds, a line for each. What any byte fits is not tested.
 fn row_fits(k: u8, o: u8, t: u8, n: u8, a: u32, b: u8) -> bool
     ensures { result ≡ row_fits k o t n a b }
@@ -72,7 +66,7 @@ fn kept_by(k: u8, o: u8, n: u8) -> usize
     if ((k == 3) | (k == 8)) & (0 < o) {
         return 0;
     }
-    wide(n)
+    n as usize
 }
 
 // Whether the eight data bytes, as one number, are zeros from `kept` on.
@@ -158,49 +152,48 @@ fn all_fit(s: &[u8], at: usize, count: usize) -> bool
     true
 }
 
-// What the reader finds at the end of a slice: where the section's first entry stands, and how many there are.
+// Where a section stands in a slice: after `start` bytes, `count` entries of 16 bytes, then its trailer.
 #[derive(Clone, Copy)]
-pub enum Section {
-    Read { start: usize, count: usize },
-    Refused,
+pub struct Section {
+    pub start: usize,
+    pub count: usize,
 }
 
-impl Section {
-    pub fn refusal(self) -> u32
-        ensures { result ≡ refusal_of self }
-    {
-        match self {
-            Section::Read { start: _, count: _ } => 0,
-            Section::Refused => refusals::SECTION as u32,
-        }
+// The refusal of a slice at whose end the reader finds no section; 0 where it finds one.
+pub fn refusal_of(section: Option<Section>) -> u32
+    ensures { result ≡ refusal_of section }
+{
+    match section {
+        Some(_) => 0,
+        None => refusals::SECTION as u32,
     }
 }
 
 // "The reader starts from the end of a slice, accepts exactly sections whose entries fit the table".
-pub fn read_section(s: &[u8]) -> Section
+pub fn read_section(s: &[u8]) -> Option<Section>
     ensures { result ≡ section_of s.now }
 {
     let n = s.len();
     if n < 8 {
-        return Section::Refused;
+        return None;
     }
     let trailer = n - 8;
     let count = wire::four(s, trailer) as usize;
     let distance = wire::four(s, trailer + 4) as usize;
     if 4096 < count {
-        return Section::Refused;
+        return None;
     }
     if distance != 16 * count {
-        return Section::Refused;
+        return None;
     }
     if trailer < distance {
-        return Section::Refused;
+        return None;
     }
     let start = trailer - distance;
     if all_fit(s, start, count) {
-        Section::Read { start, count }
+        Some(Section { start, count })
     } else {
-        Section::Refused
+        None
     }
 }
 
@@ -209,8 +202,8 @@ pub fn section_entries(s: &[u8]) -> &[u8]
     ensures { result.now ≡ entries_of s.now }
 {
     match read_section(s) {
-        Section::Read { start, count } => &s[start..start + 16 * count],
-        Section::Refused => &s[0..0],
+        Some(Section { start, count }) => &s[start..start + 16 * count],
+        None => &s[0..0],
     }
 }
 
@@ -219,7 +212,7 @@ pub fn section_before(s: &[u8]) -> &[u8]
     ensures { result.now ≡ before_of s.now }
 {
     match read_section(s) {
-        Section::Read { start, count: _ } => &s[0..start],
-        Section::Refused => &s[0..0],
+        Some(section) => &s[0..section.start],
+        None => &s[0..0],
     }
 }
