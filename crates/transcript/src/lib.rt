@@ -46,15 +46,15 @@ fn row_fits(k: u8, o: u8, t: u8, n: u8, a: u32, b: u8) -> bool
     ensures { result ≡ row_fits k o t n a b }
 {
     match k {
-        1 => (o <= 1) & (t <= 0) & (1 <= n) & (n <= 1) & (a <= 0) & (b <= 1),
-        2 => (o <= 1) & (1 <= n) & (n <= 8) & (a <= 0),
-        3 => (o <= 1) & (1 <= n) & (n <= 5) & (a <= 0),
-        4 => (o <= 1) & (1 <= n) & (n <= 1) & (a <= 65535),
-        5 => (o <= 1) & (2 <= n) & (n <= 2) & (a <= 65535),
-        6 => (o <= 1) & (1 <= n) & (n <= 1) & (a <= 65535),
-        7 => (o <= 1) & (2 <= n) & (n <= 2) & (a <= 65535),
-        8 => (o <= 1) & (1 <= n) & (n <= 1) & (a <= 65535),
-        9 => (o <= 0) & (t <= 0) & (n <= 0) & (a <= 65535) & (b <= 0),
+        REPEATER => (o <= 1) & (t <= 0) & (1 <= n) & (n <= 1) & (a <= 0) & (b <= 1),
+        I2C_WRITE => (o <= 1) & (1 <= n) & (n <= 8) & (a <= 0),
+        I2C_READ => (o <= 1) & (1 <= n) & (n <= 5) & (a <= 0),
+        DEMOD => (o <= 1) & (1 <= n) & (n <= 1) & (a <= 65535),
+        DEMOD16 => (o <= 1) & (2 <= n) & (n <= 2) & (a <= 65535),
+        BLOCK => (o <= 1) & (1 <= n) & (n <= 1) & (a <= 65535),
+        BLOCK16 => (o <= 1) & (2 <= n) & (n <= 2) & (a <= 65535),
+        READ => (o <= 1) & (1 <= n) & (n <= 1) & (a <= 65535),
+        WAIT => (o <= 0) & (t <= 0) & (n <= 0) & (a <= 65535) & (b <= 0),
         _ => false,
     }
 }
@@ -63,7 +63,7 @@ fn row_fits(k: u8, o: u8, t: u8, n: u8, a: u32, b: u8) -> bool
 fn kept_by(k: u8, o: u8, n: u8) -> usize
     ensures { result ≡ kept_by k o n }
 {
-    if ((k == 3) | (k == 8)) & (0 < o) {
+    if ((k == I2C_READ) | (k == READ)) & (0 < o) {
         return 0;
     }
     n as usize
@@ -85,14 +85,19 @@ impl Entry {
         requires { at + 16 ≤ length s.old }
         ensures { s.new ≡ sets s.old at (entry_bytes self) }
     {
-        let mut image = [0u8; 8];
-        image[0] = self.kind;
-        image[1] = self.outcome;
-        image[2] = self.target;
-        image[3] = self.n;
-        image[4] = (self.address % 256) as u8;
-        image[5] = (self.address / 256) as u8;
-        wire::copy(s, at, &image);
+        let low = (self.address % 256) as u8;
+        let high = (self.address / 256) as u8;
+        let head = [
+            self.kind,
+            self.outcome,
+            self.target,
+            self.n,
+            low,
+            high,
+            0,
+            0,
+        ];
+        wire::copy(s, at, &head);
         wire::copy(s, at + 8, &self.bytes);
     }
 
@@ -102,15 +107,15 @@ impl Entry {
         ensures { result ≡ entry_of (take 16 (drop at s.now)) }
     {
         let e = &s[at..at + 16];
-        let mut image = [0u8; 8];
-        wire::copy(&mut image, 0, &e[8..16]);
+        let mut bytes = [0u8; 8];
+        bytes.copy_from_slice(&e[8..16]);
         Entry {
             kind: e[0],
             outcome: e[1],
             target: e[2],
             n: e[3],
             address: wire::get(e, 4, 2) as u16,
-            bytes: image,
+            bytes,
         }
     }
 }
@@ -142,12 +147,10 @@ fn all_fit(s: &[u8], at: usize, count: usize) -> bool
     requires { (count ≤ 4096) × (at + 16 * count ≤ length s.now) }
     ensures { result ≡ all_fit count (drop at s.now) }
 {
-    let mut i = 0;
-    while i < count {
+    for i in 0..count {
         if !entry_fits(s, at + 16 * i) {
             return false;
         }
-        i += 1;
     }
     true
 }
