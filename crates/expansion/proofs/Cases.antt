@@ -8,11 +8,11 @@ use native.Mathlib.Omega.{arith}
 use lib.ListN.{length, take, drop}
 use lib.Seq.{sets}
 use Rattle.transcript.specs.declared.Entry.{Entry}
-use Rattle.transcript.specs.declared.Section.TheVariants as section
+use Rattle.std.specs.Prelude.{Some, None}
 use Rattle.transcript.specs.Entries.{bare}
-use Rattle.transcript.specs.Sections.{all_fit, count_of, entries_in, entries_of, is_section, section_bytes, section_entries, section_of, start_of}
+use Rattle.transcript.specs.Sections.{all_fit, count_of, entries_in, entries_of, is_section, section_at, section_bytes, section_entries, section_of, start_of}
 use Rattle.transcript.proofs.Exact.{entries_in-take}
-use Rattle.transcript.proofs.Reading.{found, lies, sound}
+use Rattle.transcript.proofs.Reading.{found, lies, sound, unread}
 use Rattle.refusals.specs.declared.Answer.TheVariants as answer
 use Rattle.refusals.specs.Lent.{given}
 use Rattle.refusals.proofs.Giving as giving
@@ -23,12 +23,6 @@ use Rattle.expansion.specs.Expansion.{all_expand, all_heard, expand_into, expand
 use Rattle.expansion.proofs.Hearing.{section_long}
 
 -- ---- a section
-
-none : (b : Bool) (x y : ℕ) → section.Refused ≡ cond b (section.Read x y) section.Refused → b ≡ false
-none true x y h =
-    let z : ◌≡◌ {A = ℕ} 0 1 = cc in
-    absurd (omega arith)
-none false x y h = refl
 
 -- a number that was found, and one that was not
 is_so : (b : Bool) (n k : ℕ) → number.Is k ≡ cond b (number.Is n) number.Refused → (b ≡ true) × (k ≡ n)
@@ -44,13 +38,13 @@ is_not true n h =
 is_not false n h = refl
 
 module _ (s out : List ℕ) where
-  pub no_section : section.Refused ≡ section_of s → given (answer.Refused SECTION) out ≡ expand_into s out
-  unfolding expand_into section_of
+  pub no_section : None ≡ section_of s → given (answer.Refused SECTION) out ≡ expand_into s out
+  unfolding expand_into
   no_section h =
-      let never : is_section s ≡ false = none (is_section s) (start_of s) (count_of s) h in
+      let never : is_section s ≡ false = unread s h in
       rw never (giving.refused SECTION (length (expanded (section_entries s))) (expanded (section_entries s)) out (omega arith))
 
-  module _ (start count : ℕ) (h : section.Read start count ≡ section_of s) where
+  module _ (start count : ℕ) (h : Some (section_at start count) ≡ section_of s) where
     entries : entries_in count (drop start s) ≡ section_entries s
     unfolding entries_of
     entries =

@@ -58,7 +58,7 @@ fn write_packets(s: &[u8], start: usize, count: usize, out: &mut [u8])
 pub fn expand(section: &[u8], out: &mut [u8]) -> Answer
     ensures { given result out.new ≡ expand_into section.now out.old }
 {
-    let Section::Read { start, count } = transcript::read_section(section) else {
+    let Some(Section { start, count }) = transcript::read_section(section) else {
         return Answer::Refused(refusals::SECTION);
     };
     let Found::Is(size) = measured(section, start, count) else {

@@ -12,10 +12,10 @@ use lib.Seq.{drop-cons, drop-drop, take_all}
 use borrow.Author.Tests.{eq-eqb, eqb-true, le-leb, lt-leb, ltb-false, ltb-true, ne_eqb}
 use Rattle.wire.specs.Bytes.{le_value}
 use Rattle.transcript.specs.declared.Entry.{Entry}
-use Rattle.transcript.specs.declared.Section.TheVariants.{Read, Refused}
+use Rattle.std.specs.Prelude.{Some, None}
 use Rattle.transcript.specs.Table.{is_read}
 use Rattle.transcript.specs.Entries.{entry_of, zeros8}
-use Rattle.transcript.specs.Sections.{entries_in, entries_of, section_entries, section_of}
+use Rattle.transcript.specs.Sections.{entries_in, entries_of, section_at, section_entries, section_of}
 use Rattle.transcript.proofs.Exact.{entries_in-take, length-entries_in}
 use Rattle.transcript.proofs.Reading.{both, entries_part, found}
 use Rattle.parting.specs.Parting.{agree, alike, cut_of, equal_bytes, equal_entries, nowhere, parting_of, place, placed, rest_of}
@@ -163,22 +163,22 @@ second_goes_on a m b n k h = rw h
 
 -- ---- sections that were read, or not
 
-pub entries_read : (s : List ℕ) (a m : ℕ) → Read a m ≡ section_of s → entries_in m (drop a s) ≡ section_entries s
+pub entries_read : (s : List ℕ) (a m : ℕ) → Some (section_at a m) ≡ section_of s → entries_in m (drop a s) ≡ section_entries s
 entries_read s a m h =
     let wide : a + 16 * m - a ≡ 16 * m = omega arith in
     let part : take (16 * m) (drop a s) ≡ entries_of s = rw wide at (entries_part s a m h) in
     sym (entries_in-take m (drop a s)) ∙ ap₂ entries_in (found s a m h).1.1 part
 
 module _ (x y : List ℕ) where
-  pub no_first : Refused ≡ section_of x → nowhere ≡ parting_of x y
+  pub no_first : None ≡ section_of x → nowhere ≡ parting_of x y
   unfolding parting_of
   no_first h = rw (← h)
 
-  pub no_second : (a m : ℕ) → Read a m ≡ section_of x → Refused ≡ section_of y → nowhere ≡ parting_of x y
+  pub no_second : (a m : ℕ) → Some (section_at a m) ≡ section_of x → None ≡ section_of y → nowhere ≡ parting_of x y
   unfolding parting_of
   no_second a m h i = rw (← h, ← i)
 
-  pub both_read : (a m b n k : ℕ) → Read a m ≡ section_of x → Read b n ≡ section_of y
+  pub both_read : (a m b n k : ℕ) → Some (section_at a m) ≡ section_of x → Some (section_at b n) ≡ section_of y
       → k ≡ agree (entries_in m (drop a x)) (entries_in n (drop b y)) → placed a m b n k ≡ parting_of x y
   unfolding parting_of
   both_read a m b n k h i e =

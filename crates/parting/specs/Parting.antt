@@ -2,12 +2,11 @@
 -- first lacks; outcome and read data are left out of the comparison. If the second ends first, hand back the rest of the first section from there.
 -- Equal ones give an empty part of the second."
 -- Assumes nothing.
-use Rattle.std.specs.Prelude.{ℕ, suc, ◌+◌, ◌-◌, ◌*◌, ◌≤◌, ◌≡◌, Bool, true, false, cond, ◌&&◌, List, [], ◌∷◌, map, eqb, leb, ltb, length, take, drop}
+use Rattle.std.specs.Prelude.{ℕ, suc, ◌+◌, ◌-◌, ◌*◌, ◌≤◌, ◌≡◌, Bool, true, false, cond, ◌&&◌, List, [], ◌∷◌, map, eqb, leb, ltb, length, take, drop, Option, Some, None}
 use Rattle.transcript.specs.declared.Entry.{Entry}
 use Rattle.transcript.specs.Entries.{bare}
 use Rattle.transcript.specs.Sections.{entries_bytes, refusal_of, section_entries, section_of}
 use Rattle.transcript.specs.declared.Section.{Section}
-use Rattle.transcript.specs.declared.Section.TheVariants as section
 use Rattle.parting.specs.declared.Place.{Place}
 
 unfoldable pub equal_bytes : List ℕ → List ℕ → Bool
@@ -40,17 +39,17 @@ place whose start count index = record { start = start; count = count; index = i
 
 -- "Refusals: 12 for either section": nobody's part, and empty
 abbrev pub nowhere : Place
-nowhere = record { start = 0; count = 0; index = 0; whose = 0; refusal = refusal_of section.Refused }
+nowhere = record { start = 0; count = 0; index = 0; whose = 0; refusal = refusal_of None }
 
 -- "the answer says whose part it is": 1 where "the second ends first", else 2. m and n entries, which begin at a and b, with k of them alike
 unfoldable pub placed : ℕ → ℕ → ℕ → ℕ → ℕ → Place
 placed a m b n k =
     cond (leb n k && ltb k m) (place 1 (a + 16 * k) (m - k) k) (place 2 (b + 16 * k) (n - k) k)
 
-abbrev pub between : Section → Section → ℕ → Place
-between (section.Read a m) (section.Read b n) k = placed a m b n k
-between (section.Read a m) section.Refused k = nowhere
-between section.Refused t k = nowhere
+abbrev pub between : Option Section → Option Section → ℕ → Place
+between (Some s) (Some t) k = placed s.start s.count t.start t.count k
+between (Some s) None k = nowhere
+between None t k = nowhere
 
 unfoldable pub parting_of : List ℕ → List ℕ → Place
 parting_of x y = between (section_of x) (section_of y) (agree (section_entries x) (section_entries y))

@@ -104,10 +104,10 @@ fn refused() -> Place
 pub fn parting(first: &[u8], second: &[u8]) -> Place
     ensures { result ≡ parting_of first.now second.now }
 {
-    let Section::Read { start: a, count: m } = transcript::read_section(first) else {
+    let Some(Section { start: a, count: m }) = transcript::read_section(first) else {
         return refused();
     };
-    let Section::Read { start: b, count: n } = transcript::read_section(second) else {
+    let Some(Section { start: b, count: n }) = transcript::read_section(second) else {
         return refused();
     };
     let k = alike_from(first, a, m, second, b, n);

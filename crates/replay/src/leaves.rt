@@ -65,24 +65,19 @@ pub fn resample_regs(c: &[u8]) -> Verdict {
 }
 
 pub fn read_section(c: &[u8]) -> Verdict {
-    match transcript::read_section(layout::part(c, layout::INPUT)) {
-        transcript::Section::Read { start, count } => {
-            let told = Answer {
-                refusal: 0,
-                value: start as u64,
-                index: 0,
-                count,
-            };
-            compare::agrees(c, told, &[], &[], &[], &[])
-        }
-        transcript::Section::Refused => {
-            let told = Answer {
-                refusal: refusals::SECTION as u64,
-                value: 0,
-                index: 0,
-                count: 0,
-            };
-            compare::agrees(c, told, &[], &[], &[], &[])
-        }
-    }
+    let told = match transcript::read_section(layout::part(c, layout::INPUT)) {
+        Some(section) => Answer {
+            refusal: 0,
+            value: section.start as u64,
+            index: 0,
+            count: section.count,
+        },
+        None => Answer {
+            refusal: refusals::SECTION as u64,
+            value: 0,
+            index: 0,
+            count: 0,
+        },
+    };
+    compare::agrees(c, told, &[], &[], &[], &[])
 }

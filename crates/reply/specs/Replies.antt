@@ -1,13 +1,12 @@
 -- An answer as the numbers that a host is told. Document 01, "Refusal numbers": "A refused call's value is 0; 11 also gives the failing entry's index."
 -- Assumes nothing.
-use Rattle.std.specs.Prelude.{ℕ, zero, suc, ◌%◌, cond, List, [], ◌∷◌}
+use Rattle.std.specs.Prelude.{ℕ, zero, suc, ◌%◌, cond, List, [], ◌∷◌, Option, Some, None}
 use Rattle.refusals.specs.declared.Answer.{Answer}
 use Rattle.chip.specs.declared.LockTries.{LockTries}
 use Rattle.refusals.specs.Answers.{index_of, number_of, value_of}
 use Rattle.chip.specs.Calls.{Called}
 use Rattle.transcript.specs.declared.Entry.{Entry}
 use Rattle.transcript.specs.declared.Section.{Section}
-use Rattle.transcript.specs.declared.Section.TheVariants as section
 use Rattle.transcript.specs.Sections.{refusal_of}
 use Rattle.reply.specs.declared.Parts.{Parts}
 use Rattle.reply.specs.declared.Reply.{Reply}
@@ -38,8 +37,8 @@ tuned_of r s =
 
 -- "refused: empty parts"
 abbrev pub no_parts : Parts
-no_parts = record { start = 0; count = 0; refusal = refusal_of section.Refused; zero = 0 }
+no_parts = record { start = 0; count = 0; refusal = refusal_of None; zero = 0 }
 
-abbrev pub parts_of : Section → Parts
-parts_of (section.Read start count) = record { start = start; count = count; refusal = 0; zero = 0 }
-parts_of section.Refused = no_parts
+abbrev pub parts_of : Option Section → Parts
+parts_of (Some found) = record { start = found.start; count = found.count; refusal = 0; zero = 0 }
+parts_of None = no_parts

@@ -88,20 +88,20 @@ pub fn tuned(r: Reply, tries: u16, locked: bool) -> TuneReply
     }
 }
 
-pub fn located(section: Section) -> Parts
+pub fn located(section: Option<Section>) -> Parts
     ensures { result ≡ parts_of section }
 {
     match section {
-        Section::Read { start, count } => Parts {
+        Some(Section { start, count }) => Parts {
             start: start as u64,
             count: count as u64,
             refusal: 0,
             zero: 0,
         },
-        Section::Refused => Parts {
+        None => Parts {
             start: 0,
             count: 0,
-            refusal: section.refusal(),
+            refusal: transcript::refusal_of(section),
             zero: 0,
         },
     }

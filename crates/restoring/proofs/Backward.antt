@@ -2,33 +2,21 @@
 -- Assumes nothing.
 use Prim.Native.Nat.{ℕ, ◌+◌, ◌-◌, ◌*◌, ◌≤◌, ◌<◌}
 use mathlib.Core.Path.{◌≡◌, refl, sym, ap, ap₂, ◌∙◌}
-use mathlib.Core.Bool.{Bool, true, false, true≢false}
+use mathlib.Core.Bool.{true, false, true≢false}
 use mathlib.Core.List.{List, [], ◌++◌}
 use native.Mathlib.Omega.{arith}
 use lib.ListN.{length, take, drop}
 use lib.Seq.{length-take-le, take-length, take-take}
 use Rattle.transcript.specs.declared.Entry.{Entry}
-use Rattle.transcript.specs.declared.Section.TheVariants.{Read, Refused}
-use Rattle.transcript.specs.Sections.{all_fit, count_of, entries_in, entries_of, is_section, section_entries, section_of, start_of}
-use Rattle.transcript.proofs.Reading.{found, lies, sound}
+use Rattle.std.specs.Prelude.{Some, None}
+use Rattle.transcript.specs.Sections.{all_fit, count_of, entries_in, entries_of, is_section, section_at, section_entries, section_of, start_of}
+use Rattle.transcript.proofs.Reading.{found, lies, sound, unread}
 use Rattle.transcript.proofs.Exact.{entries_in-take}
 use Rattle.sections.specs.Chain.{chain, chain_entries}
 use Rattle.sections.proofs.Walk.{chain_empty, chain_step, entries_empty, entries_step}
 use Rattle.restore.specs.Restore.{refused_by}
 use Rattle.restoring.specs.Standing.{Known, over, known_in}
 use Rattle.restoring.proofs.Telling.{Joins, over_both_lem, over_empty}
-
--- what the reader refuses is no section
-no_section : (p : List ℕ) → Refused ≡ section_of p → is_section p ≡ false
-unfolding section_of
-no_section p h = go (is_section p) refl
-  where
-    go : (b : Bool) → is_section p ≡ b → is_section p ≡ false
-    go true e =
-        let z : Refused ≡ Read (start_of p) (count_of p) = h ∙ rw e in
-        let y : ◌≡◌ {A = ℕ} 0 1 = cc in
-        absurd (omega arith)
-    go false e = e
 
 handed : (p : List ℕ) → is_section p ≡ true → section_entries p ≡ entries_in (count_of p) (drop (start_of p) p)
 unfolding entries_of
@@ -44,10 +32,10 @@ module _ (s p : List ℕ) (end : ℕ) (is : p ≡ take (end - 0) s) (some : 0 < 
   long : length p ≡ end
   long = ap length whole ∙ length-take-le end s inside
 
-  pub stopped : chain (take end s) ≡ chain s → Refused ≡ section_of p → chain s ≡ false
-  stopped same h = sym same ∙ ap chain (sym whole) ∙ chain_step p (omega (arith, long)) ∙ rw (no_section p h)
+  pub stopped : chain (take end s) ≡ chain s → None ≡ section_of p → chain s ≡ false
+  stopped same h = sym same ∙ ap chain (sym whole) ∙ chain_step p (omega (arith, long)) ∙ rw (unread p h)
 
-  module _ (start count : ℕ) (read : Read start count ≡ section_of p) where
+  module _ (start count : ℕ) (read : Some (section_at start count) ≡ section_of p) where
     good : is_section p ≡ true
     good = (found p start count read).0
 

@@ -103,7 +103,7 @@ fn walked(s: &[u8], address: u8, marks: &mut [u8], sent: &mut [u8]) -> u8
     let mut end = s.len();
     while 0 < end {
         let part = &s[0..end];
-        let Section::Read { start, count } = transcript::read_section(part) else {
+        let Some(Section { start, count }) = transcript::read_section(part) else {
             return refusals::SECTION;
         };
         noted_all(part, start, count, address, marks, sent);

@@ -13,9 +13,9 @@ use lib.Seq.{take-nil, take_at, drop_at, take-take, drop-drop, take-add, take_al
 use Rattle.wire.specs.Bytes.{le_bytes, le_value, Bytes}
 use Rattle.wire.proofs.Widths.{length-le_bytes, value_bytes, bytes_value, bytes_take, bytes_drop}
 use Rattle.transcript.specs.declared.Entry.{Entry}
-use Rattle.transcript.specs.declared.Section.TheVariants.{Read}
+use Rattle.std.specs.Prelude.{Some}
 use Rattle.transcript.specs.Entries.{entry_bytes, entry_of, entry_fits, fits, Eights}
-use Rattle.transcript.specs.Sections.{entries_bytes, trailer_bytes, section_bytes, entries_in, all_fit, count_of, distance_of, start_of, is_section, section_of, entries_of, before_of, section_entries, AllFit, Parted}
+use Rattle.transcript.specs.Sections.{entries_bytes, trailer_bytes, section_bytes, entries_in, all_fit, count_of, distance_of, start_of, is_section, section_at, section_of, entries_of, before_of, section_entries, AllFit, Parted}
 use Rattle.transcript.proofs.Laid.{length-entry_bytes, length-entries_bytes, length-section_bytes}
 use Rattle.transcript.proofs.Reading.{both, Sound, sound, is_section_lem}
 use Rattle.transcript.proofs.Rows.{row_of, read_written, fits_written, written_read}
@@ -166,7 +166,7 @@ module _ (p : List ℕ) (es : List Entry) (fit : AllFit es) (most : length es �
   unfolding section_of before_of
   written_then_read =
       record {
-        accepted = rw accepted (ap₂ Read start count);
+        accepted = rw accepted (ap₂ (λ (a k : ℕ). Some (section_at a k)) start count);
         before = rw accepted (ap (λ (i : ℕ). take i (p ++ section_bytes es)) start ∙ take_at p (section_bytes es) (length p) refl);
         part = part;
         entries = ap₂ entries_in count (part ∙ sym (append-nil (entries_bytes es))) ∙ entries_in-written es [] fit;

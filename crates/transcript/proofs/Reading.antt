@@ -1,7 +1,7 @@
 -- The reader's tests, and what they say of a slice: one law for each way in which the reader stops, one for a section that it reads.
 -- Assumes nothing.
 use Prim.Native.Nat.{ℕ, suc, ◌+◌, ◌-◌, ◌*◌, ◌<◌, ◌≤◌}
-use mathlib.Core.Path.{◌≡◌, refl, sym, ap₂, ◌∙◌}
+use mathlib.Core.Path.{◌≡◌, refl, sym, ap, ap₂, ◌∙◌}
 use mathlib.Core.List.{List, []}
 use mathlib.Core.Bool.{Bool, true, false, cond, ◌&&◌, and-false}
 use native.Mathlib.Omega.{arith}
@@ -9,9 +9,11 @@ use lib.Dec.{eqb, leb}
 use borrow.Author.Tests.{eq-eqb, ne_eqb, eqb-true, lt-leb, le-leb, leb-true}
 use lib.ListN.{length, take, drop}
 use lib.Seq.{drop-drop}
-use Rattle.transcript.specs.declared.Section.TheVariants.{Read, Refused}
+use Rattle.std.specs.Prelude.{Some, None}
+use Rattle.std.proofs.lemmas.Option.{cond_some}
+use Rattle.transcript.specs.declared.Section.{Section}
 use Rattle.transcript.specs.Entries.{fits}
-use Rattle.transcript.specs.Sections.{all_fit, count_of, distance_of, start_of, is_section, section_of, entries_of, before_of}
+use Rattle.transcript.specs.Sections.{all_fit, count_of, distance_of, start_of, is_section, section_at, section_of, entries_of, before_of}
 
 -- a loop over entries that have to fit: it goes on, it stops, it ends
 module _ (s : List ℕ) (at i k : ℕ) where
@@ -44,9 +46,7 @@ module _ (s : List ℕ) (at i k : ℕ) where
 
 pub both : (a b : Bool) → a && b ≡ true → (a ≡ true) × (b ≡ true)
 both true b h = (refl, h)
-both false b h =
-    let z : ◌≡◌ {A = ℕ} 0 1 = cc in
-    absurd (omega arith)
+both false b h = absurd cc
 
 -- what the tests say of a slice that ends in a section
 pub record Sound (s : List ℕ) : Type 0 where
@@ -81,27 +81,27 @@ unfolding is_section
 is_section_lem s h =
     rw (le-leb 8 (length s) h.long, le-leb (count_of s) 4096 h.most, eq-eqb (distance_of s) (16 * count_of s) h.near, le-leb (16 * count_of s) (length s - 8) h.room, h.fit)
 
-refused : (s : List ℕ) → is_section s ≡ false → Refused ≡ section_of s
+refused : (s : List ℕ) → is_section s ≡ false → None ≡ section_of s
 unfolding section_of
 refused s h = rw h
 
-pub too_short : (s : List ℕ) → length s < 8 → Refused ≡ section_of s
+pub too_short : (s : List ℕ) → length s < 8 → None ≡ section_of s
 unfolding is_section
 too_short s h = refused s (rw (lt-leb 8 (length s) h))
 
 -- the code's numbers are the trailer's
 module _ (s : List ℕ) (count distance : ℕ) (long : 8 ≤ length s) (c : count ≡ count_of s) (d : distance ≡ distance_of s) where
-  pub too_many : 4096 < count → Refused ≡ section_of s
+  pub too_many : 4096 < count → None ≡ section_of s
   unfolding is_section
   too_many h = refused s (rw (le-leb 8 (length s) long, lt-leb (count_of s) 4096 (omega arith)))
 
-  pub too_far : count ≤ 4096 → (distance ≡ 16 * count → ⊥) → Refused ≡ section_of s
+  pub too_far : count ≤ 4096 → (distance ≡ 16 * count → ⊥) → None ≡ section_of s
   unfolding is_section
   too_far h other =
       refused s
       (rw (le-leb 8 (length s) long, le-leb (count_of s) 4096 (omega arith), ne_eqb (distance_of s) (16 * count_of s) (λ same. other (omega arith))))
 
-  pub no_room : count ≤ 4096 → distance ≡ 16 * count → length s - 8 < distance → Refused ≡ section_of s
+  pub no_room : count ≤ 4096 → distance ≡ 16 * count → length s - 8 < distance → None ≡ section_of s
   unfolding is_section
   no_room h near over =
       refused s
@@ -114,60 +114,54 @@ module _ (s : List ℕ) (count distance : ℕ) (long : 8 ≤ length s) (c : coun
     same : all ≡ all_fit (count_of s) (drop (start_of s) s)
     same = e ∙ ap₂ (λ k i. all_fit k (drop i s)) c there
 
-    pub unfit : all ≡ false → Refused ≡ section_of s
+    pub unfit : all ≡ false → None ≡ section_of s
     unfolding is_section
     unfit never = refused s (rw (← same, never, and-false))
 
-    pub settled : count ≤ 4096 → distance ≤ length s - 8 → all ≡ true → Read (length s - 8 - distance) count ≡ section_of s
+    pub settled : count ≤ 4096 → distance ≤ length s - 8 → all ≡ true → Some (section_at (length s - 8 - distance) count) ≡ section_of s
     unfolding section_of
     settled h room fine =
         let good : is_section s ≡ true = is_section_lem s (record { long = long; most = omega arith; near = omega arith; room = omega arith; fit = sym same ∙ fine }) in
         rw (good, there, c)
 
 -- a section that the reader found lies in the slice
-picked : (b : Bool) (x y a k : ℕ) → Read a k ≡ cond b (Read x y) Refused → (b ≡ true) × ((a ≡ x) × (k ≡ y))
-picked true x y a k h = (refl, (cc, cc))
-picked false x y a k h =
-    let z : ◌≡◌ {A = ℕ} 0 1 = cc in
-    absurd (omega arith)
-
-pub found : (s : List ℕ) (a k : ℕ) → Read a k ≡ section_of s → (is_section s ≡ true) × ((a ≡ start_of s) × (k ≡ count_of s))
+pub found : (s : List ℕ) (a k : ℕ) → Some (section_at a k) ≡ section_of s → (is_section s ≡ true) × ((a ≡ start_of s) × (k ≡ count_of s))
 unfolding section_of
-found s a k h = picked (is_section s) (start_of s) (count_of s) a k h
+found s a k h =
+    let p = cond_some (is_section s) (section_at (start_of s) (count_of s)) (section_at a k) (sym h) in
+    (p.0, (ap (λ (t : Section). t.start) (sym p.1), ap (λ (t : Section). t.count) (sym p.1)))
 
 -- where it starts and ends
-pub lies : (s : List ℕ) (a k : ℕ) → Read a k ≡ section_of s → (k ≤ 4096) × (a + 16 * k ≤ length s)
+pub lies : (s : List ℕ) (a k : ℕ) → Some (section_at a k) ≡ section_of s → (k ≤ 4096) × (a + 16 * k ≤ length s)
 lies s a k h =
     let f = found s a k h in
     let g = sound s f.0 in
     (omega (arith, f.1.1, g.most), omega (arith, f.1.0, f.1.1, g.long, g.room))
 
-dropped : (b : Bool) (x y : ℕ) → Refused ≡ cond b (Read x y) Refused → b ≡ false
-dropped true x y h =
-    let z : ◌≡◌ {A = ℕ} 0 1 = cc in
-    absurd (omega arith)
-dropped false x y h = refl
+dropped : (b : Bool) (t : Section) → None ≡ cond b (Some t) None → b ≡ false
+dropped true t h = absurd cc
+dropped false t h = refl
 
-unread : (s : List ℕ) → Refused ≡ section_of s → is_section s ≡ false
+pub unread : (s : List ℕ) → None ≡ section_of s → is_section s ≡ false
 unfolding section_of
-unread s h = dropped (is_section s) (start_of s) (count_of s) h
+unread s h = dropped (is_section s) (section_at (start_of s) (count_of s)) h
 
-pub no_entries : (s : List ℕ) → Refused ≡ section_of s → [] ≡ entries_of s
+pub no_entries : (s : List ℕ) → None ≡ section_of s → [] ≡ entries_of s
 unfolding entries_of
 no_entries s h = rw (unread s h)
 
-pub none_before : (s : List ℕ) → Refused ≡ section_of s → [] ≡ before_of s
+pub none_before : (s : List ℕ) → None ≡ section_of s → [] ≡ before_of s
 unfolding before_of
 none_before s h = rw (unread s h)
 
-pub entries_part : (s : List ℕ) (a k : ℕ) → Read a k ≡ section_of s → take (a + 16 * k - a) (drop a s) ≡ entries_of s
+pub entries_part : (s : List ℕ) (a k : ℕ) → Some (section_at a k) ≡ section_of s → take (a + 16 * k - a) (drop a s) ≡ entries_of s
 unfolding entries_of
 entries_part s a k h =
     let f = found s a k h in
     let wide : a + 16 * k - a ≡ 16 * k = omega arith in
     rw (f.0, wide, f.1.0, f.1.1)
 
-pub before_part : (s : List ℕ) (a k : ℕ) → Read a k ≡ section_of s → take (a - 0) s ≡ before_of s
+pub before_part : (s : List ℕ) (a k : ℕ) → Some (section_at a k) ≡ section_of s → take (a - 0) s ≡ before_of s
 unfolding before_of
 before_part s a k h =
     let f = found s a k h in

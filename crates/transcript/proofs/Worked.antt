@@ -8,10 +8,10 @@ use mathlib.Core.List.{List, [], ◌∷◌, ◌++◌}
 use lib.ListN.{set}
 use Rattle.wire.specs.Bytes.{le_bytes, le_value}
 use Rattle.transcript.specs.declared.Entry.{Entry}
-use Rattle.transcript.specs.declared.Section.TheVariants.{Read}
+use Rattle.std.specs.Prelude.{Some}
 use Rattle.transcript.specs.Table.{row_fits, n_low, n_high, outcome_most, target_most, address_most, first_most}
 use Rattle.transcript.specs.Entries.{entry_bytes, entry_of, zeros, entry_fits, fits}
-use Rattle.transcript.specs.Sections.{entries_bytes, trailer_bytes, section_bytes, all_fit, is_section, section_of, entries_in, entries_of, section_entries}
+use Rattle.transcript.specs.Sections.{entries_bytes, trailer_bytes, section_bytes, all_fit, is_section, section_at, section_of, entries_in, entries_of, section_entries}
 
 entry : ℕ → ℕ → ℕ → List ℕ → Entry
 entry k t m bs = record { kind = k; outcome = 0; target = t; n = m; address = 0; bytes = bs }
@@ -34,7 +34,7 @@ written : section_bytes entries ≡ section
 unfolding entries section entry entry_bytes le_bytes entries_bytes trailer_bytes section_bytes
 written = refl
 
-read : section_of (7 ∷ 9 ∷ section) ≡ Read 2 3
+read : section_of (7 ∷ 9 ∷ section) ≡ Some (section_at 2 3)
 unfolding section le_value row_fits n_low n_high outcome_most target_most address_most first_most entry_of zeros entry_fits fits all_fit is_section section_of
 read = refl
 
@@ -42,7 +42,7 @@ handed_back : section_entries (7 ∷ 9 ∷ section) ≡ entries
 unfolding entries section entry le_value row_fits n_low n_high outcome_most target_most address_most first_most entry_of zeros entry_fits fits all_fit is_section entries_in entries_of
 handed_back = refl
 
-nothing : section_of (5 ∷ le_bytes 4 0 ++ le_bytes 4 0) ≡ Read 1 0
+nothing : section_of (5 ∷ le_bytes 4 0 ++ le_bytes 4 0) ≡ Some (section_at 1 0)
 unfolding le_bytes le_value all_fit is_section section_of
 nothing = refl
 

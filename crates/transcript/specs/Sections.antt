@@ -1,12 +1,11 @@
 -- Sections. Document 01: "A section is its entries and an 8-byte trailer: count (u32, low byte first), then the distance from the trailer's
 -- start to the first entry, 16 times the count. At most 4,096 entries."
 -- Assumes nothing.
-use Rattle.std.specs.Prelude.{ℕ, zero, suc, ◌+◌, ◌-◌, ◌*◌, ◌≤◌, ◌≡◌, List, [], ◌∷◌, ◌++◌, Bool, true, cond, ◌&&◌, leb, eqb, length, take, drop}
+use Rattle.std.specs.Prelude.{ℕ, zero, suc, ◌+◌, ◌-◌, ◌*◌, ◌≤◌, ◌≡◌, List, [], ◌∷◌, ◌++◌, Bool, true, cond, ◌&&◌, leb, eqb, length, take, drop, Option, Some, None}
 use Rattle.wire.specs.Bytes.{le_bytes, le_value}
 use Rattle.refusals.specs.Table.{SECTION}
 use Rattle.transcript.specs.declared.Entry.{Entry}
 use Rattle.transcript.specs.declared.Section.{Section}
-use Rattle.transcript.specs.declared.Section.TheVariants.{Read, Refused}
 use Rattle.transcript.specs.Entries.{entry_bytes, entry_of, entry_fits, fits}
 
 -- the entries' bytes, one entry after the other
@@ -48,8 +47,11 @@ is_section s =
     && leb (16 * count_of s) (length s - 8)
     && all_fit (count_of s) (drop (start_of s) s)
 
-unfoldable pub section_of : List ℕ → Section
-section_of s = cond (is_section s) (Read (start_of s) (count_of s)) Refused
+abbrev pub section_at : ℕ → ℕ → Section
+section_at start count = record { start = start; count = count }
+
+unfoldable pub section_of : List ℕ → Option Section
+section_of s = cond (is_section s) (Some (section_at (start_of s) (count_of s))) None
 
 -- "also hands back what stands before them (refused: empty parts)"
 unfoldable pub entries_of : List ℕ → List ℕ
@@ -63,9 +65,9 @@ abbrev pub section_entries : List ℕ → List Entry
 section_entries s = entries_in (count_of s) (entries_of s)
 
 -- "12 section: reader's rule broken"; 0 for what is read
-abbrev pub refusal_of : Section → ℕ
-refusal_of (Read start count) = 0
-refusal_of Refused = SECTION
+abbrev pub refusal_of : Option Section → ℕ
+refusal_of (Some found) = 0
+refusal_of None = SECTION
 
 abbrev pub AllFit : List Entry → Type 0
 AllFit [] = Unit {0}
@@ -73,7 +75,7 @@ AllFit (e ∷ es) = (entry_fits e ≡ true) × AllFit es
 
 -- s is p and the section of es, and the reader hands both back
 pub record Parted (s p : List ℕ) (es : List Entry) : Type 0 where
-  pub accepted : section_of s ≡ Read (length p) (length es)
+  pub accepted : section_of s ≡ Some (section_at (length p) (length es))
   pub before : before_of s ≡ p
   pub part : entries_of s ≡ entries_bytes es
   pub entries : section_entries s ≡ es

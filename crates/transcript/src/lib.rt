@@ -41,26 +41,20 @@ pub struct Entry {
     pub bytes: [u8; 8],
 }
 
-fn wide(x: u8) -> usize
-    ensures { (result ≡ x) × (result < 256) }
-{
-    x as usize
-}
-
 // The table of kinds, a line for each. What any byte fits is not tested.
 fn row_fits(k: u8, o: u8, t: u8, n: u8, a: u32, b: u8) -> bool
     ensures { result ≡ row_fits k o t n a b }
 {
     match k {
-        1 => (o <= 1) & (t <= 0) & (1 <= n) & (n <= 1) & (a <= 0) & (b <= 1),
-        2 => (o <= 1) & (1 <= n) & (n <= 8) & (a <= 0),
-        3 => (o <= 1) & (1 <= n) & (n <= 5) & (a <= 0),
-        4 => (o <= 1) & (1 <= n) & (n <= 1) & (a <= 65535),
-        5 => (o <= 1) & (2 <= n) & (n <= 2) & (a <= 65535),
-        6 => (o <= 1) & (1 <= n) & (n <= 1) & (a <= 65535),
-        7 => (o <= 1) & (2 <= n) & (n <= 2) & (a <= 65535),
-        8 => (o <= 1) & (1 <= n) & (n <= 1) & (a <= 65535),
-        9 => (o <= 0) & (t <= 0) & (n <= 0) & (a <= 65535) & (b <= 0),
+        REPEATER => (o <= 1) & (t <= 0) & (1 <= n) & (n <= 1) & (a <= 0) & (b <= 1),
+        I2C_WRITE => (o <= 1) & (1 <= n) & (n <= 8) & (a <= 0),
+        I2C_READ => (o <= 1) & (1 <= n) & (n <= 5) & (a <= 0),
+        DEMOD => (o <= 1) & (1 <= n) & (n <= 1) & (a <= 65535),
+        DEMOD16 => (o <= 1) & (2 <= n) & (n <= 2) & (a <= 65535),
+        BLOCK => (o <= 1) & (1 <= n) & (n <= 1) & (a <= 65535),
+        BLOCK16 => (o <= 1) & (2 <= n) & (n <= 2) & (a <= 65535),
+        READ => (o <= 1) & (1 <= n) & (n <= 1) & (a <= 65535),
+        WAIT => (o <= 0) & (t <= 0) & (n <= 0) & (a <= 65535) & (b <= 0),
         _ => false,
     }
 }
@@ -69,10 +63,10 @@ fn row_fits(k: u8, o: u8, t: u8, n: u8, a: u32, b: u8) -> bool
 fn kept_by(k: u8, o: u8, n: u8) -> usize
     ensures { result ≡ kept_by k o n }
 {
-    if ((k == 3) | (k == 8)) & (0 < o) {
+    if ((k == I2C_READ) | (k == READ)) & (0 < o) {
         return 0;
     }
-    wide(n)
+    n as usize
 }
 
 // Whether the eight data bytes, as one number, are zeros from `kept` on.
@@ -91,14 +85,19 @@ impl Entry {
         requires { at + 16 ≤ length s.old }
         ensures { s.new ≡ sets s.old at (entry_bytes self) }
     {
-        let mut image = [0u8; 8];
-        image[0] = self.kind;
-        image[1] = self.outcome;
-        image[2] = self.target;
-        image[3] = self.n;
-        image[4] = (self.address % 256) as u8;
-        image[5] = (self.address / 256) as u8;
-        wire::copy(s, at, &image);
+        let low = (self.address % 256) as u8;
+        let high = (self.address / 256) as u8;
+        let head = [
+            self.kind,
+            self.outcome,
+            self.target,
+            self.n,
+            low,
+            high,
+            0,
+            0,
+        ];
+        wire::copy(s, at, &head);
         wire::copy(s, at + 8, &self.bytes);
     }
 
@@ -108,15 +107,15 @@ impl Entry {
         ensures { result ≡ entry_of (take 16 (drop at s.now)) }
     {
         let e = &s[at..at + 16];
-        let mut image = [0u8; 8];
-        wire::copy(&mut image, 0, &e[8..16]);
+        let mut bytes = [0u8; 8];
+        bytes.copy_from_slice(&e[8..16]);
         Entry {
             kind: e[0],
             outcome: e[1],
             target: e[2],
             n: e[3],
             address: wire::get(e, 4, 2) as u16,
-            bytes: image,
+            bytes,
         }
     }
 }
@@ -148,59 +147,56 @@ fn all_fit(s: &[u8], at: usize, count: usize) -> bool
     requires { (count ≤ 4096) × (at + 16 * count ≤ length s.now) }
     ensures { result ≡ all_fit count (drop at s.now) }
 {
-    let mut i = 0;
-    while i < count {
+    for i in 0..count {
         if !entry_fits(s, at + 16 * i) {
             return false;
         }
-        i += 1;
     }
     true
 }
 
-// What the reader finds at the end of a slice: where the section's first entry stands, and how many there are.
+// Where a section stands in a slice: after `start` bytes, `count` entries of 16 bytes, then its trailer.
 #[derive(Clone, Copy)]
-pub enum Section {
-    Read { start: usize, count: usize },
-    Refused,
+pub struct Section {
+    pub start: usize,
+    pub count: usize,
 }
 
-impl Section {
-    pub fn refusal(self) -> u32
-        ensures { result ≡ refusal_of self }
-    {
-        match self {
-            Section::Read { start: _, count: _ } => 0,
-            Section::Refused => refusals::SECTION as u32,
-        }
+// The refusal of a slice at whose end the reader finds no section; 0 where it finds one.
+pub fn refusal_of(section: Option<Section>) -> u32
+    ensures { result ≡ refusal_of section }
+{
+    match section {
+        Some(_) => 0,
+        None => refusals::SECTION as u32,
     }
 }
 
 // "The reader starts from the end of a slice, accepts exactly sections whose entries fit the table".
-pub fn read_section(s: &[u8]) -> Section
+pub fn read_section(s: &[u8]) -> Option<Section>
     ensures { result ≡ section_of s.now }
 {
     let n = s.len();
     if n < 8 {
-        return Section::Refused;
+        return None;
     }
     let trailer = n - 8;
     let count = wire::four(s, trailer) as usize;
     let distance = wire::four(s, trailer + 4) as usize;
     if 4096 < count {
-        return Section::Refused;
+        return None;
     }
     if distance != 16 * count {
-        return Section::Refused;
+        return None;
     }
     if trailer < distance {
-        return Section::Refused;
+        return None;
     }
     let start = trailer - distance;
     if all_fit(s, start, count) {
-        Section::Read { start, count }
+        Some(Section { start, count })
     } else {
-        Section::Refused
+        None
     }
 }
 
@@ -209,8 +205,8 @@ pub fn section_entries(s: &[u8]) -> &[u8]
     ensures { result.now ≡ entries_of s.now }
 {
     match read_section(s) {
-        Section::Read { start, count } => &s[start..start + 16 * count],
-        Section::Refused => &s[0..0],
+        Some(Section { start, count }) => &s[start..start + 16 * count],
+        None => &s[0..0],
     }
 }
 
@@ -219,7 +215,7 @@ pub fn section_before(s: &[u8]) -> &[u8]
     ensures { result.now ≡ before_of s.now }
 {
     match read_section(s) {
-        Section::Read { start, count: _ } => &s[0..start],
-        Section::Refused => &s[0..0],
+        Some(section) => &s[0..section.start],
+        None => &s[0..0],
     }
 }

@@ -293,7 +293,7 @@ fn walked(
     let mut end = s.len();
     while 0 < end {
         let part = &s[0..end];
-        let Section::Read { start, count } = transcript::read_section(part) else {
+        let Some(Section { start, count }) = transcript::read_section(part) else {
             return Ended {
                 refusal: refusals::SECTION,
                 waiting: w,

@@ -37,7 +37,7 @@ noted_all-requires c =
     let l = c.loop-end in
     let s = c.args.s.now in
     let p = take (l.end - 0) s in
-    let read = sym c.in-Read.is ∙ c.read_section.ensures in (
+    let read = sym c.in-Some.is ∙ c.read_section.ensures in (
       few s p l.end refl (omega arith) l.invariant.0 _ _ read,
       within s p l.end refl (omega arith) l.invariant.0 _ _ read,
       fit s p l.end refl (omega arith) l.invariant.0 _ _ read,
@@ -49,7 +49,7 @@ loop-end-smaller c =
     let l = c.loop-end in
     let s = c.args.s.now in
     let p = take (l.end - 0) s in
-    lower s p l.end refl (omega arith) l.invariant.0 _ _ (sym c.in-Read.is ∙ c.read_section.ensures)
+    lower s p l.end refl (omega arith) l.invariant.0 _ _ (sym c.in-Some.is ∙ c.read_section.ensures)
 
 pub loop-end-preserved : goal.loop-end-preserved
 loop-end-preserved c =
@@ -57,7 +57,7 @@ loop-end-preserved c =
     let a = c.args in
     let s = a.s.now in
     let p = take (l.end - 0) s in
-    let read = sym c.in-Read.is ∙ c.read_section.ensures in
+    let read = sym c.in-Some.is ∙ c.read_section.ensures in
     let less = lower s p l.end refl (omega arith) l.invariant.0 _ _ read in (
       omega (arith, less),
       (

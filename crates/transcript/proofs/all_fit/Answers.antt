@@ -2,12 +2,8 @@
 -- Assumes nothing.
 use mathlib.Core.Path.{◌∙◌}
 use native.Mathlib.Omega.{arith}
-use borrow.Author.Rules.{rules}
-use Rattle.transcript.proofs.Reading.{fit_on, fit_stop, fit_end, fit_start}
+use Rattle.transcript.proofs.Reading.{fit_on, fit_stop, fit_end}
 use Rattle.transcript.proofs.all_fit.Goals as goal
-
-pub loop-i-init : goal.loop-i-init
-loop-i-init c = (search rules, fit_start c.args.s.now c.args.at 0 c.args.count)
 
 pub returns-then-not-entry_fits : goal.returns-then-not-entry_fits
 returns-then-not-entry_fits c =
@@ -15,20 +11,18 @@ returns-then-not-entry_fits c =
     let l = c.loop-i in
     let a = c.args in
     fit_stop a.s.now a.at l.i a.count entry_fits_lem.result (omega arith) entry_fits_lem.ensures c.if-not-entry_fits.true
-    ∙ l.invariant.1
+    ∙ l.invariant
 
 pub loop-i-preserved : goal.loop-i-preserved
 loop-i-preserved c =
     let entry_fits_lem = c.entry_fits in
     let l = c.loop-i in
-    let a = c.args in (
-      omega arith,
-      fit_on a.s.now a.at l.i a.count entry_fits_lem.result (omega arith) entry_fits_lem.ensures c.if-not-entry_fits.false
-          ∙ l.invariant.1,
-    )
+    let a = c.args in
+    fit_on a.s.now a.at l.i a.count entry_fits_lem.result (omega arith) entry_fits_lem.ensures c.if-not-entry_fits.false
+    ∙ l.invariant
 
 pub returns : goal.returns
 returns c =
     let l = c.loop-i in
     let a = c.args in
-    fit_end a.s.now a.at l.i a.count (omega arith) ∙ l.invariant.1
+    fit_end a.s.now a.at l.i a.count (omega arith) ∙ l.invariant

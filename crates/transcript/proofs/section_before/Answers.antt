@@ -7,13 +7,13 @@ use Rattle.transcript.proofs.section_before.Goals as goal
 
 pub slice_bounds-result-end : goal.slice_bounds-result-end
 slice_bounds-result-end c =
-    let f = lies c.args.s.now _ _ (sym c.in-Read.is ∙ c.read_section.ensures) in
+    let f = lies c.args.s.now _ _ (sym c.in-Some.is ∙ c.read_section.ensures) in
     omega arith
 
-pub returns-in-Read : goal.returns-in-Read
-returns-in-Read c =
-    before_part c.args.s.now _ _ (sym c.in-Read.is ∙ c.read_section.ensures)
+pub returns-in-Some : goal.returns-in-Some
+returns-in-Some c =
+    before_part c.args.s.now _ _ (sym c.in-Some.is ∙ c.read_section.ensures)
 
-pub returns-in-Refused : goal.returns-in-Refused
-returns-in-Refused c =
-    none_before c.args.s.now (sym c.in-Refused.is ∙ c.read_section.ensures)
+pub returns-in-None : goal.returns-in-None
+returns-in-None c =
+    none_before c.args.s.now (sym c.in-None.is ∙ c.read_section.ensures)

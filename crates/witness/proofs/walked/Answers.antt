@@ -45,7 +45,7 @@ heard_all-w-requires c =
     let a = c.args in
     let s = a.s.now in
     let p = take (l.end - 0) s in
-    let read = sym c.in-Read.is ∙ c.read_section.ensures in (
+    let read = sym c.in-Some.is ∙ c.read_section.ensures in (
       (
         few s p l.end refl (omega arith) l.invariant.0 _ _ read,
         within s p l.end refl (omega arith) l.invariant.0 _ _ read,
@@ -61,7 +61,7 @@ loop-end-smaller c =
     let a = c.args in
     let s = a.s.now in
     let p = take (l.end - 0) s in
-    let read = sym c.in-Read.is ∙ c.read_section.ensures in
+    let read = sym c.in-Some.is ∙ c.read_section.ensures in
     lower s p l.end refl (omega arith) l.invariant.0 _ _ read
 
 pub loop-end-preserved : goal.loop-end-preserved
@@ -70,7 +70,7 @@ loop-end-preserved c =
     let a = c.args in
     let s = a.s.now in
     let p = take (l.end - 0) s in
-    let read = sym c.in-Read.is ∙ c.read_section.ensures in
+    let read = sym c.in-Some.is ∙ c.read_section.ensures in
     let less = lower s p l.end refl (omega arith) l.invariant.0 _ _ read in (
       omega (arith, less),
       (

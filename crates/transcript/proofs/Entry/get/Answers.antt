@@ -9,11 +9,11 @@ use Rattle.transcript.proofs.Entry.get.Goals as goal
 
 pub returns : goal.returns
 returns c =
-    let copy = c.copy in
+    let copy = c.copy_from_slice in
     let a = c.args in
     let part = drop a.at a.s.now in
     let wide : a.at + 16 - a.at ≡ 16 = omega arith in
     let room : length part ≡ length a.s.now - a.at = length-drop a.at a.s.now in
     let long : length (take 16 part) ≡ 16 = length-take 16 part ∙ omega arith in
-    entry_made (take (a.at + 16 - a.at) part) (take 16 part) c.get.result copy.new.dst
-    (ap (λ k. take k part) wide) long c.get.ensures.0 copy.ensures
+    entry_made (take (a.at + 16 - a.at) part) (take 16 part) c.get.result copy.new.self
+    (ap (λ k. take k part) wide) long c.get.ensures.0 copy.ensures.after
