@@ -1,11 +1,10 @@
 -- Answers of fixed size that a host takes as bytes in a slice that it lends, laid there as crate refusals does.
 -- Assumes nothing.
-use Rattle.std.specs.Prelude.{ℕ, zero, suc, Bool, true, false, cond, List, [], ◌∷◌, ◌++◌, map, eqb, ℤ, pos, length, take, drop}
+use Rattle.std.specs.Prelude.{ℕ, zero, suc, Bool, true, false, cond, List, [], ◌∷◌, ◌++◌, map, eqb, ℤ, pos, length, take, drop, Option, Some, None}
 use Rattle.std.specs.Int.{w32}
 use Rattle.std.proofs.Common.{of_z, to_z}
 use Rattle.bands.specs.Tables.{plan_by}
-use Rattle.board.specs.declared.BoardRead.{BoardRead}
-use Rattle.board.specs.declared.BoardRead.TheVariants as board_read
+use Rattle.board.specs.declared.Board.{Board}
 use Rattle.board.specs.declared.Plan.{Plan}
 use Rattle.board.specs.Numbers.{route_number}
 use Rattle.board.specs.Plans.{board_plan}
@@ -34,9 +33,9 @@ bit_of false = 0
 abbrev pub plan_bytes : Plan → List ℕ
 plan_bytes p = bit_of p.inverted ∷ route_number p.path ∷ bit_of p.notch ∷ []
 
-unfoldable pub plan_into : BoardRead → ℕ → List ℕ → Given
-plan_into board_read.Refused hz out = given (Refused SETUP) out
-plan_into (board_read.Is b) hz out = lent_to 0 (board_plan b hz).hz (plan_bytes (board_plan b hz)) out
+unfoldable pub plan_into : Option Board → ℕ → List ℕ → Given
+plan_into None hz out = given (Refused SETUP) out
+plan_into (Some b) hz out = lent_to 0 (board_plan b hz).hz (plan_bytes (board_plan b hz)) out
 
 -- the same by a table. Document 02, #113: "new 19 table, for a malformed table; then 2 for a frequency in no band or shifted below 0 or past u64"; then 8
 abbrev pub plan_by_into : List ℕ → ℕ → List ℕ → Given

@@ -11,7 +11,7 @@ ghost use Rattle.refusals.specs.Lent.{given, lent_to};
 ghost use Rattle.board.specs.Numbers.{board_of};
 ghost use Rattle.wire.specs.Bytes.{le_value};
 
-use board::{BoardRead, Plan};
+use board::Plan;
 use pll::Kind;
 use r82xx::Tuner;
 use refusals::Answer;
@@ -82,10 +82,7 @@ fn lend_plan(refusal: u8, plan: Plan, out: &mut [u8]) -> Answer
 pub fn plan_tuning(board: u64, hz: u64, out: &mut [u8]) -> Answer
     ensures { given result out.new ≡ plan_into (board_of board) hz out.old }
 {
-    if 255 < board {
-        return Answer::Refused(refusals::SETUP);
-    }
-    let BoardRead::Is(b) = board::board_of(board as u8) else {
+    let Some(b) = board::board_of(board) else {
         return Answer::Refused(refusals::SETUP);
     };
     lend_plan(0, board::plan_tuning(b, hz), out)

@@ -10,17 +10,18 @@ use borrow.Author.Tests.{eqb-true, le-leb, leb-false, leb-true, lt-leb, ltb-fals
 use lib.Dec.{eqb, leb, ltb, leb-suc-suc}
 use native.Mathlib.Nat.{add-zero}
 use lib.ListN.{length, get_or}
+use Rattle.std.specs.Prelude.{Some}
 use Rattle.wire.specs.Bytes.{le_bytes, le_value}
 use Rattle.board.specs.declared.Board.{Board}
 use Rattle.board.specs.declared.Board.TheVariants.{Generic, V4}
 use Rattle.board.specs.declared.Path.{Path}
 use Rattle.board.specs.declared.Path.TheVariants.{Hf, Vhf, Uhf}
 use Rattle.board.specs.declared.Plan.{Plan}
-use Rattle.board.specs.declared.Route.TheVariants.{By}
-use Rattle.board.specs.Numbers.{path_number}
+use Rattle.board.specs.Numbers.{path_number, path_of}
 use Rattle.board.specs.Plans.{below_up, in_notch, path_at, board_plan, tuner_hz}
+use Rattle.board.proofs.Numbers.{path_of_number}
 use Rattle.bands.specs.declared.Band.{Band}
-use Rattle.bands.specs.Tables.{ascending, band, band_bytes, band_of, bands_in, bands_of, board_table, built_in, plan_at, plan_by, plan_in, plan, planned, route_of, table_bytes, table_ok}
+use Rattle.bands.specs.Tables.{ascending, band, band_bytes, band_of, bands_in, bands_of, board_table, built_in, plan_at, plan_by, plan_in, plan, planned, table_bytes, table_ok}
 use Rattle.bands.proofs.Laws.{shifted_up}
 use Rattle.bands.proofs.Only.{both}
 
@@ -122,11 +123,6 @@ read_bit : (t : Bool) → eqb (bit t) 1 ≡ t
 read_bit true = refl
 read_bit false = refl
 
-read_route : (p : Path) → route_of (path_number p) ≡ By p
-read_route Hf = refl
-read_route Vhf = refl
-read_route Uhf = refl
-
 module _ (b : Band) (h : fine b ≡ true) (hz : ℕ) (from : b.first ≤ hz) (to : hz ≤ b.last) (word : hz < 18446744073709551616) where
   edge : (i : ℕ) → i < 7 → steady b (get_or edges i 0) ≡ true
   edge i l = each (steady b) edges (both (all (steady b) edges) (says b) h).0 i l
@@ -178,7 +174,7 @@ module _ (b : Band) (h : fine b ≡ true) (hz : ℕ) (from : b.first ≤ hz) (to
   right =
       let l = lands (below_up hz) refl in
       let inverted : eqb b.inverted 1 ≡ below_up hz = ap (λ (n : ℕ). eqb n 1) numbers.1 ∙ read_bit (below_up hz) in
-      let path = ap route_of numbers.2 ∙ read_route (path_at hz) in
+      let path = ap path_of numbers.2 ∙ path_of_number (path_at hz) in
       let notches : eqb b.notch 1 ≡ in_notch hz = ap (λ (n : ℕ). eqb n 1) numbers.3 ∙ read_bit (in_notch hz) in
       sym (shifted_up b hz l.0 l.1) ∙ (λ i. planned 0 (plan (l.2 i) (inverted i) (path i) (notches i)))
 

@@ -1,19 +1,14 @@
 -- Boards from a table. Document 02, #113: "A board is up to 16 bands: first and last Hz, an i64 shift, inverted or not, input path or none, notch or
 -- not. Bands ascend and don't overlap." A table is its bands' bytes end to end, 27 each.
 -- Assumes nothing.
-use Rattle.std.specs.Prelude.{ℕ, zero, suc, ◌/◌, ◌%◌, ◌^◌, Bool, true, false, cond, ◌&&◌, List, [], ◌∷◌, ◌++◌, eqb, leb, ltb, ℤ, pos, negsuc, ◌+ℤ◌, length, get_or, take, drop}
+use Rattle.std.specs.Prelude.{ℕ, zero, suc, ◌/◌, ◌%◌, ◌^◌, Bool, true, false, cond, ◌&&◌, List, [], ◌∷◌, ◌++◌, eqb, leb, ltb, ℤ, pos, negsuc, ◌+ℤ◌, length, get_or, take, drop, Option, Some, None}
 use Rattle.std.specs.Int.{w64}
 use Rattle.std.proofs.Common.{to_z}
 use Rattle.wire.specs.Bytes.{le_bytes, le_value}
+use Rattle.board.specs.declared.Path.{Path}
 use Rattle.board.specs.declared.Board.{Board}
 use Rattle.board.specs.declared.Board.TheVariants.{Generic, V4}
-use Rattle.board.specs.declared.BoardRead.{BoardRead}
-use Rattle.board.specs.declared.BoardRead.TheVariants as board_read
-use Rattle.board.specs.declared.PathRead.{PathRead}
-use Rattle.board.specs.declared.PathRead.TheVariants as path-read
 use Rattle.board.specs.declared.Plan.{Plan}
-use Rattle.board.specs.declared.Route.{Route}
-use Rattle.board.specs.declared.Route.TheVariants.{By, Direct}
 use Rattle.board.specs.Numbers.{path_of}
 use Rattle.refusals.specs.declared.Answer.TheVariants.{Refused}
 use Rattle.refusals.specs.Lent.{Given, given, lent_to}
@@ -62,15 +57,7 @@ table_ok s = (eqb (length s % 27) 0 && leb (length s) 432) && ascending 0 (bands
 
 -- ---- the plan by a table
 
--- path 0 HF, 1 VHF, 2 UHF, 3 none
-abbrev pub route_by : PathRead → Route
-route_by (path-read.Is p) = By p
-route_by path-read.Refused = Direct
-
-abbrev pub route_of : ℕ → Route
-route_of number = route_by (path_of number)
-
-abbrev pub plan : ℕ → Bool → Route → Bool → Plan
+abbrev pub plan : ℕ → Bool → Option Path → Bool → Plan
 plan hz inverted path notch = record { hz = hz; inverted = inverted; path = path; notch = notch }
 
 abbrev pub planned : ℕ → Plan → Planned
@@ -78,13 +65,14 @@ planned refusal p = record { refusal = refusal; plan = p }
 
 -- no plan: not inverted, no path, no notch
 abbrev pub refused : ℕ → Planned
-refused number = planned number (plan 0 false Direct false)
+refused number = planned number (plan 0 false None false)
 
 abbrev pub holds : Band → ℕ → Bool
 holds b hz = leb b.first hz && leb hz b.last
 
+-- path 0 HF, 1 VHF, 2 UHF, 3 none
 abbrev pub tuned : Band → ℕ → Planned
-tuned b hz = planned 0 (plan hz (eqb b.inverted 1) (route_of b.path) (eqb b.notch 1))
+tuned b hz = planned 0 (plan hz (eqb b.inverted 1) (path_of b.path) (eqb b.notch 1))
 
 -- "2 for a frequency .. shifted below 0 or past u64"
 abbrev pub landed : Band → ℤ → Planned
@@ -125,6 +113,6 @@ board_table b = table_bytes (built_in b)
 abbrev pub table_lent : Board → List ℕ → Given
 table_lent b out = lent_to 0 (length (board_table b)) (board_table b) out
 
-unfoldable pub table_into : BoardRead → List ℕ → Given
-table_into board_read.Refused out = given (Refused SETUP) out
-table_into (board_read.Is b) out = table_lent b out
+unfoldable pub table_into : Option Board → List ℕ → Given
+table_into None out = given (Refused SETUP) out
+table_into (Some b) out = table_lent b out

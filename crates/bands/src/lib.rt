@@ -7,9 +7,9 @@ ghost use Rattle.std.specs.Prelude.{◌≡◌, ◌+◌, ◌≤◌, length, drop}
 ghost use Rattle.board.specs.Numbers.{board_of};
 ghost use Rattle.board.specs.declared.Board.TheVariants.{Generic, V4};
 ghost use Rattle.refusals.specs.Lent.{given};
-ghost use Rattle.bands.specs.Tables.{ascending, band_of, bands_of, fits_of, holds, plan_at, plan_by, plan_in, refused, route_of, table_into, table_lent, table_ok, tuned};
+ghost use Rattle.bands.specs.Tables.{ascending, band_of, bands_of, fits_of, holds, plan_at, plan_by, plan_in, refused, table_into, table_lent, table_ok, tuned};
 
-use board::{Board, BoardRead, PathRead, Plan, Route};
+use board::{Board, Plan};
 use refusals::Answer;
 
 // The bytes of a band, and of the sixteen that a table has at most; where each number stands, the first first.
@@ -71,18 +71,9 @@ fn refuse(number: u8) -> Planned
         plan: Plan {
             hz: 0,
             inverted: false,
-            path: Route::Direct,
+            path: None,
             notch: false,
         },
-    }
-}
-
-fn route_of(number: u8) -> Route
-    ensures { result ≡ route_of number }
-{
-    match board::path_of(number) {
-        PathRead::Is(p) => Route::By(p),
-        PathRead::Refused => Route::Direct,
     }
 }
 
@@ -107,7 +98,7 @@ impl Band {
             plan: Plan {
                 hz: hz,
                 inverted: self.inverted == 1,
-                path: route_of(self.path),
+                path: board::path_of(self.path),
                 notch: self.notch == 1,
             },
         }
@@ -210,17 +201,13 @@ fn v4_table(out: &mut [u8]) -> Answer
 }
 
 // The table of a board that is built in, at the start of a lent slice; the value is its length. A number that names no board is refused 1, one past a byte too.
+#[tactic(auto, unfolding(crate::specs::Tables::table_into))]
 pub fn board_table(board: u64, out: &mut [u8]) -> Answer
     ensures { given result out.new ≡ table_into (board_of board) out.old }
 {
-    if 255 < board {
-        return Answer::Refused(refusals::SETUP);
-    }
-    let BoardRead::Is(b) = board::board_of(board as u8) else {
-        return Answer::Refused(refusals::SETUP);
-    };
-    match b {
-        Board::Generic => generic_table(out),
-        Board::V4 => v4_table(out),
+    match board::board_of(board) {
+        Some(Board::Generic) => generic_table(out),
+        Some(Board::V4) => v4_table(out),
+        None => Answer::Refused(refusals::SETUP),
     }
 }

@@ -3,16 +3,16 @@
 use mathlib.Core.Path.{◌≡◌, refl}
 use mathlib.Core.Bool.{true, false}
 use mathlib.Core.List.{[], ◌∷◌, map}
+use Rattle.std.specs.Prelude.{Some}
 use Rattle.board.specs.declared.Path.TheVariants.{Hf, Vhf, Uhf}
 use Rattle.board.specs.declared.Board.TheVariants.{V4}
-use Rattle.board.specs.declared.Route.TheVariants.{By}
 use Rattle.board.specs.Plans.{in_notch, path_at, board_plan, tuner_hz}
 
-pub last_below : board_plan V4 28_799_999 ≡ record { hz = 57_599_999; inverted = true; path = By Hf; notch = false }
+pub last_below : board_plan V4 28_799_999 ≡ record { hz = 57_599_999; inverted = true; path = Some Hf; notch = false }
 unfolding board_plan tuner_hz path_at
 last_below = refl
 
-pub first_above : board_plan V4 28_800_000 ≡ record { hz = 28_800_000; inverted = false; path = By Vhf; notch = false }
+pub first_above : board_plan V4 28_800_000 ≡ record { hz = 28_800_000; inverted = false; path = Some Vhf; notch = false }
 unfolding board_plan tuner_hz path_at
 first_above = refl
 

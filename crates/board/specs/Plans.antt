@@ -1,12 +1,11 @@
 -- The plan for a frequency on a board: src/tuner.rs, `plan_tuning` for the generic board and the V4, at every hz.
 -- Document 01, "Worked numbers": "V4: 28,799,999 goes to 57,599,999 inverted; 28,800,000 stays."
 -- Assumes nothing.
-use Rattle.std.specs.Prelude.{ℕ, ◌+◌, Bool, false, cond, ◌&&◌, ◌||◌, ltb, leb}
+use Rattle.std.specs.Prelude.{ℕ, ◌+◌, Bool, false, cond, ◌&&◌, ◌||◌, ltb, leb, Some, None}
 use Rattle.board.specs.declared.Board.{Board}
 use Rattle.board.specs.declared.Board.TheVariants.{Generic, V4}
 use Rattle.board.specs.declared.Path.{Path}
 use Rattle.board.specs.declared.Path.TheVariants.{Hf, Vhf, Uhf}
-use Rattle.board.specs.declared.Route.TheVariants.{By, Direct}
 use Rattle.board.specs.declared.Plan.{Plan}
 
 -- the V4's upconverter takes what is below 28.8 MHz up by 28.8 MHz, and turns the spectrum round
@@ -28,5 +27,5 @@ in_notch hz =
     || (leb 172_000_000 hz && leb hz 242_000_000)
 
 unfoldable pub board_plan : Board → ℕ → Plan
-board_plan Generic hz = record { hz = hz; inverted = false; path = Direct; notch = false }
-board_plan V4 hz = record { hz = tuner_hz hz; inverted = below_up hz; path = By (path_at hz); notch = in_notch hz }
+board_plan Generic hz = record { hz = hz; inverted = false; path = None; notch = false }
+board_plan V4 hz = record { hz = tuner_hz hz; inverted = below_up hz; path = Some (path_at hz); notch = in_notch hz }

@@ -8,47 +8,28 @@ ghost use Rattle.board.specs.Plans.{in_notch, path_at, board_plan, tuner_hz};
 ghost use Rattle.board.specs.Numbers.{board_number, board_of, path_number, path_of, route_number};
 
 // The Rust's `BoardConfig`.
-#[derive(Clone, Copy)]
+#[derive(Clone, Copy, PartialEq, Eq)]
 pub enum Board {
     Generic,
     V4,
 }
 
 // The Rust's `InputPath`.
-#[derive(Clone, Copy)]
+#[derive(Clone, Copy, PartialEq, Eq)]
 pub enum Path {
     Hf,
     Vhf,
     Uhf,
 }
 
-// The Rust's `Option<InputPath>`: a board without a triplexer has no path to choose.
-#[derive(Clone, Copy)]
-pub enum Route {
-    By(Path),
-    Direct,
-}
-
-// The Rust's `TuningPlan`: the frequency for the tuner, whether the spectrum is turned round, the path, whether a notch holds it.
-#[derive(Clone, Copy)]
+// The Rust's `TuningPlan`: the frequency for the tuner, whether the spectrum is turned round, the path, whether a notch holds it. A board without a
+// triplexer has no path to choose.
+#[derive(Clone, Copy, PartialEq, Eq)]
 pub struct Plan {
     pub hz: u64,
     pub inverted: bool,
-    pub path: Route,
+    pub path: Option<Path>,
     pub notch: bool,
-}
-
-// What a number from a host names.
-#[derive(Clone, Copy)]
-pub enum BoardRead {
-    Is(Board),
-    Refused,
-}
-
-#[derive(Clone, Copy)]
-pub enum PathRead {
-    Is(Path),
-    Refused,
 }
 
 fn tuner_hz(hz: u64) -> u64
@@ -72,13 +53,10 @@ fn input_path(hz: u64) -> Path
     Path::Uhf
 }
 
-// `|` and `&` where the Rust has `||` and `&&`: every operand is a comparison, so all are looked at.
 fn in_notch(hz: u64) -> bool
     ensures { result ≡ in_notch hz }
 {
-    (hz <= 2_200_000)
-        | ((85_000_000 <= hz) & (hz <= 112_000_000))
-        | ((172_000_000 <= hz) & (hz <= 242_000_000))
+    matches!(hz, 0..=2_200_000 | 85_000_000..=112_000_000 | 172_000_000..=242_000_000)
 }
 
 pub fn plan_tuning(board: Board, hz: u64) -> Plan
@@ -88,63 +66,69 @@ pub fn plan_tuning(board: Board, hz: u64) -> Plan
         Board::Generic => Plan {
             hz: hz,
             inverted: false,
-            path: Route::Direct,
+            path: None,
             notch: false,
         },
         Board::V4 => Plan {
             hz: tuner_hz(hz),
             inverted: hz < 28_800_000,
-            path: Route::By(input_path(hz)),
+            path: Some(input_path(hz)),
             notch: in_notch(hz),
         },
     }
 }
 
-pub fn board_number(board: Board) -> u8
-    ensures { result ≡ board_number board }
-{
-    match board {
-        Board::Generic => 0,
-        Board::V4 => 1,
+impl From<Board> for u8 {
+    ghost from_gives = { λ board number. number ≡ board_number board };
+
+    fn from(board: Board) -> u8 {
+        match board {
+            Board::Generic => 0,
+            Board::V4 => 1,
+        }
     }
 }
 
-pub fn path_number(path: Path) -> u8
-    ensures { result ≡ path_number path }
+impl From<Path> for u8 {
+    ghost from_gives = { λ path number. number ≡ path_number path };
+
+    fn from(path: Path) -> u8 {
+        match path {
+            Path::Hf => 0,
+            Path::Vhf => 1,
+            Path::Uhf => 2,
+        }
+    }
+}
+
+// The number of a plan's path.
+pub fn route_number(path: Option<Path>) -> u8
+    ensures { result ≡ route_number path }
 {
     match path {
-        Path::Hf => 0,
-        Path::Vhf => 1,
-        Path::Uhf => 2,
+        Some(p) => u8::from(p),
+        None => 3,
     }
 }
 
-pub fn route_number(route: Route) -> u8
-    ensures { result ≡ route_number route }
-{
-    match route {
-        Route::By(p) => path_number(p),
-        Route::Direct => 3,
-    }
-}
-
-pub fn board_of(number: u8) -> BoardRead
+// What a number from a host names, of any size.
+pub fn board_of(number: u64) -> Option<Board>
     ensures { result ≡ board_of number }
 {
     match number {
-        0 => BoardRead::Is(Board::Generic),
-        1 => BoardRead::Is(Board::V4),
-        _ => BoardRead::Refused,
+        0 => Some(Board::Generic),
+        1 => Some(Board::V4),
+        _ => None,
     }
 }
 
-pub fn path_of(number: u8) -> PathRead
+pub fn path_of(number: u8) -> Option<Path>
     ensures { result ≡ path_of number }
 {
     match number {
-        0 => PathRead::Is(Path::Hf),
-        1 => PathRead::Is(Path::Vhf),
-        2 => PathRead::Is(Path::Uhf),
-        _ => PathRead::Refused,
+        0 => Some(Path::Hf),
+        1 => Some(Path::Vhf),
+        2 => Some(Path::Uhf),
+        _ => None,
     }
 }

@@ -8,12 +8,11 @@ use borrow.Author.Tests.{eq-eqb, eqb-false, ne_eqb}
 use lib.Dec.{eqb, leb}
 use lib.ListN.{drop, length, length-drop, take}
 use lib.Seq.{take_all}
+use Rattle.std.specs.Prelude.{Option, Some, None}
 use Rattle.transcript.specs.declared.Entry.{Entry}
 use Rattle.bands.specs.declared.Planned.{Planned}
 use Rattle.board.specs.declared.Path.{Path}
 use Rattle.board.specs.declared.Plan.{Plan}
-use Rattle.board.specs.declared.Route.{Route}
-use Rattle.board.specs.declared.Route.TheVariants.{By, Direct}
 use Rattle.refusals.specs.declared.Answer.{Answer}
 use Rattle.refusals.specs.declared.Answer.TheVariants.{Refused}
 use Rattle.chip.specs.declared.Flow.{Flow}
@@ -48,11 +47,11 @@ use Rattle.boards.specs.Hops.{ddc_part, heard_by, hop_kept, hop_refusal, hop_res
 -- ---- the parts, by what they go by
 
 module _ {L : Type 0} (put : L → ℕ → Entry → L) (os : List ℕ) where
-  pub no_path : (kind : Kind) (route : Route) (rs : List ℕ) (w : Line L) → kind ≡ R820T → w ≡ run put os (path_part kind route rs) w
+  pub no_path : (kind : Kind) (route : Option Path) (rs : List ℕ) (w : Line L) → kind ≡ R820T → w ≡ run put os (path_part kind route rs) w
   unfolding run
   no_path kind route rs w k = rw k
 
-  pub direct : (kind : Kind) (route : Route) (rs : List ℕ) (w : Line L) → kind ≡ R828D → route ≡ Direct → w ≡ run put os (path_part kind route rs) w
+  pub direct : (kind : Kind) (route : Option Path) (rs : List ℕ) (w : Line L) → kind ≡ R828D → route ≡ None → w ≡ run put os (path_part kind route rs) w
   unfolding run
   direct kind route rs w k r = rw (k, r)
 
@@ -60,7 +59,7 @@ module _ {L : Type 0} (put : L → ℕ → Entry → L) (os : List ℕ) where
   unfolding run
   no_ddc by inverted w e = rw e
 
-pub switched : (kind : Kind) (route : Route) (path : Path) (rs : List ℕ) → kind ≡ R828D → route ≡ By path → board_path_steps R828D path rs ≡ path_part kind route rs
+pub switched : (kind : Kind) (route : Option Path) (path : Path) (rs : List ℕ) → kind ≡ R828D → route ≡ Some path → board_path_steps R828D path rs ≡ path_part kind route rs
 switched kind route path rs k r = rw (k, r)
 
 pub planned_ddc : (by : Pll) (p : _) (inverted : Bool) → by ≡ pll.Planned p → ddc_steps inverted ≡ ddc_part by inverted
@@ -91,10 +90,10 @@ none_eight : every eight [] ≡ true
 unfolding every
 none_eight = refl
 
-path_eight : (kind : Kind) (route : Route) (rs : List ℕ) → every eight (path_part kind route rs) ≡ true
+path_eight : (kind : Kind) (route : Option Path) (rs : List ℕ) → every eight (path_part kind route rs) ≡ true
 path_eight R820T route rs = none_eight
-path_eight R828D Direct rs = none_eight
-path_eight R828D (By path) rs = board_path_eight R828D path rs
+path_eight R828D None rs = none_eight
+path_eight R828D (Some path) rs = board_path_eight R828D path rs
 
 ddc_part_eight : (by : Pll) (inverted : Bool) → every eight (ddc_part by inverted) ≡ true
 ddc_part_eight pll.Refused inverted = none_eight

@@ -5,10 +5,10 @@ use mathlib.Core.Path.{◌≡◌, refl}
 use mathlib.Core.Bool.{Bool}
 use mathlib.Core.List.{List}
 use lib.ListN.{length}
+use Rattle.std.specs.Prelude.{Option, Some, None}
+use Rattle.board.specs.declared.Path.{Path}
 use Rattle.board.specs.declared.Path.TheVariants.{Vhf}
 use Rattle.board.specs.declared.Plan.{Plan}
-use Rattle.board.specs.declared.Route.{Route}
-use Rattle.board.specs.declared.Route.TheVariants.{By, Direct}
 use Rattle.device.specs.Accesses.{access_step}
 use Rattle.device.specs.Gpio.{bit_steps, output_steps}
 use Rattle.pll.specs.declared.Kind.TheVariants.{R828D}
@@ -17,14 +17,14 @@ use Rattle.tuning.specs.Program.{inner_steps}
 use Rattle.boards.specs.Hops.{hop_steps}
 
 module _ (address hz : ℕ) (inverted notch : Bool) (rs : List ℕ) where
-  abbrev by : Route → Plan
+  abbrev by : Option Path → Plan
   by route = record { hz = hz; inverted = inverted; path = route; notch = notch }
 
-  pub thirteen : length (hop_steps R828D address (by Direct) pll.Refused rs) ≡ 13
+  pub thirteen : length (hop_steps R828D address (by None) pll.Refused rs) ≡ 13
   unfolding inner_steps
   thirteen = refl
 
   -- after the board path's ten
-  pub twenty_three : length (hop_steps R828D address (by (By Vhf)) pll.Refused rs) ≡ 23
+  pub twenty_three : length (hop_steps R828D address (by (Some Vhf)) pll.Refused rs) ≡ 23
   unfolding inner_steps output_steps bit_steps access_step
   twenty_three = refl

@@ -1,11 +1,10 @@
 -- The board-level tune. Document 02, #113: "Add the board-level tune: plan, notch, board path where there is one, tune, then the DDC sync byte, in that
 -- order." "Demands 2 and 3 cover it as another call, of at most 64 entries and 38 replies."
 -- Assumes nothing.
-use Rattle.std.specs.Prelude.{ℕ, Bool, ◌&&◌, cond, List, [], ◌++◌, eqb, drop, length}
+use Rattle.std.specs.Prelude.{ℕ, Bool, ◌&&◌, cond, List, [], ◌++◌, eqb, drop, length, Option, Some, None}
 use Rattle.bands.specs.declared.Planned.{Planned}
+use Rattle.board.specs.declared.Path.{Path}
 use Rattle.board.specs.declared.Plan.{Plan}
-use Rattle.board.specs.declared.Route.{Route}
-use Rattle.board.specs.declared.Route.TheVariants.{By, Direct}
 use Rattle.refusals.specs.declared.Answer.{Answer}
 use Rattle.refusals.specs.declared.Answer.TheVariants.{Done, Refused, Stopped}
 use Rattle.chip.specs.declared.LockTries.{LockTries}
@@ -29,16 +28,16 @@ use Rattle.r82xx.specs.Record.{sound, with_notch}
 use Rattle.tuning.specs.Program.{tune_steps, tune_answer}
 
 -- "Here the board path is taken only if the kind is R828D", and where the plan has one
-abbrev pub path_part : Kind → Route → List ℕ → List Step
+abbrev pub path_part : Kind → Option Path → List ℕ → List Step
 path_part R820T route rs = []
-path_part R828D Direct rs = []
-path_part R828D (By path) rs = board_path_steps R828D path rs
+path_part R828D None rs = []
+path_part R828D (Some path) rs = board_path_steps R828D path rs
 
 -- replies go in the order of reading: the path's three only where it is taken
-abbrev pub path_replies : Kind → Route → ℕ
+abbrev pub path_replies : Kind → Option Path → ℕ
 path_replies R820T route = 0
-path_replies R828D Direct = 0
-path_replies R828D (By path) = 3
+path_replies R828D None = 0
+path_replies R828D (Some path) = 3
 
 -- the DDC byte goes by the PLL's plan, not by how the steps went: a refusal of the PLL ends the call without one
 abbrev pub ddc_part : Pll → Bool → List Step

@@ -14,7 +14,7 @@ ghost use Rattle.bands.specs.Tables.{plan_by};
 ghost use Rattle.boards.specs.Hops.{ddc_part, heard_by, hop_kept, hop_refusal, hop_result, hop_lock_tries, hop_steps, path_part, path_replies};
 
 use bands::Planned;
-use board::{Plan, Route};
+use board::{Path, Plan};
 use chip::Flow;
 use driver::Driver;
 use pll::{Kind, Pll};
@@ -37,7 +37,7 @@ pub struct Hopped {
 fn path_part(
     f: Flow,
     kind: Kind,
-    route: Route,
+    route: Option<Path>,
     outcomes: &[u8],
     replies: &[u8],
     room: &mut [u8],
@@ -49,21 +49,21 @@ fn path_part(
     match kind {
         Kind::R820T => f,
         Kind::R828D => match route {
-            Route::Direct => f,
-            Route::By(path) => driver::path_steps(f, Kind::R828D, path, outcomes, replies, room),
+            None => f,
+            Some(path) => driver::path_steps(f, Kind::R828D, path, outcomes, replies, room),
         },
     }
 }
 
 // How many of the replies it takes.
-fn path_replies(kind: Kind, route: Route) -> usize
+fn path_replies(kind: Kind, route: Option<Path>) -> usize
     ensures { (result ≡ path_replies kind route) × (result ≤ 3) }
 {
     match kind {
         Kind::R820T => 0,
         Kind::R828D => match route {
-            Route::Direct => 0,
-            Route::By(_) => 3,
+            None => 0,
+            Some(_) => 3,
         },
     }
 }

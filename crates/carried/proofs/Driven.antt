@@ -12,10 +12,10 @@ use lib.IntN.{ℤ, pos}
 use lib.ListN.{length, replicate, take}
 use mir.Syntax.{w32}
 use mir.Val.{SFits}
+use Rattle.std.specs.Prelude.{Option, Some, None}
 use Rattle.bands.specs.declared.Planned.{Planned}
 use Rattle.bands.specs.Tables.{plan_by}
-use Rattle.board.specs.declared.BoardRead.{BoardRead}
-use Rattle.board.specs.declared.BoardRead.TheVariants as board_read
+use Rattle.board.specs.declared.Board.{Board}
 use Rattle.board.specs.Numbers.{board_of}
 use Rattle.boards.specs.Hops.{heard_by, hop_kept, hop_result, hop_row}
 use Rattle.refusals.specs.declared.Answer.{Answer}
@@ -187,10 +187,10 @@ module _ (d : Driver) (r : RangedDriver d) (t : Tuner) (c : Called Both) (s : Se
 
 -- ---- the makings and the calls
 
-pub made_driver : (board : BoardRead) (nominal : ℕ) (ppm : ℤ) (frequency rate : ℕ) → SFits w32 ppm → frequency < 18_446_744_073_709_551_616 → rate < 4_294_967_296
+pub made_driver : (board : Option Board) (nominal : ℕ) (ppm : ℤ) (frequency rate : ℕ) → SFits w32 ppm → frequency < 18_446_744_073_709_551_616 → rate < 4_294_967_296
     → number_of (made_on board nominal ppm frequency rate).answer ≡ 0 → RangedDriver (made_on board nominal ppm frequency rate).driver
-made_driver board_read.Refused nominal ppm frequency rate p f r h = absurd (omega arith)
-made_driver (board_read.Is board) nominal ppm frequency rate p f r h = go (leb 1 nominal) (leb nominal 4_294_967_295) refl (leb 1 (xtal_by nominal ppm)) refl h
+made_driver None nominal ppm frequency rate p f r h = absurd (omega arith)
+made_driver (Some board) nominal ppm frequency rate p f r h = go (leb 1 nominal) (leb nominal 4_294_967_295) refl (leb 1 (xtal_by nominal ppm)) refl h
   where
     go : (a b : Bool) → leb nominal 4_294_967_295 ≡ b → (x : Bool) → leb 1 (xtal_by nominal ppm) ≡ x
         → number_of (cond (a && b) (cond x (made (Done 0) (driver board nominal ppm frequency rate 0)) (nothing_made CORRECTION)) (nothing_made SETUP)).answer ≡ 0

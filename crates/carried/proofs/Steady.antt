@@ -13,10 +13,8 @@ use lib.IntN.{ℤ, pos, negsuc, ◌+ℤ◌}
 use lib.ListN.{length, length-append}
 use mir.Syntax.{w64}
 use mir.Val.{to_z}
-use Rattle.board.specs.declared.PathRead.{PathRead}
-use Rattle.board.specs.declared.PathRead.TheVariants as path-read
-use Rattle.board.specs.declared.Route.{Route}
-use Rattle.board.specs.declared.Route.TheVariants as route
+use Rattle.std.specs.Prelude.{Option, Some, None}
+use Rattle.board.specs.declared.Path.{Path}
 use Rattle.board.specs.Numbers.{path_of}
 use Rattle.bands.specs.declared.Band.{Band}
 use Rattle.bands.specs.Tables.{bands_of, holds as within, landed, plan_at, plan_by, plan_in, refused, table_ok, tuned}
@@ -235,11 +233,11 @@ xtal_small nominal ppm = go (corrected_of nominal ppm) refl
     go (corrected.Is v) e = rw e (omega (arith, in_range_lem nominal ppm v e))
     go corrected.Refused e = rw e (omega arith)
 
-pub hop_starts : (kind : Kind) (r : Route) (rs : List ℕ) (ss : List Step) → starts (path_part kind r rs ++ (Open ∷ ss)) ≡ true
+pub hop_starts : (kind : Kind) (r : Option Path) (rs : List ℕ) (ss : List Step) → starts (path_part kind r rs ++ (Open ∷ ss)) ≡ true
 unfolding output_steps access_step
 hop_starts R820T r rs ss = refl
-hop_starts R828D route.Direct rs ss = refl
-hop_starts R828D (route.By path) rs ss = refl
+hop_starts R828D None rs ss = refl
+hop_starts R828D (Some path) rs ss = refl
 
 module _ (t : Tuner) (f : Fielded t) where
   moved : (c : Chip) → Fielded (with_chip t c)
@@ -270,15 +268,15 @@ module _ (t : Tuner) (f : Fielded t) where
   unfolding gain_row
   gain_steady k = bracket_steady 5 (gain_updates k) _ t (with_gain t (gain_of (step_at k))) refl f (gained (step_at k))
 
-  path_steady : (p : PathRead) (kind : Kind) → Steady Fielded t (path_row p kind t)
-  path_steady path-read.Refused kind = resting t (Refused SETUP) refl (λ e. refl) f
-  path_steady (path-read.Is path) R820T = resting t (Done 0) refl (λ e. refl) f
-  path_steady (path-read.Is path) R828D = bracket_steady 2 (path_updates path) (Done 0) t t refl f f
+  path_steady : (p : Option Path) (kind : Kind) → Steady Fielded t (path_row p kind t)
+  path_steady None kind = resting t (Refused SETUP) refl (λ e. refl) f
+  path_steady (Some path) R820T = resting t (Done 0) refl (λ e. refl) f
+  path_steady (Some path) R828D = bracket_steady 2 (path_updates path) (Done 0) t t refl f f
 
-  board_steady : (p : PathRead) (rs : List ℕ) → Steady Fielded t (board_row p rs t)
+  board_steady : (p : Option Path) (rs : List ℕ) → Steady Fielded t (board_row p rs t)
   unfolding output_steps access_step
-  board_steady path-read.Refused rs = resting t (Refused SETUP) refl (λ e. refl) f
-  board_steady (path-read.Is path) rs = stepping 0 10 3 rs (Done 0) (board_path_steps t.kind path rs) _ refl refl (λ tr. moved tr.chip)
+  board_steady None rs = resting t (Refused SETUP) refl (λ e. refl) f
+  board_steady (Some path) rs = stepping 0 10 3 rs (Done 0) (board_path_steps t.kind path rs) _ refl refl (λ tr. moved tr.chip)
 
   pub whole_late : (plan : Pll) (hz : ℕ) → late (tune_answer plan hz) ≡ true
   whole_late pll.Refused hz = refl
@@ -331,15 +329,15 @@ no_replies : every is_byte [] ≡ true
 unfolding every
 no_replies = refl
 
-board_given : (p : PathRead) (rs : List ℕ) (t : Tuner) → every is_byte rs ≡ true → every is_byte (replies_of (board_row p rs t)) ≡ true
-board_given path-read.Refused rs t h = no_replies
-board_given (path-read.Is path) rs t h = h
+board_given : (p : Option Path) (rs : List ℕ) (t : Tuner) → every is_byte rs ≡ true → every is_byte (replies_of (board_row p rs t)) ≡ true
+board_given None rs t h = no_replies
+board_given (Some path) rs t h = h
 
-path_given : (p : PathRead) (kind : Kind) (t : Tuner) → every is_byte (replies_of (path_row p kind t)) ≡ true
+path_given : (p : Option Path) (kind : Kind) (t : Tuner) → every is_byte (replies_of (path_row p kind t)) ≡ true
 unfolding bracket
-path_given path-read.Refused kind t = no_replies
-path_given (path-read.Is path) R820T t = no_replies
-path_given (path-read.Is path) R828D t = no_replies
+path_given None kind t = no_replies
+path_given (Some path) R820T t = no_replies
+path_given (Some path) R828D t = no_replies
 
 correction_given : (b : Bool) (u v : Both) (x y : Answer) → every is_byte (replies_of (tuner_part (cond b (Still u x) (Still v y)))) ≡ true
 correction_given true u v x y = no_replies

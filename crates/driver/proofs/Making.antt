@@ -4,9 +4,8 @@ use Prim.Native.Nat.{ℕ, ◌≤◌, ◌<◌}
 use mathlib.Core.Path.{◌≡◌, sym, ap, ◌∙◌}
 use borrow.Author.Tests.{le-leb, lt-leb}
 use lib.IntN.{ℤ}
+use Rattle.std.specs.Prelude.{Option, Some, None}
 use Rattle.board.specs.declared.Board.{Board}
-use Rattle.board.specs.declared.BoardRead.{BoardRead}
-use Rattle.board.specs.declared.BoardRead.TheVariants as board_read
 use Rattle.board.specs.Numbers.{board_of}
 use Rattle.refusals.specs.declared.Answer.TheVariants.{Done, Refused}
 use Rattle.refusals.specs.Table.{SETUP, CORRECTION}
@@ -14,16 +13,16 @@ use Rattle.driver.specs.Record.{driver, driver_of, made, made_on, nothing_made, 
 use Rattle.driver.specs.Calls.{xtal_answer}
 
 -- `new`: the board's number was read as b
-module _ (board nominal : ℕ) (ppm : ℤ) (frequency rate : ℕ) (b : BoardRead) (read : b ≡ board_of board) where
-  pub new_no_board : b ≡ board_read.Refused → nothing_made SETUP ≡ driver_of board nominal ppm frequency rate
+module _ (board nominal : ℕ) (ppm : ℤ) (frequency rate : ℕ) (b : Option Board) (read : b ≡ board_of board) where
+  pub new_no_board : b ≡ None → nothing_made SETUP ≡ driver_of board nominal ppm frequency rate
   unfolding driver_of
   new_no_board e =
-      sym (ap (λ (x : BoardRead). made_on x nominal ppm frequency rate) e) ∙ ap (λ (x : BoardRead). made_on x nominal ppm frequency rate) read
+      sym (ap (λ (x : Option Board). made_on x nominal ppm frequency rate) e) ∙ ap (λ (x : Option Board). made_on x nominal ppm frequency rate) read
 
-  module _ (named : Board) (e : b ≡ board_read.Is named) where
-    on : made_on (board_read.Is named) nominal ppm frequency rate ≡ driver_of board nominal ppm frequency rate
+  module _ (named : Board) (e : b ≡ Some named) where
+    on : made_on (Some named) nominal ppm frequency rate ≡ driver_of board nominal ppm frequency rate
     unfolding driver_of
-    on = sym (ap (λ (x : BoardRead). made_on x nominal ppm frequency rate) e) ∙ ap (λ (x : BoardRead). made_on x nominal ppm frequency rate) read
+    on = sym (ap (λ (x : Option Board). made_on x nominal ppm frequency rate) e) ∙ ap (λ (x : Option Board). made_on x nominal ppm frequency rate) read
 
     pub new_low : nominal < 1 → nothing_made SETUP ≡ driver_of board nominal ppm frequency rate
     new_low h = rw (lt-leb 1 nominal h) at on

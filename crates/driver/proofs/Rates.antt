@@ -6,9 +6,8 @@ use mathlib.Core.List.{List, [], ◌++◌}
 use native.Mathlib.Omega.{arith}
 use lib.Dec.{eqb, leb}
 use lib.ListN.{get_or, length}
+use Rattle.std.specs.Prelude.{Option, Some, None}
 use Rattle.board.specs.declared.Path.{Path}
-use Rattle.board.specs.declared.PathRead.{PathRead}
-use Rattle.board.specs.declared.PathRead.TheVariants as path-read
 use Rattle.bands.specs.declared.Planned.{Planned}
 use Rattle.refusals.specs.declared.Answer.{Answer}
 use Rattle.refusals.specs.declared.Answer.TheVariants.{Done, Refused}
@@ -140,15 +139,15 @@ under table n h = go (eqb table 19) refl
         absurd (omega arith)
 
 -- what a row of the board's path leaves, by the path that was read
-abbrev board_left : PathRead → List ℕ → List ℕ → Tuner → List ℕ → Called Tuner
+abbrev board_left : Option Path → List ℕ → List ℕ → Tuner → List ℕ → Called Tuner
 board_left p os rs t room = left_by (sound t) (board_row p rs t) os t.chip t room
 
 -- the board's path: a number that names none, a refusal, and what it is performed with
-pub path_none : (p : PathRead) (os rs : List ℕ) (t : Tuner) (room : List ℕ) → p ≡ path-read.Refused → called t room 0 (Refused SETUP) ≡ board_left p os rs t room
+pub path_none : (p : Option Path) (os rs : List ℕ) (t : Tuner) (room : List ℕ) → p ≡ None → called t room 0 (Refused SETUP) ≡ board_left p os rs t room
 unfolding left_by
 path_none p os rs t room e = rw e (either_one (sound t) t room)
 
-module _ (p : PathRead) (path : Path) (os rs room : List ℕ) (t : Tuner) (s : Bool) (given : ℕ) (by-path : p ≡ path-read.Is path) (by_tuner : s ≡ sound t)
+module _ (p : Option Path) (path : Path) (os rs room : List ℕ) (t : Tuner) (s : Bool) (given : ℕ) (by-path : p ≡ Some path) (by_tuner : s ≡ sound t)
     (by_all : given ≡ refusal_with s 0 10 3 (length room) (length os) (length rs)) where
   path_number_lem : given ≡ refusal_with (sound t) 0 10 3 (length room) (length os) (length rs)
   path_number_lem = by_all ∙ (λ i. refusal_with (by_tuner i) 0 10 3 (length room) (length os) (length rs))

@@ -1,9 +1,8 @@
 -- The driver's calls, as one definition each. Document 01, "Transcript and script": "sample rate 17, 0; board path 10, 3"; "Refusal numbers";
 -- "The record": "`set_sample_rate` takes both records; the rate is recorded only when all steps are done."
 -- Assumes nothing.
-use Rattle.std.specs.Prelude.{ℕ, ◌&&◌, cond, List, [], eqb, leb, ℤ}
-use Rattle.board.specs.declared.PathRead.{PathRead}
-use Rattle.board.specs.declared.PathRead.TheVariants as path-read
+use Rattle.std.specs.Prelude.{ℕ, ◌&&◌, cond, List, [], eqb, leb, ℤ, Option, Some, None}
+use Rattle.board.specs.declared.Path.{Path}
 use Rattle.board.specs.Numbers.{path_of}
 use Rattle.bands.specs.declared.Planned.{Planned}
 use Rattle.refusals.specs.declared.Answer.{Answer}
@@ -74,9 +73,9 @@ rate_row rate p t d =
     (λ tr. both (retuned t (if_for t.ifreq rate) tr.chip) (rated_by d rate (xtal_of d) tr.progress))
 
 -- "board path 10, 3", on R820T too; a number that names no path is a setup: 1
-abbrev pub board_row : PathRead → List ℕ → Tuner → Course Tuner
-board_row path-read.Refused rs t = Still t (Refused SETUP)
-board_row (path-read.Is path) rs t = Taken 0 10 3 rs (Done 0) (board_path_steps t.kind path rs) (λ tr. with_chip t tr.chip)
+abbrev pub board_row : Option Path → List ℕ → Tuner → Course Tuner
+board_row None rs t = Still t (Refused SETUP)
+board_row (Some path) rs t = Taken 0 10 3 rs (Done 0) (board_path_steps t.kind path rs) (λ tr. with_chip t tr.chip)
 
 -- what they leave, by the outcomes and the room that are lent to them
 unfoldable pub rate_result : ℕ → Planned → List ℕ → Tuner → Driver → List ℕ → Called Both

@@ -1,11 +1,9 @@
 -- The driver's record: how it is made, when it is out of its ranges, and what changes in it. Document 01, "The record": "The driver's record holds
 -- board, nominal (1..4,294,967,295, else 1), ppm, frequency and rate, all given at its making, with 4 for a bad correction."
 -- Assumes nothing.
-use Rattle.std.specs.Prelude.{ℕ, Bool, ◌&&◌, cond, leb, ℤ, pos}
+use Rattle.std.specs.Prelude.{ℕ, Bool, ◌&&◌, cond, leb, ℤ, pos, Option, Some, None}
 use Rattle.board.specs.declared.Board.{Board}
 use Rattle.board.specs.declared.Board.TheVariants.{Generic}
-use Rattle.board.specs.declared.BoardRead.{BoardRead}
-use Rattle.board.specs.declared.BoardRead.TheVariants as board_read
 use Rattle.board.specs.Numbers.{board_of}
 use Rattle.refusals.specs.declared.Answer.{Answer}
 use Rattle.refusals.specs.declared.Answer.TheVariants.{Done, Refused}
@@ -44,9 +42,9 @@ abbrev pub nothing_made : ℕ → Made
 nothing_made number = made (Refused number) (driver Generic 1 (pos 0) 0 0 0)
 
 -- a board by its number (0 generic, 1 V4) that was read: 1, then 4. "At the record's making the true rate is 0"
-abbrev pub made_on : BoardRead → ℕ → ℤ → ℕ → ℕ → Made
-made_on board_read.Refused nominal ppm frequency rate = nothing_made SETUP
-made_on (board_read.Is board) nominal ppm frequency rate =
+abbrev pub made_on : Option Board → ℕ → ℤ → ℕ → ℕ → Made
+made_on None nominal ppm frequency rate = nothing_made SETUP
+made_on (Some board) nominal ppm frequency rate =
     cond (leb 1 nominal && leb nominal 4_294_967_295)
     (cond (leb 1 (xtal_by nominal ppm)) (made (Done 0) (driver board nominal ppm frequency rate 0)) (nothing_made CORRECTION))
     (nothing_made SETUP)

@@ -6,7 +6,6 @@
 
 ghost use Rattle.std.specs.Prelude.{◌≡◌, cond, eqb, [], ◌+◌, ◌*◌, ◌≤◌, ◌<◌, length};
 ghost use Rattle.bands.specs.Tables.{plan_by};
-ghost use Rattle.board.specs.Numbers.{board_of};
 ghost use Rattle.chip.specs.Calls.{called};
 ghost use Rattle.chip.specs.InCode.{in_room, on_room};
 ghost use Rattle.chip.specs.Steps.{closing_owed, run};
@@ -17,7 +16,7 @@ ghost use Rattle.driver.specs.InCode.{correction_answer, correction_refusal, kep
 ghost use Rattle.driver.specs.Calls.{both, board_result, correction_call, rate_argument, rate_result, rated_by, retuned, xtal_answer};
 
 use bands::Planned;
-use board::{Board, BoardRead, Path, PathRead};
+use board::{Board, Path};
 use chip::{Chip, Flow, Progress};
 use pll::Kind;
 use r82xx::Tuner;
@@ -70,15 +69,6 @@ pub fn xtal_by(nominal: u32, ppm: i32) -> u32
         return 0;
     };
     v
-}
-
-fn board_named(number: u64) -> BoardRead
-    ensures { result ≡ board_of number }
-{
-    if 255 < number {
-        return BoardRead::Refused;
-    }
-    board::board_of(number as u8)
 }
 
 fn nothing(number: u8) -> Made
@@ -335,7 +325,7 @@ impl Driver {
     pub fn new(board: u64, nominal: u64, ppm: i32, frequency: u64, rate: u32) -> Made
         ensures { result ≡ driver_of board nominal ppm frequency rate }
     {
-        let BoardRead::Is(named) = board_named(board) else {
+        let Some(named) = board::board_of(board) else {
             return nothing(refusals::SETUP);
         };
         if nominal < 1 {
@@ -452,7 +442,7 @@ pub fn apply_input_path(
     ensures { called result.tuner room.new result.count result.answer
         ≡ board_result path replies.now outcomes.now tuner room.old }
 {
-    let PathRead::Is(by) = board::path_of(path) else {
+    let Some(by) = board::path_of(path) else {
         return r82xx::refused(tuner, refusals::SETUP);
     };
     let whole = r82xx::sound(tuner.nominal, tuner.corrected);

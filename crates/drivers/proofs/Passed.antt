@@ -9,6 +9,7 @@ use borrow.Author.Tests.{eqb-true, lt-ltb, le-ltb, ltb-false}
 use lib.Dec.{eqb, ltb}
 use lib.IntN.{ℤ}
 use lib.ListN.{length}
+use Rattle.std.specs.Prelude.{Option}
 use Rattle.refusals.specs.declared.Answer.{Answer}
 use Rattle.refusals.specs.declared.Answer.TheVariants.{Refused}
 use Rattle.refusals.specs.Table.{SETUP}
@@ -19,7 +20,7 @@ use Rattle.chip.proofs.Laws.{and_left, and_right}
 use Rattle.wire.specs.Parts.{parts_from}
 use Rattle.centre.specs.Centre.{centre_of}
 use Rattle.driver.specs.declared.Driver.{Driver}
-use Rattle.board.specs.declared.PathRead.{PathRead}
+use Rattle.board.specs.declared.Path.{Path}
 use Rattle.board.specs.Numbers.{path_of}
 use Rattle.chip.specs.Courses.{argument_of}
 use Rattle.tuners.specs.Over.{path_refusal}
@@ -164,4 +165,4 @@ module _ (table d t : List ℕ) (dr : DriverRead) (tr : TunerRead) (is-driver : 
 
 -- the board's path
 pub board_path_argued : (rs : List ℕ) (t : Tuner) (path : ℕ) → path_refusal path ≡ argument_of (board_row (path_of path) rs t)
-board_path_argued rs t path = path_argued (λ (p : PathRead). board_row p rs t) refl (λ p. refl) path
+board_path_argued rs t path = path_argued (λ (p : Option Path). board_row p rs t) refl (λ p. refl) path

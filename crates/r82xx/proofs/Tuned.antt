@@ -7,9 +7,8 @@ use native.Mathlib.Omega.{arith}
 use lib.Ieee.{Float, binary32, to_bits}
 use lib.IntN.{ℤ, pos}
 use lib.ListN.{length, replicate}
+use Rattle.std.specs.Prelude.{Option, Some, None}
 use Rattle.board.specs.declared.Path.{Path}
-use Rattle.board.specs.declared.PathRead.{PathRead}
-use Rattle.board.specs.declared.PathRead.TheVariants as path-read
 use Rattle.refusals.specs.declared.Answer.{Answer}
 use Rattle.refusals.specs.declared.Answer.TheVariants.{Done, Refused}
 use Rattle.refusals.specs.Table.{SETUP}
@@ -96,7 +95,7 @@ tune_taken os rs room hz given t plan x s e z p h =
     )
 
 -- the input path's three ways
-abbrev path_left : PathRead → Kind → List ℕ → Tuner → List ℕ → Called Tuner
+abbrev path_left : Option Path → Kind → List ℕ → Tuner → List ℕ → Called Tuner
 path_left p kind os t room = left_by (sound t) (path_row p kind t) os t.chip t room
 
 -- a refusal by 1 is the same whether or not the record is in its ranges
@@ -104,7 +103,7 @@ pub either_one : (b : Bool) (t : Tuner) (room : List ℕ) → called t room 0 (R
 either_one true t room = refl
 either_one false t room = refl
 
-pub path_none : (p : PathRead) (kind : Kind) (os : List ℕ) (t : Tuner) (room : List ℕ) → p ≡ path-read.Refused → called t room 0 (Refused SETUP) ≡ path_left p kind os t room
+pub path_none : (p : Option Path) (kind : Kind) (os : List ℕ) (t : Tuner) (room : List ℕ) → p ≡ None → called t room 0 (Refused SETUP) ≡ path_left p kind os t room
 unfolding left_by
 path_none p kind os t room e = rw e (either_one (sound t) t room)
 
@@ -113,13 +112,13 @@ still_answered : (b : Bool) (t u : Tuner) (room : List ℕ) (value : ℕ) → ca
 still_answered true t u room value = refl
 still_answered false t u room value = refl
 
-pub path_still : (p : PathRead) (path : Path) (kind : Kind) (os : List ℕ) (t : Tuner) (room : List ℕ) (answer : Answer)
-    → p ≡ path-read.Is path → kind ≡ R820T → answer ≡ sound_answer t.nominal t.corrected 0 → called t room 0 answer ≡ path_left p kind os t room
+pub path_still : (p : Option Path) (path : Path) (kind : Kind) (os : List ℕ) (t : Tuner) (room : List ℕ) (answer : Answer)
+    → p ≡ Some path → kind ≡ R820T → answer ≡ sound_answer t.nominal t.corrected 0 → called t room 0 answer ≡ path_left p kind os t room
 unfolding sound_answer left_by
 path_still p path kind os t room answer e k a = ap (called t room 0) a ∙ rw (e, k) (still_answered (sound t) t t room 0)
 
-pub path_by : (p : PathRead) (path : Path) (kind : Kind) (us : Updates) (os : List ℕ) (t : Tuner) (room : List ℕ) (x : Called Tuner)
-    → p ≡ path-read.Is path → kind ≡ R828D → us ≡ listed (path_updates path) → x ≡ bracket_call t t (Done 0) (meant_of us) us.n os t room → x ≡ path_left p kind os t room
+pub path_by : (p : Option Path) (path : Path) (kind : Kind) (us : Updates) (os : List ℕ) (t : Tuner) (room : List ℕ) (x : Called Tuner)
+    → p ≡ Some path → kind ≡ R828D → us ≡ listed (path_updates path) → x ≡ bracket_call t t (Done 0) (meant_of us) us.n os t room → x ≡ path_left p kind os t room
 path_by p path kind us os t room x e k u h = bracket_by t t (Done 0) us (path_updates path) 2 os t room x u (path_two path) h ∙ rw (e, k)
 
 -- a gain's row at a step that was worked out apart

@@ -1,11 +1,10 @@
 -- The table of the tuner's calls: what is called, with its arguments, and one row for each. The methods' contracts cite it, the boundary reads its
 -- refusals from it, and demand 3 is about it. Document 01, "Transcript and script", "Refusal numbers", "The record", "Gain", "PLL".
 -- Assumes nothing.
-use Rattle.std.specs.Prelude.{ℕ, ◌+◌, Bool, cond, List, [], map, Float, pos, length, replicate}
+use Rattle.std.specs.Prelude.{ℕ, ◌+◌, Bool, cond, List, [], map, Float, pos, length, replicate, Option, Some, None}
 use Rattle.std.specs.Float.{binary32}
 use Rattle.std.specs.Float.Ieee.{to_bits}
-use Rattle.board.specs.declared.PathRead.{PathRead}
-use Rattle.board.specs.declared.PathRead.TheVariants as path-read
+use Rattle.board.specs.declared.Path.{Path}
 use Rattle.board.specs.Numbers.{path_of}
 use Rattle.refusals.specs.declared.Answer.{Answer}
 use Rattle.refusals.specs.declared.Answer.TheVariants.{Done, Refused}
@@ -54,10 +53,10 @@ unfoldable pub gain_row : ℕ → Tuner → Course Tuner
 gain_row k t = bracket 5 (gain_updates k) (Done (to_bits binary32 (gain_of (step_at k)))) t (with_gain t (gain_of (step_at k)))
 
 -- "input path 4, 0 (R820T: 0, 0)"; a number that names no path is a setup: 1
-abbrev pub path_row : PathRead → Kind → Tuner → Course Tuner
-path_row path-read.Refused kind t = Still t (Refused SETUP)
-path_row (path-read.Is path) R820T t = Still t (Done 0)
-path_row (path-read.Is path) R828D t = bracket 2 (path_updates path) (Done 0) t t
+abbrev pub path_row : Option Path → Kind → Tuner → Course Tuner
+path_row None kind t = Still t (Refused SETUP)
+path_row (Some path) R820T t = Still t (Done 0)
+path_row (Some path) R828D t = bracket 2 (path_updates path) (Done 0) t t
 
 -- a tuning's program by its plan, and the record that its steps leave
 abbrev pub tune_of : Tuner → Pll → ℕ → List ℕ → List Step

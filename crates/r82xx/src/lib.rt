@@ -20,7 +20,6 @@ ghost use Rattle.r82xx.specs.Calls.{hz_refusal, refusal_of};
 ghost use Rattle.r82xx.specs.Orders.{bracket, lock_kept, quietly, result_of, lock_tries_of, table_of, tune_of};
 ghost use Rattle.r82xx.specs.Orders.Order.{Initialize, Reload, Bandwidth, IfFreq, Gain, GainIndex, InputPath, Tune, Notch, GainTold, IfTold};
 
-use board::PathRead;
 use chip::{Chip, Flow, Progress, Updates};
 use pll::{Kind, Pll};
 use refusals::Answer;
@@ -317,7 +316,7 @@ impl Tuner {
         ensures { called result.tuner room.new result.count result.answer
             ≡ result_of (InputPath path) outcomes.now self room.old }
     {
-        let PathRead::Is(by) = board::path_of(path) else {
+        let Some(by) = board::path_of(path) else {
             return refused(self, refusals::SETUP);
         };
         let kind = self.kind;

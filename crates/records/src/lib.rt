@@ -310,7 +310,7 @@ pub fn driver_image(d: Driver) -> [u8; 29]
 {
     let named = d.board;
     let mut image = [0u8; 29];
-    field(&mut image, 0, board::board_number(named) as u64, 1);
+    field(&mut image, 0, u8::from(named) as u64, 1);
     field(&mut image, REFERENCE, d.nominal as u64, 4);
     field(&mut image, PPM, wire::to_bits(d.ppm) as u64, 4);
     field(&mut image, FREQUENCY, d.frequency, 8);

@@ -9,11 +9,10 @@ use native.Mathlib.Omega.{arith}
 use borrow.Author.Tests.{leb-true}
 use lib.ListN.{length, get_or, take, drop}
 use lib.Seq.{drop-append_seam, drop-drop, get_or-drop, get_or-take, sets, take-add, take-take}
+use Rattle.std.specs.Prelude.{Option, Some, None}
 use Rattle.transcript.specs.Entries.{zeros8}
 use Rattle.board.specs.declared.Path.{Path}
 use Rattle.board.specs.declared.Plan.{Plan}
-use Rattle.board.specs.declared.Route.{Route}
-use Rattle.board.specs.declared.Route.TheVariants.{By, Direct}
 use Rattle.boards.specs.Hops.{ddc_part, hop_steps, path_part, path_replies}
 use Rattle.chip.specs.declared.Update.{Update}
 use Rattle.chip.specs.Entries.{pointer, read_entry, wait}
@@ -216,9 +215,9 @@ module _ (k : ℕ) (qs ps : List ℕ) (known : take k qs ≡ take k ps) where
       quiet : every mute ddc ≡ true
       quiet = mute_ddc by p.inverted
 
-      go : (x : Kind) (route : Route)
+      go : (x : Kind) (route : Option Path)
           → Alike k qs 0 (path_part x route qs ++ (tune_steps address x p.notch by p.hz (drop (path_replies x route) qs) ++ ddc))
           (path_part x route ps ++ (tune_steps address x p.notch by p.hz (drop (path_replies x route) ps) ++ ddc))
       go R820T route = tune_alike 0 address R820T ddc quiet p.notch by p.hz
-      go R828D Direct = tune_alike 0 address R828D ddc quiet p.notch by p.hz
-      go R828D (By path) = path_alike R828D path _ _ (tune_alike 3 address R828D ddc quiet p.notch by p.hz)
+      go R828D None = tune_alike 0 address R828D ddc quiet p.notch by p.hz
+      go R828D (Some path) = path_alike R828D path _ _ (tune_alike 3 address R828D ddc quiet p.notch by p.hz)

@@ -5,9 +5,9 @@ use mathlib.Core.Bool.{Bool, true, false, ◌&&◌, cond}
 use mathlib.Core.List.{List, [], ◌++◌, append-nil}
 use lib.Dec.{eqb, leb}
 use lib.ListN.{length, take}
+use Rattle.std.specs.Prelude.{Option, Some, None}
 use Rattle.bands.specs.Tables.{plan_by}
-use Rattle.board.specs.declared.PathRead.{PathRead}
-use Rattle.board.specs.declared.PathRead.TheVariants as path-read
+use Rattle.board.specs.declared.Path.{Path}
 use Rattle.board.specs.Numbers.{path_of}
 use Rattle.refusals.specs.declared.Answer.{Answer}
 use Rattle.refusals.specs.declared.Answer.TheVariants.{Refused}
@@ -105,11 +105,11 @@ pub kin_refl : (k : ℕ) (all others : List ℕ) (R : Type 0) (row : Course R) �
 kin_refl k all others R (Still next answer) h = still next answer
 kin_refl k all others R (Taken argument n m rs whole ss keep) h = moved argument n m rs rs whole ss ss keep (λ l. refl) (alike_refl ss h)
 
-mute_row : (p : PathRead) (kind : Kind) (t : Tuner) → every mute (steps_of (path_row p kind t)) ≡ true
+mute_row : (p : Option Path) (kind : Kind) (t : Tuner) → every mute (steps_of (path_row p kind t)) ≡ true
 unfolding every bracket
-mute_row path-read.Refused kind t = refl
-mute_row (path-read.Is path) R820T t = refl
-mute_row (path-read.Is path) R828D t = mute_bracket (path_updates path)
+mute_row None kind t = refl
+mute_row (Some path) R820T t = refl
+mute_row (Some path) R828D t = mute_bracket (path_updates path)
 
 mute_still : (b : Bool) (u v : Both) (x y : Answer) → every mute (steps_of (tuner_part (cond b (Still u x) (Still v y)))) ≡ true
 unfolding every
@@ -138,9 +138,9 @@ module _ (k : ℕ) (qs ps : List ℕ) (known : take k qs ≡ take k ps) where
   whole_of ss ts a =
       subst (λ (x : List Step). Alike k qs 0 x ts) (append-nil ss) (subst (λ (x : List Step). Alike k qs 0 (ss ++ []) x) (append-nil ts) a)
 
-  board_kin : (p : PathRead) (t : Tuner) → Kin k qs ps Tuner (board_row p qs t) (board_row p ps t)
-  board_kin path-read.Refused t = still t (Refused SETUP)
-  board_kin (path-read.Is path) t = moved _ _ _ qs ps _ _ _ _ (λ l. l) (whole_of _ _ (path_alike k qs ps known t.kind path [] [] none))
+  board_kin : (p : Option Path) (t : Tuner) → Kin k qs ps Tuner (board_row p qs t) (board_row p ps t)
+  board_kin None t = still t (Refused SETUP)
+  board_kin (Some path) t = moved _ _ _ qs ps _ _ _ _ (λ l. l) (whole_of _ _ (path_alike k qs ps known t.kind path [] [] none))
 
   tuner_kin : (o : tuner.Order) (t : Tuner) → Kin k qs ps Tuner (tuner.course_of (tuner_with qs o) t) (tuner.course_of (tuner_with ps o) t)
   unfolding every bracket gain_row

@@ -9,13 +9,11 @@ use borrow.Author.Tests.{eq-eqb}
 use lib.Ieee.{binary32, of_bits}
 use lib.IntN.{pos}
 use lib.ListN.{length, replicate}
-use Rattle.board.specs.declared.PathRead.{PathRead}
-use Rattle.board.specs.declared.PathRead.TheVariants as path-read
+use Rattle.std.specs.Prelude.{Option, Some, None}
+use Rattle.board.specs.declared.Path.{Path}
 use Rattle.board.specs.declared.Board.TheVariants.{Generic}
 use Rattle.board.specs.declared.Path.TheVariants.{Hf, Vhf, Uhf}
 use Rattle.board.specs.declared.Plan as board
-use Rattle.board.specs.declared.Route.{Route}
-use Rattle.board.specs.declared.Route.TheVariants.{By, Direct}
 use Rattle.bands.specs.declared.Planned.{Planned}
 use Rattle.boards.specs.Hops.{hop_kept, hop_refusal, hop_result, hop_steps}
 use Rattle.board.specs.Numbers.{path_of}
@@ -81,11 +79,11 @@ most_aside a =
 pub most_plain : (path : ℕ) (os room : List ℕ) (t : Tuner) → t.kind ≡ R820T → entries (call (Tuned (InputPath path)) os room) t ≡ []
 most_plain path os room t h = go (path_of path) t.kind h
   where
-    go : (p : PathRead) (kind : Kind) → kind ≡ R820T
+    go : (p : Option Path) (kind : Kind) → kind ≡ R820T
         → call_entries (asked_by (sound t) (path_row p kind t) (length os) (length room)).number os (asked_by (sound t) (path_row p kind t) (length os) (length room)).steps t.chip ≡ []
-    go path-read.Refused kind e = none_entries os t.chip
-    go (path-read.Is path) R820T e = none_entries os t.chip
-    go (path-read.Is path) R828D e = cc
+    go None kind e = none_entries os t.chip
+    go (Some path) R820T e = none_entries os t.chip
+    go (Some path) R828D e = cc
 
 -- ---- each bound is reached: a fresh R828D, all steps done, and just the memory that is asked for
 
@@ -202,22 +200,22 @@ refused_in_the_pll t hz rs os room e p =
 
 -- ---- a board-level tune whose plan the PLL refuses: the same 13, and the board path's ten before them where it is taken
 
-abbrev pub late_count : Kind → Route → ℕ
+abbrev pub late_count : Kind → Option Path → ℕ
 late_count R820T route = 13
-late_count R828D Direct = 13
-late_count R828D (By path) = 23
+late_count R828D None = 13
+late_count R828D (Some path) = 23
 
 module _ (address : ℕ) (rs os : List ℕ) (c : Chip) where
   abbrev late : Kind → board.Plan → Trace
   late kind p = trace (replicate 23 0 ++ os) (hop_steps kind address p pll-variants.Refused rs) c
 
-  hop_late : (kind : Kind) (p : board.Plan) (route : Route) → p.path ≡ route → (length (late kind p).log ≡ late_count kind route) × ((late kind p).progress ≡ Going)
+  hop_late : (kind : Kind) (p : board.Plan) (route : Option Path) → p.path ≡ route → (length (late kind p).log ≡ late_count kind route) × ((late kind p).progress ≡ Going)
   unfolding trace run step inner_steps output_steps bit_steps access_step
   hop_late R820T p route e = (refl, refl)
-  hop_late R828D p Direct e = rw e (refl, refl)
-  hop_late R828D p (By Hf) e = rw e (refl, refl)
-  hop_late R828D p (By Vhf) e = rw e (refl, refl)
-  hop_late R828D p (By Uhf) e = rw e (refl, refl)
+  hop_late R828D p None e = rw e (refl, refl)
+  hop_late R828D p (Some Hf) e = rw e (refl, refl)
+  hop_late R828D p (Some Vhf) e = rw e (refl, refl)
+  hop_late R828D p (Some Uhf) e = rw e (refl, refl)
 
 pub hop_refused_in_the_pll : (t : Tuner) (hz : ℕ) (table rs : List ℕ) (d : Driver) (os room : List ℕ)
     → refusal_with (sound t && sound_driver d) (hop_refusal (plan_by table hz) t.ifreq) 64 38 (length room) (length (replicate 23 0 ++ os)) (length rs) ≡ 0

@@ -8,6 +8,7 @@ use borrow.Author.Tests.{leb-true, ne_eqb}
 use lib.Dec.{eqb, ltb}
 use lib.ListN.{length, get_or, take, drop, length-append, length-map}
 use lib.Seq.{sets, length-sets}
+use Rattle.std.specs.Prelude.{Option, Some, None}
 use Rattle.transcript.specs.Entries.{zeros, zeros8}
 use Rattle.board.specs.declared.Path.{Path}
 use Rattle.board.specs.declared.Path.TheVariants.{Hf, Vhf, Uhf}
@@ -30,8 +31,6 @@ use Rattle.writes.specs.Programs.{init_steps, send_all}
 use Rattle.writes.proofs.Lists.{bandwidth_in, if_in, init_in, path_in}
 use Rattle.device.specs.Gpio.{bit_steps, output_steps}
 use Rattle.board.specs.declared.Plan as board-plan
-use Rattle.board.specs.declared.Route.{Route}
-use Rattle.board.specs.declared.Route.TheVariants.{By, Direct}
 use Rattle.boards.specs.Hops.{ddc_part, hop_steps, path_part, path_replies}
 use Rattle.demod.specs.Programs.{ddc_steps, if_steps, rate_steps, reset_steps}
 use Rattle.driver.specs.Programs.{demod_setup, board_path_steps, filter_steps, level_for, sample_rate_steps, tuner_path}
@@ -208,10 +207,10 @@ no_steps : every fine [] ≡ true
 unfolding every
 no_steps = refl
 
-fine_path_part : (kind : Kind) (route : Route) (rs : List ℕ) → every fine (path_part kind route rs) ≡ true
+fine_path_part : (kind : Kind) (route : Option Path) (rs : List ℕ) → every fine (path_part kind route rs) ≡ true
 fine_path_part R820T route rs = no_steps
-fine_path_part R828D Direct rs = no_steps
-fine_path_part R828D (By path) rs = fine_board R828D path rs
+fine_path_part R828D None rs = no_steps
+fine_path_part R828D (Some path) rs = fine_board R828D path rs
 
 fine_ddc_part : (plan : Pll) (inverted : Bool) → every fine (ddc_part plan inverted) ≡ true
 fine_ddc_part Refused inverted = no_steps
@@ -272,10 +271,10 @@ pub board_length : (kind : Kind) (path : Path) (rs : List ℕ) → length (board
 board_length R820T path rs = omega (arith, path_length_r820t path rs)
 board_length R828D path rs = omega (arith, path_length_r828d path rs)
 
-path_part_length : (kind : Kind) (route : Route) (rs : List ℕ) → length (path_part kind route rs) ≤ 10
+path_part_length : (kind : Kind) (route : Option Path) (rs : List ℕ) → length (path_part kind route rs) ≤ 10
 path_part_length R820T route rs = omega arith
-path_part_length R828D Direct rs = omega arith
-path_part_length R828D (By path) rs = board_length R828D path rs
+path_part_length R828D None rs = omega arith
+path_part_length R828D (Some path) rs = board_length R828D path rs
 
 ddc_part_length : (plan : Pll) (inverted : Bool) → length (ddc_part plan inverted) ≤ 1
 unfolding ddc_steps

@@ -8,14 +8,11 @@ use mathlib.Core.List.{List, [], ◌∷◌, ◌++◌, map}
 use lib.Dec.{eqb, leb}
 use lib.ListN.{get_or, drop, length, take}
 use lib.Seq.{append_snoc}
+use Rattle.std.specs.Prelude.{Option, Some, None}
 use Rattle.transcript.specs.declared.Entry.{Entry}
 use Rattle.attempts.specs.Attempts.{done, first_of}
 use Rattle.board.specs.declared.Path.{Path}
-use Rattle.board.specs.declared.PathRead.{PathRead}
-use Rattle.board.specs.declared.PathRead.TheVariants as path-read
 use Rattle.board.specs.declared.Plan as board-plan
-use Rattle.board.specs.declared.Route.{Route}
-use Rattle.board.specs.declared.Route.TheVariants.{By, Direct}
 use Rattle.board.specs.Numbers.{path_of}
 use Rattle.bands.specs.Tables.{plan_by}
 use Rattle.boards.specs.Hops.{ddc_part, hop_steps, path_part, path_replies}
@@ -309,11 +306,11 @@ shuts_rate hz rate xtal inverted =
     (shuts_append false (while_open (updates (if_updates hz))) (while_open (updates (bandwidth_updates rate))) (shuts_bracket (if_updates hz)) (shuts_bracket (bandwidth_updates rate)))
     refl
 
-shuts_path_part : (kind : Kind) (r : Route) (rs : List ℕ) → shuts false (path_part kind r rs) ≡ true
+shuts_path_part : (kind : Kind) (r : Option Path) (rs : List ℕ) → shuts false (path_part kind r rs) ≡ true
 unfolding shuts
 shuts_path_part R820T r rs = refl
-shuts_path_part R828D Direct rs = refl
-shuts_path_part R828D (By path) rs = shuts_board R828D path rs
+shuts_path_part R828D None rs = refl
+shuts_path_part R828D (Some path) rs = shuts_board R828D path rs
 
 shuts_ddc : (plan : Pll) (inverted : Bool) → shuts false (ddc_part plan inverted) ≡ true
 unfolding shuts ddc_steps access_step
@@ -332,15 +329,15 @@ shuts_none : shuts false [] ≡ true
 unfolding shuts
 shuts_none = refl
 
-path_shuts : (p : PathRead) (kind : Kind) (t : Tuner) → shuts false (steps_of (path_row p kind t)) ≡ true
+path_shuts : (p : Option Path) (kind : Kind) (t : Tuner) → shuts false (steps_of (path_row p kind t)) ≡ true
 unfolding bracket
-path_shuts path-read.Refused kind t = shuts_none
-path_shuts (path-read.Is path) R820T t = shuts_none
-path_shuts (path-read.Is path) R828D t = shuts_bracket (path_updates path)
+path_shuts None kind t = shuts_none
+path_shuts (Some path) R820T t = shuts_none
+path_shuts (Some path) R828D t = shuts_bracket (path_updates path)
 
-board_shuts : (p : PathRead) (rs : List ℕ) (t : Tuner) → shuts false (steps_of (board_row p rs t)) ≡ true
-board_shuts path-read.Refused rs t = shuts_none
-board_shuts (path-read.Is path) rs t = shuts_board t.kind path rs
+board_shuts : (p : Option Path) (rs : List ℕ) (t : Tuner) → shuts false (steps_of (board_row p rs t)) ≡ true
+board_shuts None rs t = shuts_none
+board_shuts (Some path) rs t = shuts_board t.kind path rs
 
 still_shuts : (b : Bool) (u v : Both) (x y : Answer) → shuts false (steps_of (tuner_part (cond b (Still u x) (Still v y)))) ≡ true
 still_shuts true u v x y = shuts_none

@@ -7,8 +7,8 @@ use native.Mathlib.Omega.{arith}
 use lib.Dec.{eqb, leb}
 use lib.IntN.{ℤ}
 use lib.ListN.{length}
-use Rattle.board.specs.declared.PathRead.{PathRead}
-use Rattle.board.specs.declared.PathRead.TheVariants as path-read
+use Rattle.std.specs.Prelude.{Option, Some, None}
+use Rattle.board.specs.declared.Path.{Path}
 use Rattle.board.specs.Numbers.{path_of}
 use Rattle.bands.specs.Tables.{plan_by}
 use Rattle.refusals.specs.declared.Answer.{Answer}
@@ -76,14 +76,14 @@ module _ (x : ℕ) (t : Tuner) (z : t.ifreq ≡ x) where
   unfolding gain_row
   gain_kept k = bracket_kept 5 (gain_updates k) _ (with_gain t (gain_of (step_at k))) z
 
-  path_kept : (p : PathRead) (kind : Kind) → Keeps x (path_row p kind t)
-  path_kept path-read.Refused kind = resting t (Refused SETUP) z
-  path_kept (path-read.Is path) R820T = resting t (Done 0) z
-  path_kept (path-read.Is path) R828D = bracket_kept 2 (path_updates path) (Done 0) t z
+  path_kept : (p : Option Path) (kind : Kind) → Keeps x (path_row p kind t)
+  path_kept None kind = resting t (Refused SETUP) z
+  path_kept (Some path) R820T = resting t (Done 0) z
+  path_kept (Some path) R828D = bracket_kept 2 (path_updates path) (Done 0) t z
 
-  board_kept : (p : PathRead) (rs : List ℕ) → Keeps x (board_row p rs t)
-  board_kept path-read.Refused rs = resting t (Refused SETUP) z
-  board_kept (path-read.Is path) rs = stepping 0 10 3 rs (Done 0) (board_path_steps t.kind path rs) _ (λ tr. z)
+  board_kept : (p : Option Path) (rs : List ℕ) → Keeps x (board_row p rs t)
+  board_kept None rs = resting t (Refused SETUP) z
+  board_kept (Some path) rs = stepping 0 10 3 rs (Done 0) (board_path_steps t.kind path rs) _ (λ tr. z)
 
   correction_kept : (b : Bool) (v : ℕ) (ppm : ℤ) (d : Driver) → Keeps x (tuner_part (cond b (Still (both (with_corrected t v) (with_ppm d ppm)) (Done 0)) (Still (both t d) (Refused CORRECTION))))
   correction_kept true v ppm d = resting (with_corrected t v) (Done 0) z

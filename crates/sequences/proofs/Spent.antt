@@ -6,13 +6,10 @@ use mathlib.Core.List.{List, [], ◌∷◌, ◌++◌, map}
 use native.Mathlib.Omega.{arith}
 use lib.Dec.{eqb, leb}
 use lib.ListN.{get_or, drop, length, replicate, take}
+use Rattle.std.specs.Prelude.{Option, Some, None}
 use Rattle.transcript.specs.declared.Entry.{Entry}
 use Rattle.board.specs.declared.Path.{Path}
-use Rattle.board.specs.declared.PathRead.{PathRead}
-use Rattle.board.specs.declared.PathRead.TheVariants as path-read
 use Rattle.board.specs.declared.Plan as board-plan
-use Rattle.board.specs.declared.Route.{Route}
-use Rattle.board.specs.declared.Route.TheVariants.{By, Direct}
 use Rattle.board.specs.Numbers.{path_of}
 use Rattle.bands.specs.Tables.{ascending, band_of, bands_in, plan_at, plan_by, plan_in, table_ok}
 use Rattle.boards.specs.Hops.{ddc_part, hop_steps, path_part, path_replies}
@@ -242,11 +239,11 @@ needed_rate hz rate xtal inverted =
       needed_demod_setup hz rate xtal inverted,
     )
 
-needed_path_part : (kind : Kind) (r : Route) (rs : List ℕ) → needed (path_part kind r rs) ≤ 3
+needed_path_part : (kind : Kind) (r : Option Path) (rs : List ℕ) → needed (path_part kind r rs) ≤ 3
 unfolding needed
 needed_path_part R820T r rs = omega arith
-needed_path_part R828D Direct rs = omega arith
-needed_path_part R828D (By path) rs = omega (arith, needed_board R828D path rs)
+needed_path_part R828D None rs = omega arith
+needed_path_part R828D (Some path) rs = omega (arith, needed_board R828D path rs)
 
 needed_ddc : (plan : Pll) (inverted : Bool) → needed (ddc_part plan inverted) ≡ 0
 unfolding needed ddc_steps access_step
@@ -271,15 +268,15 @@ needed_none : needed [] ≡ 0
 unfolding needed
 needed_none = refl
 
-path_needed : (p : PathRead) (kind : Kind) (t : Tuner) → needed (steps_of (path_row p kind t)) ≤ replies_asked (path_row p kind t)
+path_needed : (p : Option Path) (kind : Kind) (t : Tuner) → needed (steps_of (path_row p kind t)) ≤ replies_asked (path_row p kind t)
 unfolding bracket
-path_needed path-read.Refused kind t = omega (arith, needed_none)
-path_needed (path-read.Is path) R820T t = omega (arith, needed_none)
-path_needed (path-read.Is path) R828D t = omega (arith, needed_bracket (path_updates path))
+path_needed None kind t = omega (arith, needed_none)
+path_needed (Some path) R820T t = omega (arith, needed_none)
+path_needed (Some path) R828D t = omega (arith, needed_bracket (path_updates path))
 
-board_needed : (p : PathRead) (rs : List ℕ) (t : Tuner) → needed (steps_of (board_row p rs t)) ≤ replies_asked (board_row p rs t)
-board_needed path-read.Refused rs t = omega (arith, needed_none)
-board_needed (path-read.Is path) rs t = omega (arith, needed_board t.kind path rs)
+board_needed : (p : Option Path) (rs : List ℕ) (t : Tuner) → needed (steps_of (board_row p rs t)) ≤ replies_asked (board_row p rs t)
+board_needed None rs t = omega (arith, needed_none)
+board_needed (Some path) rs t = omega (arith, needed_board t.kind path rs)
 
 still_needed : (b : Bool) (u v : Both) (x y : Answer) → needed (steps_of (tuner_part (cond b (Still u x) (Still v y)))) ≤ replies_asked (tuner_part (cond b (Still u x) (Still v y)))
 still_needed true u v x y = omega (arith, needed_none)

@@ -9,6 +9,7 @@ use borrow.Author.Tests.{eqb-false}
 use lib.Dec.{eqb}
 use lib.ListN.{drop, get_or, length, replicate, take}
 use lib.Seq.{get_or-drop, sets}
+use Rattle.std.specs.Prelude.{Option, Some, None}
 use Rattle.transcript.specs.declared.Entry.{Entry}
 use Rattle.transcript.specs.Entries.{zeros8}
 use Rattle.refusals.specs.declared.Answer.TheVariants.{Done, Refused, Stopped}
@@ -19,10 +20,9 @@ use Rattle.chip.specs.declared.Update.{Update}
 use Rattle.chip.specs.declared.Progress.TheVariants.{Going}
 use Rattle.bands.specs.declared.Planned.{Planned}
 use Rattle.bands.specs.Tables.{plan_by}
+use Rattle.board.specs.declared.Path.{Path}
 use Rattle.board.specs.declared.Plan as board
 use Rattle.board.specs.declared.Path.TheVariants.{Hf, Vhf, Uhf}
-use Rattle.board.specs.declared.Route.{Route}
-use Rattle.board.specs.declared.Route.TheVariants.{By, Direct}
 use Rattle.boards.specs.Hops.{hop_kept, hop_lock_tries, hop_refusal, hop_result, hop_steps, path_part, path_replies}
 use Rattle.demod.specs.Programs.{ddc_steps}
 use Rattle.device.specs.Accesses.{access_step}
@@ -162,13 +162,13 @@ refused_in_the_pll_untried hz rs os room t p =
     ∙ none_said number os (tune_of t pll-variants.Refused hz rs) t.chip (mux_writes t.chip.address hz t.kind t.notch rs)
 
 -- the board's path and the DDC byte have no try, and without a plan there is no waiting between them
-pub quiet_path : (kind : Kind) (route : Route) (rs : List ℕ) → every quiet (path_part kind route rs) ≡ true
+pub quiet_path : (kind : Kind) (route : Option Path) (rs : List ℕ) → every quiet (path_part kind route rs) ≡ true
 unfolding every output_steps bit_steps access_step
 quiet_path R820T route rs = refl
-quiet_path R828D Direct rs = refl
-quiet_path R828D (By Hf) rs = refl
-quiet_path R828D (By Vhf) rs = refl
-quiet_path R828D (By Uhf) rs = refl
+quiet_path R828D None rs = refl
+quiet_path R828D (Some Hf) rs = refl
+quiet_path R828D (Some Vhf) rs = refl
+quiet_path R828D (Some Uhf) rs = refl
 
 pub quiet_ddc : (inverted : Bool) → every quiet (ddc_steps inverted) ≡ true
 unfolding every ddc_steps

@@ -8,13 +8,13 @@ use native.Mathlib.Omega.{arith}
 use borrow.Author.Tests.{eqb-false}
 use lib.Dec.{eqb}
 use lib.ListN.{drop, get_or, length}
+use Rattle.std.specs.Prelude.{Option, Some, None}
 use Rattle.transcript.specs.declared.Entry.{Entry}
 use Rattle.attempts.specs.Attempts.{Played, Regs}
 use Rattle.bands.specs.declared.Planned.{Planned}
 use Rattle.bands.specs.Tables.{plan_by}
+use Rattle.board.specs.declared.Path.{Path}
 use Rattle.board.specs.declared.Path.TheVariants.{Hf, Vhf, Uhf}
-use Rattle.board.specs.declared.Route.{Route}
-use Rattle.board.specs.declared.Route.TheVariants.{By, Direct}
 use Rattle.boards.specs.Hops.{hop_kept, hop_refusal, hop_result, hop_steps, path_part, path_replies}
 use Rattle.refusals.specs.declared.Answer.TheVariants.{Done, Refused}
 use Rattle.chip.specs.declared.Chip.{Chip}
@@ -209,13 +209,13 @@ tune_done t hz rs os room h = number_done _ (plan_for t hz) hz os _ t.chip (lock
 -- ---- the board's
 
 -- what stands before it stores single bytes alone
-path_plain : (os : List ℕ) (kind : Kind) (route : Route) (rs : List ℕ) → every (plainly os) (path_part kind route rs) ≡ true
+path_plain : (os : List ℕ) (kind : Kind) (route : Option Path) (rs : List ℕ) → every (plainly os) (path_part kind route rs) ≡ true
 unfolding every output_steps bit_steps access_step
 path_plain os R820T route rs = refl
-path_plain os R828D Direct rs = refl
-path_plain os R828D (By Hf) rs = refl
-path_plain os R828D (By Vhf) rs = refl
-path_plain os R828D (By Uhf) rs = refl
+path_plain os R828D None rs = refl
+path_plain os R828D (Some Hf) rs = refl
+path_plain os R828D (Some Vhf) rs = refl
+path_plain os R828D (Some Uhf) rs = refl
 
 -- and what stands after it stores none
 abbrev quiet : Step → Bool

@@ -8,6 +8,7 @@ use native.Mathlib.Omega.{arith}
 use borrow.Author.Tests.{ltb-false, ltb-true, not-true}
 use lib.Dec.{eqb, leb, ltb}
 use lib.ListN.{get_or, length}
+use Rattle.std.specs.Prelude.{Option, Some, None}
 use Rattle.transcript.specs.declared.Entry.{Entry}
 use Rattle.attempts.specs.Attempts.{Last, Played, Regs, byte_in, doubt_in, last_in, names, tuner_at}
 use Rattle.attempts.specs.Namings as any
@@ -17,8 +18,6 @@ use Rattle.attempts.proofs.Lasts.{known, last_append, last_known, last_same}
 use Rattle.attempts.proofs.Played.{last_never}
 use Rattle.board.specs.declared.Path.{Path}
 use Rattle.board.specs.declared.Path.TheVariants.{Hf, Vhf, Uhf}
-use Rattle.board.specs.declared.PathRead.{PathRead}
-use Rattle.board.specs.declared.PathRead.TheVariants as path-read
 use Rattle.bands.specs.Tables.{plan_by}
 use Rattle.board.specs.Numbers.{path_of}
 use Rattle.refusals.specs.declared.Answer.{Answer}
@@ -140,15 +139,15 @@ none : every elsewhere [] ≡ true
 unfolding every
 none = refl
 
-path_apart : (p : PathRead) (kind : Kind) (t : Tuner) → every elsewhere (steps_of (path_row p kind t)) ≡ true
+path_apart : (p : Option Path) (kind : Kind) (t : Tuner) → every elsewhere (steps_of (path_row p kind t)) ≡ true
 unfolding bracket
-path_apart path-read.Refused kind t = none
-path_apart (path-read.Is path) R820T t = none
-path_apart (path-read.Is path) R828D t = apart_path path
+path_apart None kind t = none
+path_apart (Some path) R820T t = none
+path_apart (Some path) R828D t = apart_path path
 
-board_apart : (p : PathRead) (rs : List ℕ) (t : Tuner) → every elsewhere (steps_of (board_row p rs t)) ≡ true
-board_apart path-read.Refused rs t = none
-board_apart (path-read.Is path) rs t = go t.kind
+board_apart : (p : Option Path) (rs : List ℕ) (t : Tuner) → every elsewhere (steps_of (board_row p rs t)) ≡ true
+board_apart None rs t = none
+board_apart (Some path) rs t = go t.kind
   where
     gpio : every elsewhere (output_steps 5 (get_or rs 0 0) (get_or rs 1 0)) ≡ true
     gpio = output_apart (get_or rs 0 0) (get_or rs 1 0)

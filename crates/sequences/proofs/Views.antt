@@ -9,8 +9,8 @@ use borrow.Author.Tests.{eqb-false}
 use lib.Dec.{eqb, leb}
 use lib.IntN.{ℤ}
 use lib.ListN.{length, length-append, length-map}
-use Rattle.board.specs.declared.PathRead.{PathRead}
-use Rattle.board.specs.declared.PathRead.TheVariants as path-read
+use Rattle.std.specs.Prelude.{Option, Some, None}
+use Rattle.board.specs.declared.Path.{Path}
 use Rattle.board.specs.Numbers.{path_of}
 use Rattle.bands.specs.Tables.{plan_by}
 use Rattle.boards.specs.Hops.{hop_result, hop_row}
@@ -134,15 +134,15 @@ module _ (t : Tuner) (s : Bool) (os room : List ℕ) where
 bracket_steps : (us : List Update) → length (while_open (updates us)) ≡ length us + 2
 bracket_steps us = omega (arith, length-append (updates us) (Close ∷ []), length-map us update_step)
 
-path_long : (p : PathRead) (kind : Kind) (t : Tuner) → length (steps_of (path_row p kind t)) ≤ most_of (path_row p kind t)
+path_long : (p : Option Path) (kind : Kind) (t : Tuner) → length (steps_of (path_row p kind t)) ≤ most_of (path_row p kind t)
 unfolding bracket
-path_long path-read.Refused kind t = omega arith
-path_long (path-read.Is path) R820T t = omega arith
-path_long (path-read.Is path) R828D t = omega (arith, path_length path)
+path_long None kind t = omega arith
+path_long (Some path) R820T t = omega arith
+path_long (Some path) R828D t = omega (arith, path_length path)
 
-board_long : (p : PathRead) (rs : List ℕ) (t : Tuner) → length (steps_of (board_row p rs t)) ≤ most_of (board_row p rs t)
-board_long path-read.Refused rs t = omega arith
-board_long (path-read.Is path) rs t = board_length t.kind path rs
+board_long : (p : Option Path) (rs : List ℕ) (t : Tuner) → length (steps_of (board_row p rs t)) ≤ most_of (board_row p rs t)
+board_long None rs t = omega arith
+board_long (Some path) rs t = board_length t.kind path rs
 
 -- both ways of a correction rest
 still_long : (b : Bool) (u v : Both) (x y : Answer) → length (steps_of (tuner_part (cond b (Still u x) (Still v y)))) ≤ most_of (tuner_part (cond b (Still u x) (Still v y)))
@@ -170,15 +170,15 @@ row_long (Correction ppm d) t = still_long (leb 1 (xtal_by t.nominal ppm) && leb
 row_long (BoardPath path rs) t = board_long (path_of path) rs t
 row_long (BoardTune hz table rs d) t = hop_length t.kind t.chip.address (plan_by table hz).plan (plan_for t (plan_by table hz).plan.hz) rs
 
-few_path : (p : PathRead) (kind : Kind) (t : Tuner) → most_of (path_row p kind t) ≤ 64
+few_path : (p : Option Path) (kind : Kind) (t : Tuner) → most_of (path_row p kind t) ≤ 64
 unfolding bracket
-few_path path-read.Refused kind t = omega arith
-few_path (path-read.Is path) R820T t = omega arith
-few_path (path-read.Is path) R828D t = omega arith
+few_path None kind t = omega arith
+few_path (Some path) R820T t = omega arith
+few_path (Some path) R828D t = omega arith
 
-few_board : (p : PathRead) (rs : List ℕ) (t : Tuner) → most_of (board_row p rs t) ≤ 64
-few_board path-read.Refused rs t = omega arith
-few_board (path-read.Is path) rs t = omega arith
+few_board : (p : Option Path) (rs : List ℕ) (t : Tuner) → most_of (board_row p rs t) ≤ 64
+few_board None rs t = omega arith
+few_board (Some path) rs t = omega arith
 
 few_still : (b : Bool) (u v : Both) (x y : Answer) → most_of (tuner_part (cond b (Still u x) (Still v y))) ≤ 64
 few_still true u v x y = omega arith
@@ -213,14 +213,14 @@ module _ (t : Tuner) where
   unfolding gain_row
   gain_proper k = bracket_proper 5 (gain_updates k) _ t (with_gain t (gain_of (step_at k))) refl (gain_in k)
 
-  path_proper : (p : PathRead) (kind : Kind) → Proper t (path_row p kind t)
-  path_proper path-read.Refused kind = resting t (Refused SETUP) refl refl
-  path_proper (path-read.Is path) R820T = resting t (Done 0) refl refl
-  path_proper (path-read.Is path) R828D = bracket_proper 2 (path_updates path) (Done 0) t t refl (path_in path)
+  path_proper : (p : Option Path) (kind : Kind) → Proper t (path_row p kind t)
+  path_proper None kind = resting t (Refused SETUP) refl refl
+  path_proper (Some path) R820T = resting t (Done 0) refl refl
+  path_proper (Some path) R828D = bracket_proper 2 (path_updates path) (Done 0) t t refl (path_in path)
 
-  board_proper : (p : PathRead) (rs : List ℕ) → Proper t (board_row p rs t)
-  board_proper path-read.Refused rs = resting t (Refused SETUP) refl refl
-  board_proper (path-read.Is path) rs = stepping 0 10 3 rs (Done 0) (board_path_steps t.kind path rs) _ refl (fine_board t.kind path rs) (λ tr. refl)
+  board_proper : (p : Option Path) (rs : List ℕ) → Proper t (board_row p rs t)
+  board_proper None rs = resting t (Refused SETUP) refl refl
+  board_proper (Some path) rs = stepping 0 10 3 rs (Done 0) (board_path_steps t.kind path rs) _ refl (fine_board t.kind path rs) (λ tr. refl)
 
   -- a correction leaves the chip's record as it was
   correction_proper : (b : Bool) (v : ℕ) (ppm : ℤ) (d : Driver) → Proper t (tuner_part (cond b (Still (both (with_corrected t v) (with_ppm d ppm)) (Done 0)) (Still (both t d) (Refused CORRECTION))))

@@ -5,13 +5,10 @@ use mathlib.Core.Bool.{Bool, true, false, cond, ◌&&◌, true≢false}
 use mathlib.Core.List.{List, [], ◌∷◌, ◌++◌, map}
 use lib.Dec.{eqb, leb}
 use lib.ListN.{drop, get_or, length, take}
+use Rattle.std.specs.Prelude.{Option, Some, None}
 use Rattle.bands.specs.Tables.{plan_by}
 use Rattle.board.specs.declared.Path.{Path}
-use Rattle.board.specs.declared.PathRead.{PathRead}
-use Rattle.board.specs.declared.PathRead.TheVariants as path-read
 use Rattle.board.specs.declared.Plan as board-plan
-use Rattle.board.specs.declared.Route.{Route}
-use Rattle.board.specs.declared.Route.TheVariants.{By, Direct as Plainly}
 use Rattle.board.specs.Numbers.{path_of}
 use Rattle.boards.specs.Hops.{ddc_part, hop_steps, path_part, path_replies}
 use Rattle.refusals.specs.declared.Answer.{Answer}
@@ -130,10 +127,10 @@ still_board kind path rs =
     every_append still (output_steps 5 (get_or rs 0 0) (get_or rs 1 0)) (bit_steps 5 (level_for path) (get_or rs 2 0) ++ tuner_path kind path) (still_output 5 (get_or rs 0 0) (get_or rs 1 0))
     (every_append still (bit_steps 5 (level_for path) (get_or rs 2 0)) (tuner_path kind path) (still_bit 5 (level_for path) (get_or rs 2 0)) (still_own kind path))
 
-still_path_part : (kind : Kind) (r : Route) (rs : List ℕ) → every still (path_part kind r rs) ≡ true
+still_path_part : (kind : Kind) (r : Option Path) (rs : List ℕ) → every still (path_part kind r rs) ≡ true
 still_path_part R820T r rs = still_none
-still_path_part R828D Plainly rs = still_none
-still_path_part R828D (By path) rs = still_board R828D path rs
+still_path_part R828D None rs = still_none
+still_path_part R828D (Some path) rs = still_board R828D path rs
 
 -- the DDC byte is another register's
 still_ddc : (inverted : Bool) → every still (ddc_steps inverted) ≡ true
@@ -152,15 +149,15 @@ still_hop kind address p plan rs =
 
 -- ---- each row
 
-still_path : (p : PathRead) (kind : Kind) (t : Tuner) → every still (steps_of (path_row p kind t)) ≡ true
+still_path : (p : Option Path) (kind : Kind) (t : Tuner) → every still (steps_of (path_row p kind t)) ≡ true
 unfolding bracket
-still_path path-read.Refused kind t = still_none
-still_path (path-read.Is path) R820T t = still_none
-still_path (path-read.Is path) R828D t = still_bracket (path_updates path)
+still_path None kind t = still_none
+still_path (Some path) R820T t = still_none
+still_path (Some path) R828D t = still_bracket (path_updates path)
 
-still_board_row : (p : PathRead) (rs : List ℕ) (t : Tuner) → every still (steps_of (board_row p rs t)) ≡ true
-still_board_row path-read.Refused rs t = still_none
-still_board_row (path-read.Is path) rs t = still_board t.kind path rs
+still_board_row : (p : Option Path) (rs : List ℕ) (t : Tuner) → every still (steps_of (board_row p rs t)) ≡ true
+still_board_row None rs t = still_none
+still_board_row (Some path) rs t = still_board t.kind path rs
 
 still_either : (b : Bool) (u v : Both) (x y : Answer) → every still (steps_of (tuner_part (cond b (Still u x) (Still v y)))) ≡ true
 still_either true u v x y = still_none

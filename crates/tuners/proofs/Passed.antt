@@ -9,10 +9,9 @@ use borrow.Author.Tests.{eq-eqb, eqb-false, eqb-true, ne_eqb, lt-ltb, ltb-false}
 use lib.Dec.{eqb, ltb}
 use lib.ListN.{length}
 use lib.Seq.{sets}
+use Rattle.std.specs.Prelude.{Option, Some, None}
 use Rattle.board.specs.declared.Path.{Path}
 use Rattle.board.specs.declared.Path.TheVariants.{Hf, Vhf, Uhf}
-use Rattle.board.specs.declared.PathRead.{PathRead}
-use Rattle.board.specs.declared.PathRead.TheVariants as path-read
 use Rattle.board.specs.Numbers.{path_of}
 use Rattle.pll.specs.declared.Kind.{Kind}
 use Rattle.pll.specs.declared.Kind.TheVariants.{R820T, R828D}
@@ -72,7 +71,7 @@ path_byte ok path k n next need asked said z =
     path_named (ltb 2 path) path refl (sym asked ∙ (none_refused ok k (ltb next need) (sym said ∙ z)).1)
 
 -- a row by a path's number: 1 where it names none, and no other refusal
-pub path_argued : (row : PathRead → Course Tuner) → argument_of (row path-read.Refused) ≡ SETUP → ((p : Path) → argument_of (row (path-read.Is p)) ≡ 0)
+pub path_argued : (row : Option Path → Course Tuner) → argument_of (row None) ≡ SETUP → ((p : Path) → argument_of (row (Some p)) ≡ 0)
     → (path : ℕ) → path_refusal path ≡ argument_of (row (path_of path))
 path_argued row none some zero = sym (some Hf)
 path_argued row none some (suc zero) = sym (some Vhf)
@@ -82,8 +81,8 @@ path_argued row none some (suc (suc (suc n))) = rw (lt-ltb 2 (suc (suc (suc n)))
 -- the tuner's own path
 pub tuner_path_argued : (kind : Kind) (t : Tuner) (path : ℕ) → path_refusal path ≡ argument_of (path_row (path_of path) kind t)
 unfolding bracket
-tuner_path_argued R820T t path = path_argued (λ (p : PathRead). path_row p R820T t) refl (λ p. refl) path
-tuner_path_argued R828D t path = path_argued (λ (p : PathRead). path_row p R828D t) refl (λ p. refl) path
+tuner_path_argued R820T t path = path_argued (λ (p : Option Path). path_row p R820T t) refl (λ p. refl) path
+tuner_path_argued R828D t path = path_argued (λ (p : Option Path). path_row p R828D t) refl (λ p. refl) path
 
 -- a call that was refused by a number, and one that was made
 module _ {A : Type 0} (number : ℕ) (refuse : ℕ → A) (made : A) where

@@ -1,11 +1,10 @@
 -- Document 01, "Worked numbers (marked * are proved)": each starred line, in its order, a field for each number.
-use Rattle.std.specs.Prelude.{ℕ, ◌*◌, ◌≡◌, Bool, true, false, [], ◌∷◌, pos, neg_ℤ}
+use Rattle.std.specs.Prelude.{ℕ, ◌*◌, ◌≡◌, Bool, true, false, [], ◌∷◌, pos, neg_ℤ, Some}
 use Rattle.std.specs.Float.{binary32, nan}
 use Rattle.std.specs.Float.Ieee.{of_bits, to_bits}
 use Rattle.refusals.specs.Table.{RATIO}
 use Rattle.board.specs.declared.Board.TheVariants.{V4}
 use Rattle.board.specs.declared.Path.TheVariants.{Hf, Vhf}
-use Rattle.board.specs.declared.Route.TheVariants.{By}
 use Rattle.board.specs.Plans as board
 use Rattle.fir.specs.Packing.{fir_default, packed}
 use Rattle.gain.specs.Product.{gain_of, tenths_of}
@@ -85,8 +84,8 @@ pub record Worked : Type 0 where
   pub first_other : true_of 5_497_289 28_800_000 ≡ 5_497_290
   pub true_most : true_of 4_294_967_295 28_800_000 ≡ 4_295_120_011
   -- V4: 28,799,999 goes to 57,599,999 inverted; 28,800,000 stays
-  pub shifted : board.board_plan V4 28_799_999 ≡ record { hz = 57_599_999; inverted = true; path = By Hf; notch = false }
-  pub stays : board.board_plan V4 28_800_000 ≡ record { hz = 28_800_000; inverted = false; path = By Vhf; notch = false }
+  pub shifted : board.board_plan V4 28_799_999 ≡ record { hz = 57_599_999; inverted = true; path = Some Hf; notch = false }
+  pub stays : board.board_plan V4 28_800_000 ≡ record { hz = 28_800_000; inverted = false; path = Some Vhf; notch = false }
   -- Notch holds 85,000,000 and 112,000,000, not 112,000,001
   pub notch_first : board.in_notch 85_000_000 ≡ true
   pub notch_last : board.in_notch 112_000_000 ≡ true

@@ -1,6 +1,5 @@
 -- `board::tuner_hz` meets its contract: each return rewrites with the test that led there.
 -- Assumes nothing.
-use borrow.Author.Rules.{rules}
 use borrow.Author.Tests.{lt-ltb, le-ltb}
 use Rattle.board.specs.Plans.{tuner_hz}
 use Rattle.board.proofs.tuner_hz.Goals as goal

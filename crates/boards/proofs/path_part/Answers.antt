@@ -10,15 +10,15 @@ returns-in-R820T c =
     let args = c.args in
     record { room_after = no_path in_room _ _ args.route args.replies.now _ c.in-R820T.is; bounds = omega arith }
 
-pub returns-in-Direct : goal.returns-in-Direct
-returns-in-Direct c =
-    record { room_after = direct in_room _ _ _ c.args.replies.now _ c.in-R828D.is c.in-Direct.is; bounds = omega arith }
+pub returns-in-None : goal.returns-in-None
+returns-in-None c =
+    record { room_after = direct in_room _ _ _ c.args.replies.now _ c.in-R828D.is c.in-None.is; bounds = omega arith }
 
-pub returns-in-By : goal.returns-in-By
-returns-in-By c =
+pub returns-in-Some : goal.returns-in-Some
+returns-in-Some c =
     let path-steps = c.path_steps in
     record {
-      room_after = by_program in_room _ _ _ _ _ (switched _ _ _ c.args.replies.now c.in-R828D.is c.in-By.is)
+      room_after = by_program in_room _ _ _ _ _ (switched _ _ _ c.args.replies.now c.in-R828D.is c.in-Some.is)
           path-steps.ensures.room_after;
       bounds = omega (arith, path-steps.ensures.bounds);
     }

@@ -17,8 +17,8 @@ unfolding board_result
 returns-then-number-ne0 c =
     let args = c.args in
     c.refused-then-number-ne0.ensures _
-    ∙ path_refused _ c.in-Is.by args.outcomes.now args.replies.now args.room.now args.tuner _ _
-    (sym c.path_of.ensures ∙ c.in-Is.is) c.sound-whole.ensures c.refusal-number.ensures c.if-number-ne0.true
+    ∙ path_refused _ c.in-Some.by args.outcomes.now args.replies.now args.room.now args.tuner _ _
+    (sym c.path_of.ensures ∙ c.in-Some.is) c.sound-whole.ensures c.refusal-number.ensures c.if-number-ne0.true
 
 pub path_steps-f-requires : goal.path_steps-f-requires
 path_steps-f-requires c =
@@ -43,6 +43,6 @@ returns c =
     let finish = c.finish-answered in
     let path-steps = c.path_steps-f in
     let args = c.args in
-    path_performed _ c.in-Is.by args.outcomes.now args.replies.now args.room.now args.tuner _ _
-    (sym c.path_of.ensures ∙ c.in-Is.is) c.sound-whole.ensures c.refusal-number.ensures _ path-steps.result _ _ _
+    path_performed _ c.in-Some.by args.outcomes.now args.replies.now args.room.now args.tuner _ _
+    (sym c.path_of.ensures ∙ c.in-Some.is) c.sound-whole.ensures c.refusal-number.ensures _ path-steps.result _ _ _
     c.if-number-ne0.false refl path-steps.ensures.room_after finish.ensures.1 finish.ensures.0

@@ -24,5 +24,5 @@ returns c =
       bits,
       c.field-2.ensures,
       c.field.ensures,
-      c.board_number.ensures,
+      c.from.ensures,
     ) (driver_image_whole d (replicate 29 0) refl)

@@ -14,16 +14,16 @@ returns-in_default c =
 pub operate-told-requires : goal.operate-told-requires
 operate-told-requires c =
     let path-updates = c.path_updates in
-    (omega (arith, path_meant_two c.in-Is.by _ path-updates.ensures), path_meant_in c.in-Is.by _ path-updates.ensures)
+    (omega (arith, path_meant_two c.in-Some.by _ path-updates.ensures), path_meant_in c.in-Some.by _ path-updates.ensures)
 
 pub returns-in-R820T : goal.returns-in-R820T
 unfolding result_of
 returns-in-R820T c =
-    path_still _ _ _ _ _ _ _ (sym c.path_of.ensures ∙ c.in-Is.is) c.in-R820T.is c.sound_answer.ensures
+    path_still _ _ _ _ _ _ _ (sym c.path_of.ensures ∙ c.in-Some.is) c.in-R820T.is c.sound_answer.ensures
 
 pub returns-in-R828D : goal.returns-in-R828D
 unfolding result_of
 returns-in-R828D c =
     let a = c.args in
-    path_by _ _ _ _ a.outcomes.now a.self a.room.now _ (sym c.path_of.ensures ∙ c.in-Is.is)
+    path_by _ _ _ _ a.outcomes.now a.self a.room.now _ (sym c.path_of.ensures ∙ c.in-Some.is)
     c.in-R828D.is c.path_updates.ensures c.operate-told.ensures
