@@ -9,10 +9,11 @@ use Rattle.board.specs.declared.Plan.{Plan}
 use Rattle.board.specs.declared.Route.{Route}
 use Rattle.board.specs.declared.Route.TheVariants.{By, Direct}
 use Rattle.pll.specs.declared.Kind.TheVariants.{R820T}
-use Rattle.pll.specs.declared.Pll.{Pll}
+use Rattle.std.specs.Prelude.{Option}
+use Rattle.pll.specs.declared.Plan as pll
 use Rattle.boards.specs.Hops.{hop_steps}
 
-module _ (address hz : ℕ) (inverted notch : Bool) (rs : List ℕ) (plan : Pll) where
+module _ (address hz : ℕ) (inverted notch : Bool) (rs : List ℕ) (plan : Option pll.Plan) where
   abbrev by : Route → Plan
   by route = record { hz = hz; inverted = inverted; path = route; notch = notch }
 

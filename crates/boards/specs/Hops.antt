@@ -1,7 +1,7 @@
 -- The board-level tune. Document 02, #113: "Add the board-level tune: plan, notch, board path where there is one, tune, then the DDC sync byte, in that
 -- order." "Demands 2 and 3 cover it as another call, of at most 64 entries and 38 replies."
 -- Assumes nothing.
-use Rattle.std.specs.Prelude.{ℕ, Bool, ◌&&◌, cond, List, [], ◌++◌, eqb, drop, length}
+use Rattle.std.specs.Prelude.{ℕ, Bool, ◌&&◌, cond, List, [], ◌++◌, eqb, drop, length, Option, Some, None}
 use Rattle.bands.specs.declared.Planned.{Planned}
 use Rattle.board.specs.declared.Plan.{Plan}
 use Rattle.board.specs.declared.Route.{Route}
@@ -20,8 +20,7 @@ use Rattle.driver.specs.Programs.{board_path_steps}
 use Rattle.driver.specs.Record.{driver, sound_driver}
 use Rattle.pll.specs.declared.Kind.{Kind}
 use Rattle.pll.specs.declared.Kind.TheVariants.{R820T, R828D}
-use Rattle.pll.specs.declared.Pll.{Pll}
-use Rattle.pll.specs.declared.Pll.TheVariants as pll
+use Rattle.pll.specs.declared.Plan as pll
 use Rattle.r82xx.specs.declared.Tuner.{Tuner}
 use Rattle.r82xx.specs.Calls.{hz_refusal, plan_for}
 use Rattle.r82xx.specs.Orders.{lock_kept}
@@ -41,12 +40,12 @@ path_replies R828D Direct = 0
 path_replies R828D (By path) = 3
 
 -- the DDC byte goes by the PLL's plan, not by how the steps went: a refusal of the PLL ends the call without one
-abbrev pub ddc_part : Pll → Bool → List Step
-ddc_part pll.Refused inverted = []
-ddc_part (pll.Planned p) inverted = ddc_steps inverted
+abbrev pub ddc_part : Option pll.Plan → Bool → List Step
+ddc_part None inverted = []
+ddc_part (Some p) inverted = ddc_steps inverted
 
 -- its program, by the board's plan and the PLL's
-abbrev pub hop_steps : Kind → ℕ → Plan → Pll → List ℕ → List Step
+abbrev pub hop_steps : Kind → ℕ → Plan → Option pll.Plan → List ℕ → List Step
 hop_steps kind address p by rs =
     path_part kind p.path rs
     ++ (tune_steps address kind p.notch by p.hz (drop (path_replies kind p.path) rs) ++ ddc_part by p.inverted)

@@ -1,7 +1,7 @@
 -- The table of the tuner's calls: what is called, with its arguments, and one row for each. The methods' contracts cite it, the boundary reads its
 -- refusals from it, and demand 3 is about it. Document 01, "Transcript and script", "Refusal numbers", "The record", "Gain", "PLL".
 -- Assumes nothing.
-use Rattle.std.specs.Prelude.{ℕ, ◌+◌, Bool, cond, List, [], map, Float, pos, length, replicate}
+use Rattle.std.specs.Prelude.{ℕ, ◌+◌, Bool, cond, List, [], map, Float, pos, length, replicate, Option}
 use Rattle.std.specs.Float.{binary32}
 use Rattle.std.specs.Float.Ieee.{to_bits}
 use Rattle.board.specs.declared.PathRead.{PathRead}
@@ -20,7 +20,7 @@ use Rattle.gain.specs.Product.{gain_of}
 use Rattle.gain.specs.Steps.{chosen_of, clamped, step_at, steps}
 use Rattle.pll.specs.declared.Kind.{Kind}
 use Rattle.pll.specs.declared.Kind.TheVariants.{R820T, R828D}
-use Rattle.pll.specs.declared.Pll.{Pll}
+use Rattle.pll.specs.declared.Plan.{Plan}
 use Rattle.tuning.specs.Program.{tune_steps, tune_answer}
 use Rattle.tuning.specs.Tries.{lock_by}
 use Rattle.writes.specs.Lists.{bandwidth_updates, gain_updates, if_updates, path_updates}
@@ -60,7 +60,7 @@ path_row (path-read.Is path) R820T t = Still t (Done 0)
 path_row (path-read.Is path) R828D t = bracket 2 (path_updates path) (Done 0) t t
 
 -- a tuning's program by its plan, and the record that its steps leave
-abbrev pub tune_of : Tuner → Pll → ℕ → List ℕ → List Step
+abbrev pub tune_of : Tuner → Option Plan → ℕ → List ℕ → List Step
 tune_of t plan hz rs = tune_steps t.chip.address t.kind t.notch plan hz rs
 
 abbrev pub lock_kept : Tuner → Trace → Tuner
