@@ -1,13 +1,11 @@
 -- The PLL's numbers as a host takes them, by either engine. Document 02, #111: "the same divider, N, S, rest and refusal".
 -- Assumes nothing.
-use Rattle.std.specs.Prelude.{ℕ, ◌/◌, ◌%◌, cond, List, [], ◌∷◌, eqb, ltb}
+use Rattle.std.specs.Prelude.{ℕ, ◌/◌, ◌%◌, cond, List, [], ◌∷◌, eqb, ltb, Option, Some, None}
 use Rattle.refusals.specs.Lent.{Given, lent_to}
 use Rattle.refusals.specs.Table.{SETUP, FREQUENCY, CORRECTION}
 use Rattle.pll.specs.declared.Kind.{Kind}
 use Rattle.pll.specs.declared.Kind.TheVariants.{R820T, R828D}
 use Rattle.pll.specs.Plan.{plan_of}
-use Rattle.worksheet.specs.declared.Filled.{Filled}
-use Rattle.worksheet.specs.declared.Filled.TheVariants.{In, Refused}
 use Rattle.worksheet.specs.declared.Sheet.{Sheet}
 use Rattle.worksheet.specs.Sheet.{sheet_of, filled_by}
 use Rattle.answers.specs.declared.Laid.{Laid}
@@ -23,12 +21,12 @@ sheet_bytes s = s.m % 256 ∷ s.n ∷ s.setting ∷ s.sum % 256 ∷ s.sum / 256 
 abbrev pub nothing : ℕ → Laid
 nothing refusal = record { refusal = refusal; value = 0; bytes = 0 ∷ 0 ∷ 0 ∷ 0 ∷ 0 ∷ [] }
 
-abbrev pub filled_in : Filled → Laid
-filled_in (In s) = record { refusal = 0; value = s.rest; bytes = sheet_bytes s }
-filled_in Refused = nothing FREQUENCY
+abbrev pub filled_in : Option Sheet → Laid
+filled_in (Some s) = record { refusal = 0; value = s.rest; bytes = sheet_bytes s }
+filled_in None = nothing FREQUENCY
 
 -- a kind that is not valid is 1, a reference of 0 is 4, then 2
-unfoldable pub laid_of : ℕ → ℕ → Filled → Laid
+unfoldable pub laid_of : ℕ → ℕ → Option Sheet → Laid
 laid_of kind r f = cond (ltb 1 kind) (nothing SETUP) (cond (eqb r 0) (nothing CORRECTION) (filled_in f))
 
 abbrev pub laid_to : Laid → List ℕ → Given

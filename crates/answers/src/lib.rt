@@ -15,7 +15,7 @@ use board::Plan;
 use pll::Kind;
 use r82xx::Tuner;
 use refusals::Answer;
-use worksheet::Filled;
+use worksheet::Sheet;
 
 // All of v, four bytes each, from the start of the slice.
 fn put_words(v: &[i32], out: &mut [u8])
@@ -175,7 +175,7 @@ fn refused(number: u8) -> Laid
     }
 }
 
-fn laid_out(kind: u64, reference: u32, sheet: Filled) -> Laid
+fn laid_out(kind: u64, reference: u32, sheet: Option<Sheet>) -> Laid
     ensures { result ≡ laid_of kind reference sheet }
 {
     if 1 < kind {
@@ -184,7 +184,7 @@ fn laid_out(kind: u64, reference: u32, sheet: Filled) -> Laid
     if reference == 0 {
         return refused(refusals::CORRECTION);
     }
-    let Filled::In(s) = sheet else {
+    let Some(s) = sheet else {
         return refused(refusals::FREQUENCY);
     };
     let sum = s.sum;

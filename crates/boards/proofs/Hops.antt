@@ -32,8 +32,8 @@ use Rattle.driver.specs.Record.{sound_driver, xtal_of}
 use Rattle.driver.proofs.Rates.{board_path_eight, ddc_eight}
 use Rattle.pll.specs.declared.Kind.{Kind}
 use Rattle.pll.specs.declared.Kind.TheVariants.{R820T, R828D}
-use Rattle.pll.specs.declared.Pll.{Pll}
-use Rattle.pll.specs.declared.Pll.TheVariants as pll
+use Rattle.std.specs.Prelude.{Option, Some, None}
+use Rattle.pll.specs.declared.Plan as pll
 use Rattle.r82xx.specs.declared.Tuner.{Tuner}
 use Rattle.r82xx.specs.Calls.{hz_refusal, plan_for}
 use Rattle.r82xx.specs.Record.{sound, with_chip, with_lock, with_notch}
@@ -55,14 +55,14 @@ module _ {L : Type 0} (put : L → ℕ → Entry → L) (os : List ℕ) where
   unfolding run
   direct kind route rs w k r = rw (k, r)
 
-  pub no_ddc : (by : Pll) (inverted : Bool) (w : Line L) → by ≡ pll.Refused → w ≡ run put os (ddc_part by inverted) w
+  pub no_ddc : (by : Option pll.Plan) (inverted : Bool) (w : Line L) → by ≡ None → w ≡ run put os (ddc_part by inverted) w
   unfolding run
   no_ddc by inverted w e = rw e
 
 pub switched : (kind : Kind) (route : Option Path) (path : Path) (rs : List ℕ) → kind ≡ R828D → route ≡ Some path → board_path_steps R828D path rs ≡ path_part kind route rs
 switched kind route path rs k r = rw (k, r)
 
-pub planned_ddc : (by : Pll) (p : _) (inverted : Bool) → by ≡ pll.Planned p → ddc_steps inverted ≡ ddc_part by inverted
+pub planned_ddc : (by : Option pll.Plan) (p : _) (inverted : Bool) → by ≡ Some p → ddc_steps inverted ≡ ddc_part by inverted
 planned_ddc by p inverted e = rw e
 
 -- the rest of the replies is what is left of them
@@ -95,14 +95,14 @@ path_eight R820T route rs = none_eight
 path_eight R828D None rs = none_eight
 path_eight R828D (Some path) rs = board_path_eight R828D path rs
 
-ddc_part_eight : (by : Pll) (inverted : Bool) → every eight (ddc_part by inverted) ≡ true
-ddc_part_eight pll.Refused inverted = none_eight
-ddc_part_eight (pll.Planned p) inverted = ddc_eight inverted
+ddc_part_eight : (by : Option pll.Plan) (inverted : Bool) → every eight (ddc_part by inverted) ≡ true
+ddc_part_eight None inverted = none_eight
+ddc_part_eight (Some p) inverted = ddc_eight inverted
 
-tune_eight : (address : ℕ) (kind : Kind) (notch : Bool) (by : Pll) (hz : ℕ) (rs : List ℕ) → every eight (tune_steps address kind notch by hz rs) ≡ true
+tune_eight : (address : ℕ) (kind : Kind) (notch : Bool) (by : Option pll.Plan) (hz : ℕ) (rs : List ℕ) → every eight (tune_steps address kind notch by hz rs) ≡ true
 tune_eight address kind notch by hz rs = behind_eight (inner_steps address kind notch by hz rs) (eight_inner address kind notch by hz rs)
 
-pub hop_eight : (kind : Kind) (address : ℕ) (p : Plan) (by : Pll) (rs : List ℕ) → every eight (hop_steps kind address p by rs) ≡ true
+pub hop_eight : (kind : Kind) (address : ℕ) (p : Plan) (by : Option pll.Plan) (rs : List ℕ) → every eight (hop_steps kind address p by rs) ≡ true
 hop_eight kind address p by rs =
     let at : List ℕ = drop (path_replies kind p.path) rs in
     every_app eight (path_part kind p.path rs) (tune_steps address kind p.notch by p.hz at ++ ddc_part by p.inverted) (path_eight kind p.path rs)
@@ -110,7 +110,7 @@ hop_eight kind address p by rs =
 
 -- ---- the steps by both plans: what is handed back, and what is told of the lock
 
-pub hop_by : (os rs room : List ℕ) (hz : ℕ) (t : Tuner) (d later : Driver) (p : Plan) (by : Pll) (f : Flow) (mid after : List ℕ) (answer whole : Answer) (lock : Bool)
+pub hop_by : (os rs room : List ℕ) (hz : ℕ) (t : Tuner) (d later : Driver) (p : Plan) (by : Option pll.Plan) (f : Flow) (mid after : List ℕ) (answer whole : Answer) (lock : Bool)
     → on_room f mid ≡ run in_room os (hop_steps t.kind t.chip.address p by rs) (line t.chip (logged room no_tries) 0 Going false)
     → whole ≡ tune_answer by hz → after ≡ sealed mid f.log.count → answer ≡ answer_of whole f.log.progress
     → lock ≡ lock_by f.log.lock t.lock → later ≡ heard_by d hz answer → f.log.count ≤ 64
@@ -151,7 +151,7 @@ module _ (os rs room : List ℕ) (hz : ℕ) (t : Tuner) (d : Driver) (p : Planne
   unfolding hop_result hop_lock_tries left_by
   hop_refused h = (refuse_by _ given _ os _ t.chip _ (both t d) room number h, untried _ os _ t.chip (λ z. h (number ∙ z)))
 
-  pub hop_taken : (by : Pll) (x : Called Both) (seen : LockTries) → given ≡ 0 → by ≡ plan_for t p.plan.hz
+  pub hop_taken : (by : Option pll.Plan) (x : Called Both) (seen : LockTries) → given ≡ 0 → by ≡ plan_for t p.plan.hz
       → (x ≡ performed (tune_answer by hz) (hop_kept t d p.plan (tune_answer by hz) hz) room (trace os (hop_steps t.kind t.chip.address p.plan by rs) t.chip))
       × (seen ≡ lock_tries_in (trace os (hop_steps t.kind t.chip.address p.plan by rs) t.chip).log)
       → (x ≡ hop_result p hz rs os t d room) × (seen ≡ hop_lock_tries p hz rs os t d room)

@@ -12,7 +12,7 @@ use Rattle.board.specs.declared.Plan.{Plan}
 use Rattle.device.specs.Accesses.{access_step}
 use Rattle.device.specs.Gpio.{bit_steps, output_steps}
 use Rattle.pll.specs.declared.Kind.TheVariants.{R828D}
-use Rattle.pll.specs.declared.Pll.TheVariants as pll
+use Rattle.std.specs.Prelude.{None}
 use Rattle.tuning.specs.Program.{inner_steps}
 use Rattle.boards.specs.Hops.{hop_steps}
 
@@ -20,11 +20,11 @@ module _ (address hz : ℕ) (inverted notch : Bool) (rs : List ℕ) where
   abbrev by : Option Path → Plan
   by route = record { hz = hz; inverted = inverted; path = route; notch = notch }
 
-  pub thirteen : length (hop_steps R828D address (by None) pll.Refused rs) ≡ 13
+  pub thirteen : length (hop_steps R828D address (by None) None rs) ≡ 13
   unfolding inner_steps
   thirteen = refl
 
   -- after the board path's ten
-  pub twenty_three : length (hop_steps R828D address (by (Some Vhf)) pll.Refused rs) ≡ 23
+  pub twenty_three : length (hop_steps R828D address (by (Some Vhf)) None rs) ≡ 23
   unfolding inner_steps output_steps bit_steps access_step
   twenty_three = refl

@@ -8,10 +8,10 @@ use Rattle.std.specs.Prelude.{Option, Some, None}
 use Rattle.board.specs.declared.Path.{Path}
 use Rattle.board.specs.declared.Plan.{Plan}
 use Rattle.pll.specs.declared.Kind.TheVariants.{R820T}
-use Rattle.pll.specs.declared.Pll.{Pll}
+use Rattle.pll.specs.declared.Plan as pll
 use Rattle.boards.specs.Hops.{hop_steps}
 
-module _ (address hz : ℕ) (inverted notch : Bool) (rs : List ℕ) (plan : Pll) where
+module _ (address hz : ℕ) (inverted notch : Bool) (rs : List ℕ) (plan : Option pll.Plan) where
   abbrev by : Option Path → Plan
   by route = record { hz = hz; inverted = inverted; path = route; notch = notch }
 

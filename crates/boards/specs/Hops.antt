@@ -19,8 +19,7 @@ use Rattle.driver.specs.Programs.{board_path_steps}
 use Rattle.driver.specs.Record.{driver, sound_driver}
 use Rattle.pll.specs.declared.Kind.{Kind}
 use Rattle.pll.specs.declared.Kind.TheVariants.{R820T, R828D}
-use Rattle.pll.specs.declared.Pll.{Pll}
-use Rattle.pll.specs.declared.Pll.TheVariants as pll
+use Rattle.pll.specs.declared.Plan as pll
 use Rattle.r82xx.specs.declared.Tuner.{Tuner}
 use Rattle.r82xx.specs.Calls.{hz_refusal, plan_for}
 use Rattle.r82xx.specs.Orders.{lock_kept}
@@ -40,12 +39,12 @@ path_replies R828D None = 0
 path_replies R828D (Some path) = 3
 
 -- the DDC byte goes by the PLL's plan, not by how the steps went: a refusal of the PLL ends the call without one
-abbrev pub ddc_part : Pll → Bool → List Step
-ddc_part pll.Refused inverted = []
-ddc_part (pll.Planned p) inverted = ddc_steps inverted
+abbrev pub ddc_part : Option pll.Plan → Bool → List Step
+ddc_part None inverted = []
+ddc_part (Some p) inverted = ddc_steps inverted
 
 -- its program, by the board's plan and the PLL's
-abbrev pub hop_steps : Kind → ℕ → Plan → Pll → List ℕ → List Step
+abbrev pub hop_steps : Kind → ℕ → Plan → Option pll.Plan → List ℕ → List Step
 hop_steps kind address p by rs =
     path_part kind p.path rs
     ++ (tune_steps address kind p.notch by p.hz (drop (path_replies kind p.path) rs) ++ ddc_part by p.inverted)

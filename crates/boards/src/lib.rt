@@ -17,7 +17,7 @@ use bands::Planned;
 use board::{Path, Plan};
 use chip::Flow;
 use driver::Driver;
-use pll::{Kind, Pll};
+use pll::Kind;
 use r82xx::Tuner;
 use refusals::Answer;
 use tuning::Tuning;
@@ -69,14 +69,20 @@ fn path_replies(kind: Kind, route: Option<Path>) -> usize
 }
 
 // The DDC byte, where the PLL has a plan.
-fn ddc_part(f: Flow, plan: Pll, inverted: bool, outcomes: &[u8], room: &mut [u8]) -> Flow
+fn ddc_part(
+    f: Flow,
+    plan: Option<pll::Plan>,
+    inverted: bool,
+    outcomes: &[u8],
+    room: &mut [u8],
+) -> Flow
     requires { (f.log.count + 1 + closing_owed f.log.opened ≤ length outcomes.now) × (16 * (f.log.count + 1 + closing_owed f.log.opened) ≤ length room.old) }
     ensures room_after { on_room result room.new ≡ run in_room outcomes.now (ddc_part plan inverted) (on_room f room.old) }
     ensures bounds { result.log.count + closing_owed result.log.opened ≤ f.log.count + 1 + closing_owed f.log.opened }
 {
     match plan {
-        Pll::Refused => f,
-        Pll::Planned(_) => demod::ddc(f, inverted, outcomes, room),
+        None => f,
+        Some(_) => demod::ddc(f, inverted, outcomes, room),
     }
 }
 
@@ -85,7 +91,7 @@ fn hop_steps(
     f: Flow,
     kind: Kind,
     plan: Plan,
-    by: Pll,
+    by: Option<pll::Plan>,
     outcomes: &[u8],
     replies: &[u8],
     room: &mut [u8],
@@ -137,7 +143,7 @@ fn hop(
     driver: Driver,
     tuner: Tuner,
     plan: Plan,
-    by: Pll,
+    by: Option<pll::Plan>,
     hz: u64,
     outcomes: &[u8],
     replies: &[u8],

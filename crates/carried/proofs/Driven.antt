@@ -34,8 +34,8 @@ use Rattle.driver.specs.Calls.{Both, both, correction_call, correction_result, c
 use Rattle.driver.specs.Programs.{if_for}
 use Rattle.refusals.specs.Lent.{lent_to}
 use Rattle.refusals.specs.Table.{SETUP, CORRECTION, ROOM}
-use Rattle.pll.specs.declared.Pll.{Pll}
-use Rattle.pll.specs.declared.Pll.TheVariants as pll
+use Rattle.std.specs.Prelude.{Option, Some, None}
+use Rattle.pll.specs.declared.Plan.{Plan}
 use Rattle.registers.specs.Rates.{ratio_of, sent_of, true_of}
 use Rattle.r82xx.specs.declared.Tuner.{Tuner}
 use Rattle.r82xx.specs.Record.{sound, with_corrected}
@@ -96,9 +96,9 @@ true_small : (rate xtal : ℕ) → xtal < 4_294_967_296 → true_of rate xtal < 
 unfolding true_of
 true_small rate xtal h = omega (arith, div-le_self (xtal * 2 ^ 22) (sent_of (ratio_of rate xtal)))
 
-whole_answers : (plan : Pll) (hz : ℕ) → late (tune_answer plan hz) ≡ true
-whole_answers pll.Refused hz = refl
-whole_answers (pll.Planned p) hz = refl
+whole_answers : (plan : Option Plan) (hz : ℕ) → late (tune_answer plan hz) ≡ true
+whole_answers None hz = refl
+whole_answers (Some p) hz = refl
 
 module _ (t : Tuner) (d : Driver) (r : RangedDriver d) where
   rated_ranged : (rate : ℕ) → rate < 4_294_967_296 → (w : Progress) → RangedDriver (rated_by d rate (xtal_of d) w)

@@ -39,8 +39,8 @@ use Rattle.gain.specs.Product.{gain_of, ten}
 use Rattle.gain.specs.Steps.{chosen_of, clamped, step_at}
 use Rattle.pll.specs.declared.Kind.{Kind}
 use Rattle.pll.specs.declared.Kind.TheVariants.{R820T, R828D}
-use Rattle.pll.specs.declared.Pll.{Pll}
-use Rattle.pll.specs.declared.Pll.TheVariants as pll
+use Rattle.std.specs.Prelude.{Option, Some, None}
+use Rattle.pll.specs.declared.Plan.{Plan}
 use Rattle.registers.specs.Rates.{ratio_holds, ratio_of, rate_number}
 use Rattle.reference.specs.declared.Corrected.{Corrected}
 use Rattle.reference.specs.declared.Corrected.TheVariants as corrected
@@ -278,9 +278,9 @@ module _ (t : Tuner) (f : Fielded t) where
   board_steady None rs = resting t (Refused SETUP) refl (λ e. refl) f
   board_steady (Some path) rs = stepping 0 10 3 rs (Done 0) (board_path_steps t.kind path rs) _ refl refl (λ tr. moved tr.chip)
 
-  pub whole_late : (plan : Pll) (hz : ℕ) → late (tune_answer plan hz) ≡ true
-  whole_late pll.Refused hz = refl
-  whole_late (pll.Planned p) hz = refl
+  pub whole_late : (plan : Option Plan) (hz : ℕ) → late (tune_answer plan hz) ≡ true
+  whole_late None hz = refl
+  whole_late (Some p) hz = refl
 
   correction_steady : (b : Bool) (v : ℕ) (ppm : ℤ) (d : Driver) → v < 4_294_967_296 → (b ≡ true → 1 ≤ v)
       → Steady Fielded t (tuner_part (cond b (Still (both (with_corrected t v) (with_ppm d ppm)) (Done 0)) (Still (both t d) (Refused CORRECTION))))

@@ -11,12 +11,11 @@ use lib.ListN.{get_or}
 use Rattle.below.proofs.Test.{below}
 use Rattle.pll.specs.declared.Kind.{Kind}
 use Rattle.pll.specs.declared.Plan.{Plan}
-use Rattle.pll.specs.declared.Pll.TheVariants.{Planned}
+use Rattle.std.specs.Prelude.{Some}
 use Rattle.pll.specs.declared.Sum.{Sum}
 use Rattle.pll.specs.Fraction.{sum_of, sum_start, taken_of, takes_turn, turn_of, turns_of}
 use Rattle.pll.specs.Plan.{fraction_of, made_of, plan_of, whole_of}
 use Rattle.pll.proofs.Bits.{bits_of, sum_is}
-use Rattle.pll.specs.declared.Mixer.TheVariants.{By}
 use Rattle.pll.specs.Divide.{divider_of, dividers}
 use Rattle.pll.proofs.Dividers.{First, Found, first, found}
 use Rattle.pll.proofs.Plans.{Known, known}
@@ -112,7 +111,7 @@ near_made vco m number r h taken fits =
     let gg : g ≤ 1000 * f + 999 = omega arith in
     (omega (arith, lower, more, part, gf, gg, taken), omega (arith, upper, less, part, gf, gg, taken, fits))
 
-pub near : (kind : Kind) (lo r : ℕ) (p : Plan) → plan_of kind lo r ≡ Planned p → Near lo r p
+pub near : (kind : Kind) (lo r : ℕ) (p : Plan) → plan_of kind lo r ≡ Some p → Near lo r p
 near kind lo r p is =
     let w : Known kind lo r p = known kind lo r p is in
     subst (Near lo r) (sym w.made) (go w)
@@ -142,7 +141,7 @@ reference_most vco r h l =
     omega (arith, part, least)
 
 -- what is left of the fraction, of every tuning that is accepted and by any reference
-pub rest_24 : (kind : Kind) (lo r : ℕ) (p : Plan) → plan_of kind lo r ≡ Planned p → p.rest ≤ 24
+pub rest_24 : (kind : Kind) (lo r : ℕ) (p : Plan) → plan_of kind lo r ≡ Some p → p.rest ≤ 24
 rest_24 kind lo r p is =
     let w : Known kind lo r p = known kind lo r p is in
     let vco : ℕ = lo * p.m in
@@ -157,7 +156,7 @@ rest_24 kind lo r p is =
 power : ℕ → Bool
 power j = eqb (get_or dividers j 0) (2 ^ suc j)
 
-pub divider_power : (lo m k : ℕ) → divider_of lo ≡ By m k → m ≡ 2 ^ suc k
+pub divider_power : (lo m k : ℕ) → divider_of lo ≡ Some (m, k) → m ≡ 2 ^ suc k
 unfolding power
 divider_power lo m k e =
     let f : First lo dividers 0 m k = first lo dividers 0 m k e in
@@ -171,7 +170,7 @@ unfolding turns_of turn_of
 none_taken zero k n = refl
 none_taken (suc t) k n = none_taken t k (n * 2)
 
-pub no_sum : (kind : Kind) (lo r : ℕ) (p : Plan) → plan_of kind lo r ≡ Planned p → p.fraction ≡ 0 → p.sum ≡ 0
+pub no_sum : (kind : Kind) (lo r : ℕ) (p : Plan) → plan_of kind lo r ≡ Some p → p.fraction ≡ 0 → p.sum ≡ 0
 no_sum kind lo r p is e =
     let w : Known kind lo r p = known kind lo r p is in
     let f : fraction_of (lo * p.m) r ≡ 0 = ap (λ (x : Plan). x.fraction) (sym w.made) ∙ e in
@@ -186,7 +185,7 @@ pub record Says (p : Plan) (number : ℕ) (reg : Bytes) : Type 0 where
   pub high : reg 0x16 ≡ p.sum / 256
 
 -- such bytes stand for an oscillator at lo
-module _ (kind : Kind) (lo r : ℕ) (p : Plan) (is : plan_of kind lo r ≡ Planned p) (reg : Bytes) (says : Says p p.number reg) where
+module _ (kind : Kind) (lo r : ℕ) (p : Plan) (is : plan_of kind lo r ≡ Some p) (reg : Bytes) (says : Says p p.number reg) where
   abbrev w : Known kind lo r p
   w = known kind lo r p is
 

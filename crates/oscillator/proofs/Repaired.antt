@@ -6,9 +6,7 @@ use native.Mathlib.Omega.{arith}
 use native.Mathlib.Nat.{pow-succ'}
 use Rattle.pll.specs.declared.Kind.{Kind}
 use Rattle.pll.specs.declared.Plan.{Plan}
-use Rattle.pll.specs.declared.Pll.TheVariants.{Planned}
-use Rattle.pll.specs.declared.Mixer.{Mixer}
-use Rattle.pll.specs.declared.Mixer.TheVariants.{By, Missing}
+use Rattle.std.specs.Prelude.{Option, Some, None}
 use Rattle.pll.specs.Plan.{plan_of}
 use Rattle.pll.proofs.Dividers.{by2, found, only}
 use Rattle.pll.proofs.Plans.{Known, known}
@@ -16,11 +14,11 @@ use Rattle.oscillator.specs.Bounds.{AtHalf, ByStatus}
 use Rattle.oscillator.specs.Registers.{Bytes, Within, divider_in, five, vco_in}
 use Rattle.oscillator.proofs.Oscillator.{Says, divider_power, within}
 
-abbrev number_in : Mixer → ℕ
-number_in (By m k) = k
-number_in Missing = 0
+abbrev number_in : Option (ℕ × ℕ) → ℕ
+number_in (Some (m, k)) = k
+number_in None = 0
 
-module _ (kind : Kind) (lo r : ℕ) (p : Plan) (is : plan_of kind lo r ≡ Planned p) where
+module _ (kind : Kind) (lo r : ℕ) (p : Plan) (is : plan_of kind lo r ≡ Some p) where
   w : Known kind lo r p
   w = known kind lo r p is
 

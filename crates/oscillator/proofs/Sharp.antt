@@ -10,7 +10,7 @@ use lib.Dec.{T, leb, leb→le, ltb}
 use Rattle.below.proofs.Test.{below}
 use Rattle.pll.specs.declared.Kind.{Kind}
 use Rattle.pll.specs.declared.Plan.{Plan}
-use Rattle.pll.specs.declared.Pll.TheVariants.{Planned}
+use Rattle.std.specs.Prelude.{Some}
 use Rattle.pll.specs.declared.Sum.{Sum}
 use Rattle.pll.specs.Fraction.{sum_of, sum_start, takes_turn, turn_of, turns_of}
 use Rattle.pll.specs.Plan.{fraction_of, plan_of, whole_of}
@@ -102,7 +102,7 @@ sharp f e =
     plain x = omega arith
 
 -- such bytes stand for an oscillator whose VCO is at most 2,757 Hz below what was asked, and at most 1,243 Hz above
-module _ (kind : Kind) (lo : ℕ) (p : Plan) (is : plan_of kind lo 28_800_000 ≡ Planned p) (reg : Bytes) (says : Says p p.number reg) where
+module _ (kind : Kind) (lo : ℕ) (p : Plan) (is : plan_of kind lo 28_800_000 ≡ Some p) (reg : Bytes) (says : Says p p.number reg) where
   pub around : Around 2_757 1_243 lo 28_800_000 reg
   around =
       let w : Known kind lo 28_800_000 p = known kind lo 28_800_000 p is in

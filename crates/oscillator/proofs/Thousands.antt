@@ -6,7 +6,7 @@ use native.Mathlib.Omega.{arith}
 use native.Mathlib.Nat.{mul-div-le}
 use Rattle.pll.specs.declared.Kind.{Kind}
 use Rattle.pll.specs.declared.Plan.{Plan}
-use Rattle.pll.specs.declared.Pll.TheVariants.{Planned}
+use Rattle.std.specs.Prelude.{Some}
 use Rattle.pll.specs.Fraction.{sum_of, sum_start, taken_of}
 use Rattle.pll.specs.Plan.{fraction_of, plan_of, whole_of}
 use Rattle.pll.proofs.Bits.{bits_of, sum_is}
@@ -16,7 +16,7 @@ use Rattle.oscillator.specs.Registers.{Bytes, divider_in, vco_in}
 use Rattle.oscillator.proofs.Oscillator.{Near, Says, divider_says, fraction_most, high, near, vco_says}
 use Rattle.oscillator.proofs.Rests.{rest_most}
 
-module _ (kind : Kind) (lo r : ℕ) (thousand : r % 1000 ≡ 0) (small : r < 32_768_000) (p : Plan) (is : plan_of kind lo r ≡ Planned p) (reg : Bytes)
+module _ (kind : Kind) (lo r : ℕ) (thousand : r % 1000 ≡ 0) (small : r < 32_768_000) (p : Plan) (is : plan_of kind lo r ≡ Some p) (reg : Bytes)
     (says : Says p p.number reg) where
   pub around : Around 17_999 16_000 lo r reg
   around =

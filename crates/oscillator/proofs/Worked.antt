@@ -3,7 +3,7 @@
 use Prim.Native.Nat.{◌+◌}
 use mathlib.Core.Path.{◌≡◌, refl}
 use Rattle.pll.specs.declared.Kind.TheVariants.{R828D}
-use Rattle.pll.specs.declared.Pll.TheVariants.{Planned}
+use Rattle.std.specs.Prelude.{Some}
 use Rattle.pll.specs.Divide.{first_mixer, in_vco}
 use Rattle.pll.specs.Fraction.{turn_of, turns_of}
 use Rattle.pll.specs.Plan.{plan_of, plan_with}
@@ -23,7 +23,7 @@ whole = refl
 -- what a ppm may cost: at -1 ppm K is 28,799 where R / 1000 is 28,799.972, and a tuning of the FM band has its oscillator 287 Hz above what was asked. At
 -- 0 ppm none of that divider is more than 87 Hz off (Sharp.antt)
 pub one_ppm_plan : plan_of R828D 100_799_560 28_799_972
-    ≡ Planned (record { m = 32; number = 4; n = 55; setting = 0x8a; fraction = 57_589; sum = 0xfffe; rest = 1 })
+    ≡ Some (record { m = 32; number = 4; n = 55; setting = 0x8a; fraction = 57_589; sum = 0xfffe; rest = 1 })
 unfolding in_vco first_mixer setting_of turn_of turns_of plan_with plan_of
 one_ppm_plan = refl
 

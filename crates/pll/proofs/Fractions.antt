@@ -49,24 +49,20 @@ turns_keep (suc t) k n s = omega (arith, turns_keep t k (n * 2) (turn_of k n s),
 pub sum_keeps : (k f : ℕ) → taken_of 16 k 2 (sum_start f) + (sum_of k f).rest ≡ f
 sum_keeps k f = turns_keep 16 k 2 (sum_start f)
 
--- for the loop over a counter of the turns left: one turn ahead, and how far n has doubled
-pub turns_on : (left k n : ℕ) (s : Sum) → 0 < left → turns_of left k n s ≡ turns_of (left - 1) k (n * 2) (turn_of k n s)
+-- for the loop over a counter of the turns done: one turn ahead, and how far n has doubled
+pub turns_on : (i k n : ℕ) (s : Sum) → i < 16 → turns_of (16 - (i + 1)) k (n * 2) (turn_of k n s) ≡ turns_of (16 - i) k n s
 unfolding turns_of
-turns_on zero k n s h = absurd (not-suc-le-zero h)
-turns_on (suc t) k n s h =
-    let e : suc t - 1 ≡ t = omega arith in
-    ap (λ (j : ℕ). turns_of j k (n * 2) (turn_of k n s)) (sym e)
+turns_on i k n s h =
+    let d : 16 - i ≡ suc (16 - (i + 1)) = omega arith in
+    rw d
 
-pub doubled : (left n all : ℕ) → 0 < left → n * 2 ^ left ≡ all → n * 2 * 2 ^ (left - 1) ≡ all
-doubled zero n all h e = absurd (not-suc-le-zero h)
-doubled (suc t) n all h e =
-    let d : suc t - 1 ≡ t = omega arith in
-    simp d (omega (arith, e, ap (λ (x : ℕ). n * x) (pow-succ' 2 t)))
+pub doubled : (i n all : ℕ) → i < 16 → n * 2 ^ (16 - i) ≡ all → n * 2 * 2 ^ (16 - (i + 1)) ≡ all
+doubled i n all h e =
+    let d : 16 - i ≡ suc (16 - (i + 1)) = omega arith in
+    omega (arith, ap (λ (x : ℕ). n * 2 ^ x) d, ap (λ (x : ℕ). n * x) (pow-succ' 2 (16 - (i + 1))))
 
-pub n_most : (left n all : ℕ) → n * 2 ^ left ≡ all → n ≤ all
-n_most left n all e = omega (arith, e, le-mul_of_pos_right n (pow_pos left))
-
-pub turns_done : (left k n : ℕ) (s : Sum) → left ≤ 0 → turns_of left k n s ≡ s
+pub turns_done : (i k n : ℕ) (s : Sum) → 16 ≤ i → turns_of (16 - i) k n s ≡ s
 unfolding turns_of
-turns_done zero k n s h = refl
-turns_done (suc t) k n s h = absurd (not-suc-le-zero h)
+turns_done i k n s h =
+    let d : 16 - i ≡ 0 = omega arith in
+    rw d

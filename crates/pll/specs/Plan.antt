@@ -1,13 +1,9 @@
 -- The numbers of the PLL for a frequency of the oscillator. Document 01, "PLL": "N = lo·m / (2R). Above 127 (R828D) or 63 (R820T): refusal 2.
 -- F = (lo·m - 2RN) / 1000", and "K = R / 1000 (whole numbers throughout)".
-use Rattle.std.specs.Prelude.{ℕ, ◌-◌, ◌*◌, ◌/◌, Bool, cond, ◌&&◌, ◌==◌, nat_le}
+use Rattle.std.specs.Prelude.{ℕ, ◌-◌, ◌*◌, ◌/◌, Bool, cond, ◌&&◌, ◌==◌, nat_le, Option, Some, None}
 use Rattle.pll.specs.declared.Kind.{Kind}
 use Rattle.pll.specs.declared.Kind.TheVariants.{R820T, R828D}
-use Rattle.pll.specs.declared.Mixer.{Mixer}
-use Rattle.pll.specs.declared.Mixer.TheVariants.{By, Missing}
 use Rattle.pll.specs.declared.Plan.{Plan}
-use Rattle.pll.specs.declared.Pll.{Pll}
-use Rattle.pll.specs.declared.Pll.TheVariants.{Planned, Refused}
 use Rattle.pll.specs.Divide.{divider_of}
 use Rattle.pll.specs.Setting.{setting_of}
 use Rattle.pll.specs.Fraction.{sum_of}
@@ -44,11 +40,11 @@ made_of vco m number r =
 abbrev pub taken : Kind → ℕ → Bool
 taken kind n = nat_le 13 n && nat_le n (cap_of kind)
 
-unfoldable pub plan_with : Kind → ℕ → ℕ → Mixer → Pll
-plan_with kind lo r Missing = Refused
-plan_with kind lo r (By m number) =
-    cond (taken kind (whole_of (lo * m) r)) (Planned (made_of (lo * m) m number r)) Refused
+unfoldable pub plan_with : Kind → ℕ → ℕ → Option (ℕ × ℕ) → Option Plan
+plan_with kind lo r None = None
+plan_with kind lo r (Some (m, number)) =
+    cond (taken kind (whole_of (lo * m) r)) (Some (made_of (lo * m) m number r)) None
 
 -- no record holds a reference of zero ("nominal and corrected reference" are 1..4,294,967,295): it is refused here so that every input has an answer
-unfoldable pub plan_of : Kind → ℕ → ℕ → Pll
-plan_of kind lo r = cond (r == 0) Refused (plan_with kind lo r (divider_of lo))
+unfoldable pub plan_of : Kind → ℕ → ℕ → Option Plan
+plan_of kind lo r = cond (r == 0) None (plan_with kind lo r (divider_of lo))

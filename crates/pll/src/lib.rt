@@ -17,46 +17,40 @@ pub const VCO_MAX: u64 = 3_600_000_000;
 // The least N that the byte for register 0x14 can tell.
 const LEAST: u64 = 13;
 
-#[derive(Clone, Copy)]
+#[derive(Clone, Copy, PartialEq, Eq)]
 pub enum Kind {
     R820T,
     R828D,
 }
 
-// A divider and its number for register 0x10, or none.
-#[derive(Clone, Copy)]
-pub enum Mixer {
-    By(u64, u8),
-    Missing,
-}
-
-// The search for the first right divider, upward from 2. Below VCO_MAX / 2 only the lower bounds are left to test:
+// The first right divider, upward from 2, with its number for register 0x10. Below VCO_MAX / 2 only the lower bounds are left to test:
 // a divider was passed over because it is too small, so twice it is not too large. No product is made, so none overflows.
-pub fn divider(lo: u64) -> Mixer
+// Tests with constants, one below the other: a table with a search in it would be no plainer.
+pub fn divider(lo: u64) -> Option<(u64, u8)>
     ensures { result ≡ divider_of lo }
 {
     if VCO_MAX / 2 <= lo {
-        return Mixer::Missing;
+        return None;
     }
     if VCO_MIN / 2 <= lo {
-        return Mixer::By(2, 0);
+        return Some((2, 0));
     }
     if VCO_MIN / 4 <= lo {
-        return Mixer::By(4, 1);
+        return Some((4, 1));
     }
     if VCO_MIN / 8 <= lo {
-        return Mixer::By(8, 2);
+        return Some((8, 2));
     }
     if VCO_MIN / 16 <= lo {
-        return Mixer::By(16, 3);
+        return Some((16, 3));
     }
     if VCO_MIN / 32 <= lo {
-        return Mixer::By(32, 4);
+        return Some((32, 4));
     }
     if VCO_MIN / 64 <= lo {
-        return Mixer::By(64, 5);
+        return Some((64, 5));
     }
-    Mixer::Missing
+    None
 }
 
 // The largest N: 128 / (the Rust's vco_power_ref) - 1.
@@ -69,10 +63,11 @@ fn cap(kind: Kind) -> u64
     }
 }
 
+// a: 0 below 13, where the subtraction stops.
 fn quarter(n: u64) -> u64
     ensures { result ≡ quarter_of n }
 {
-    if n < 13 { 0 } else { (n - 13) / 4 }
+    n.saturating_sub(13) / 4
 }
 
 // The byte for register 0x14.
@@ -80,9 +75,8 @@ fn setting(n: u64) -> u8
     requires { n < 128 }
     ensures { result ≡ setting_of n }
 {
-    let small = n as u8;
     let a = quarter(n) as u8;
-    let s = std::num::wrapping_sub_u8(small, 13 + 4 * a);
+    let s = (n as u8).wrapping_sub(13 + 4 * a);
     a | (s << 6)
 }
 
@@ -128,11 +122,9 @@ fn fraction(k: u64, f: u64) -> Sum
         stopped: false,
     };
     let mut n: u64 = 2;
-    let mut left: u64 = 16;
-    while 0 < left {
+    for _ in 0..16_u64 {
         s = turn(k, n, s);
-        n = n * 2;
-        left = left - 1;
+        n *= 2;
     }
     s
 }
@@ -149,30 +141,22 @@ pub struct Plan {
     pub rest: u64,
 }
 
-#[derive(Clone, Copy)]
-pub enum Pll {
-    Planned(Plan),
-    Refused,
-}
-
 // The plan for the oscillator's frequency `lo` at the reference `r`. A reference of zero, which no record holds, is refused too.
-pub fn plan_pll(kind: Kind, lo: u64, r: u32) -> Pll
+pub fn plan_pll(kind: Kind, lo: u64, r: u32) -> Option<Plan>
     ensures { result ≡ plan_of kind lo r }
 {
     if r == 0 {
-        return Pll::Refused;
+        return None;
     }
-    let Mixer::By(m, number) = divider(lo) else {
-        return Pll::Refused;
-    };
+    let (m, number) = divider(lo)?;
     let wide = r as u64;
     let vco = lo * m;
     let n = vco / (2 * wide);
     if n < LEAST {
-        return Pll::Refused;
+        return None;
     }
     if cap(kind) < n {
-        return Pll::Refused;
+        return None;
     }
     let f = (vco - 2 * wide * n) / 1000;
     let byte = setting(n);
@@ -181,7 +165,7 @@ pub fn plan_pll(kind: Kind, lo: u64, r: u32) -> Pll
     let rest = end.rest;
     let small = n as u8;
     let short = sum as u16;
-    Pll::Planned(Plan {
+    Some(Plan {
         m,
         number,
         n: small,

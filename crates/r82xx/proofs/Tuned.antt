@@ -25,8 +25,8 @@ use Rattle.gain.specs.Steps.{chosen_of, clamped, steps}
 use Rattle.gain.proofs.Steps.{chosen_lt}
 use Rattle.pll.specs.declared.Kind.{Kind}
 use Rattle.pll.specs.declared.Kind.TheVariants.{R820T, R828D}
-use Rattle.pll.specs.declared.Pll.{Pll}
-use Rattle.pll.specs.declared.Pll.TheVariants as pll-variants
+use Rattle.std.specs.Prelude.{Option, Some, None}
+use Rattle.pll.specs.declared.Plan.{Plan}
 use Rattle.pll.specs.Plan.{plan_of}
 use Rattle.pll.proofs.Plans.{known}
 use Rattle.tuning.specs.Program.{inner_steps, divider_number, tune_answer}
@@ -47,12 +47,12 @@ use Rattle.r82xx.proofs.Whole.{behind_eight, bracket_by, bracket_call, refuse_by
 pub number_small : (kind : Kind) (lo r : ℕ) → divider_number (plan_of kind lo r) ≤ 5
 number_small kind lo r = go (plan_of kind lo r) refl
   where
-    go : (p : Pll) → plan_of kind lo r ≡ p → divider_number p ≤ 5
-    go (pll-variants.Planned p) e = (known kind lo r p e).number
-    go pll-variants.Refused e = omega arith
+    go : (p : Option Plan) → plan_of kind lo r ≡ p → divider_number p ≤ 5
+    go (Some p) e = (known kind lo r p e).number
+    go None e = omega arith
 
 -- a tuning's steps by its plan: what is handed back, and what is told of the lock
-pub tune_by : (os rs room : List ℕ) (hz : ℕ) (t : Tuner) (plan : Pll) (f : Flow) (mid after : List ℕ) (answer whole : Answer) (lock : Bool)
+pub tune_by : (os rs room : List ℕ) (hz : ℕ) (t : Tuner) (plan : Option Plan) (f : Flow) (mid after : List ℕ) (answer whole : Answer) (lock : Bool)
     → on_room f mid ≡ run in_room os (tune_of t plan hz rs) (line t.chip (logged room no_tries) 0 Going false)
     → whole ≡ tune_answer plan hz → after ≡ sealed mid f.log.count → answer ≡ answer_of whole f.log.progress
     → lock ≡ lock_by f.log.lock t.lock → f.log.count ≤ 53
@@ -83,15 +83,15 @@ unfolding result_of left_by lock_tries_of
 tune_refused os rs room hz given t e h =
     (refuse_by _ given _ os _ t.chip _ t room e h, untried _ os _ t.chip (λ z. h (e ∙ z)))
 
-pub tune_taken : (os rs room : List ℕ) (hz given : ℕ) (t : Tuner) (plan : Pll) (x : Called Tuner) (s : LockTries)
+pub tune_taken : (os rs room : List ℕ) (hz given : ℕ) (t : Tuner) (plan : Option Plan) (x : Called Tuner) (s : LockTries)
     → given ≡ refusal_of t (hz_refusal hz t.ifreq) 53 35 (length room) (length os) (length rs) → given ≡ 0 → plan ≡ plan_for t hz
     → (x ≡ performed (tune_answer plan hz) (lock_kept t) room (trace os (tune_of t plan hz rs) t.chip)) × (s ≡ lock_tries_in (trace os (tune_of t plan hz rs) t.chip).log)
     → (x ≡ result_of (Tune hz rs) os t room) × (s ≡ lock_tries_of (Tune hz rs) os t room)
 unfolding result_of left_by lock_tries_of
 tune_taken os rs room hz given t plan x s e z p h =
     let zero : refusal_of t (hz_refusal hz t.ifreq) 53 35 (length room) (length os) (length rs) ≡ 0 = sym e ∙ z in (
-      h.0 ∙ ap (λ (q : Pll). performed (tune_answer q hz) (lock_kept t) room (trace os (tune_of t q hz rs) t.chip)) p ∙ performs _ _ os _ t.chip _ t room zero,
-      h.1 ∙ ap (λ (q : Pll). lock_tries_in (trace os (tune_of t q hz rs) t.chip).log) p ∙ tried _ os _ t.chip zero,
+      h.0 ∙ ap (λ (q : Option Plan). performed (tune_answer q hz) (lock_kept t) room (trace os (tune_of t q hz rs) t.chip)) p ∙ performs _ _ os _ t.chip _ t room zero,
+      h.1 ∙ ap (λ (q : Option Plan). lock_tries_in (trace os (tune_of t q hz rs) t.chip).log) p ∙ tried _ os _ t.chip zero,
     )
 
 -- the input path's three ways

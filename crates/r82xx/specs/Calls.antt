@@ -1,9 +1,9 @@
 -- What the rows of specs/Orders.antt are made of. Document 01, "Refusal numbers", "PLL".
 -- Assumes nothing.
-use Rattle.std.specs.Prelude.{ℕ, ◌+◌, ◌^◌, ◌||◌, cond, eqb, leb}
+use Rattle.std.specs.Prelude.{ℕ, ◌+◌, ◌^◌, ◌||◌, cond, eqb, leb, Option}
 use Rattle.refusals.specs.Table.{FREQUENCY}
 use Rattle.chip.specs.Calls.{refusal_with}
-use Rattle.pll.specs.declared.Pll.{Pll}
+use Rattle.pll.specs.declared.Plan.{Plan}
 use Rattle.pll.specs.Plan.{plan_of}
 use Rattle.r82xx.specs.declared.Tuner.{Tuner}
 use Rattle.r82xx.specs.Record.{sound}
@@ -16,5 +16,5 @@ refusal_of t = refusal_with (sound t)
 abbrev pub hz_refusal : ℕ → ℕ → ℕ
 hz_refusal hz ifreq = cond (eqb hz 0 || leb (2 ^ 64) (hz + ifreq)) FREQUENCY 0
 
-abbrev pub plan_for : Tuner → ℕ → Pll
+abbrev pub plan_for : Tuner → ℕ → Option Plan
 plan_for t hz = plan_of t.kind (hz + t.ifreq) t.corrected

@@ -19,7 +19,7 @@ use Rattle.gain.specs.Product.{gain_of}
 use Rattle.gain.specs.Steps.{chosen_of, clamped, step_at, steps}
 use Rattle.pll.specs.declared.Kind.{Kind}
 use Rattle.pll.specs.declared.Kind.TheVariants.{R820T, R828D}
-use Rattle.pll.specs.declared.Pll.{Pll}
+use Rattle.pll.specs.declared.Plan.{Plan}
 use Rattle.tuning.specs.Program.{tune_steps, tune_answer}
 use Rattle.tuning.specs.Tries.{lock_by}
 use Rattle.writes.specs.Lists.{bandwidth_updates, gain_updates, if_updates, path_updates}
@@ -59,7 +59,7 @@ path_row (Some path) R820T t = Still t (Done 0)
 path_row (Some path) R828D t = bracket 2 (path_updates path) (Done 0) t t
 
 -- a tuning's program by its plan, and the record that its steps leave
-abbrev pub tune_of : Tuner → Pll → ℕ → List ℕ → List Step
+abbrev pub tune_of : Tuner → Option Plan → ℕ → List ℕ → List Step
 tune_of t plan hz rs = tune_steps t.chip.address t.kind t.notch plan hz rs
 
 abbrev pub lock_kept : Tuner → Trace → Tuner

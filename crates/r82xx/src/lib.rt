@@ -21,7 +21,7 @@ ghost use Rattle.r82xx.specs.Orders.{bracket, lock_kept, quietly, result_of, loc
 ghost use Rattle.r82xx.specs.Orders.Order.{Initialize, Reload, Bandwidth, IfFreq, Gain, GainIndex, InputPath, Tune, Notch, GainTold, IfTold};
 
 use chip::{Chip, Flow, Progress, Updates};
-use pll::{Kind, Pll};
+use pll::{Kind, Plan};
 use refusals::Answer;
 use tuning::Tuning;
 use writes::{IF_FREQ_NARROW, INIT_ARRAY};
@@ -392,7 +392,7 @@ impl Tuner {
     // The steps of a tuning by its plan; all that they may need is lent.
     fn tune(
         mut self,
-        plan: Pll,
+        plan: Option<Plan>,
         hz: u64,
         outcomes: &[u8],
         replies: &[u8],

@@ -25,8 +25,8 @@ use Rattle.device.specs.Gpio.{bit_steps, changed_of, output_steps, with_bit, wit
 use Rattle.driver.specs.Programs.{board_path_steps, level_for, tuner_path}
 use Rattle.pll.specs.declared.Kind.{Kind}
 use Rattle.pll.specs.declared.Kind.TheVariants.{R820T, R828D}
-use Rattle.pll.specs.declared.Pll.{Pll}
-use Rattle.pll.specs.declared.Pll.TheVariants.{Planned, Refused}
+use Rattle.std.specs.Prelude.{Option, Some, None}
+use Rattle.pll.specs.declared.Plan as pll-plan
 use Rattle.status.specs.Reversal.{locked_by}
 use Rattle.tuning.specs.Mux.{mux_updates, pll_updates, range_of}
 use Rattle.tuning.specs.Program.{inner_steps, pll_steps, tune_steps}
@@ -81,10 +81,10 @@ unfolding every
 mute_path R820T path = refl
 mute_path R828D path = mute_bracket (path_updates path)
 
-mute_ddc : (by : Pll) (inverted : Bool) → every mute (ddc_part by inverted) ≡ true
+mute_ddc : (by : Option pll-plan.Plan) (inverted : Bool) → every mute (ddc_part by inverted) ≡ true
 unfolding every ddc_steps
-mute_ddc Refused inverted = refl
-mute_ddc (Planned p) inverted = refl
+mute_ddc None inverted = refl
+mute_ddc (Some p) inverted = refl
 
 -- ---- GPIO: a read, and a write of what it gave with a bit changed
 
@@ -191,11 +191,11 @@ module _ (k : ℕ) (qs ps : List ℕ) (known : take k qs ≡ take k ps) where
         (joined (repair (get_or mine 4 0)) (tries_from address mine 10 0) (tries_from address others 10 0) tail
         (alike_front (repair (get_or mine 4 0)) (mute_updates (repair_updates kind number (get_or mine 4 0))) (tries_alike 10 0))))))
 
-    pub tune_alike : (notch : Bool) (pll : Pll) (hz : ℕ)
+    pub tune_alike : (notch : Bool) (pll : Option pll-plan.Plan) (hz : ℕ)
         → Alike k qs b (tune_steps address kind notch pll hz mine ++ zs) (tune_steps address kind notch pll hz others ++ zs)
     unfolding inner_steps every
-    tune_alike notch Refused hz = alike_refl (tune_steps address kind notch Refused hz mine ++ zs) quiet
-    tune_alike notch (Planned p) hz =
+    tune_alike notch None hz = alike_refl (tune_steps address kind notch None hz mine ++ zs) quiet
+    tune_alike notch (Some p) hz =
         let first : List Step = updates (mux_updates notch (range_of hz) ++ pll_updates p) in
         let left : List Step = pll_steps address kind p.number mine in
         let right : List Step = pll_steps address kind p.number others in
@@ -206,7 +206,7 @@ module _ (k : ℕ) (qs ps : List ℕ) (known : take k qs ≡ take k ps) where
 
   -- ---- the board-level tune
 
-  pub hop_alike : (kind : Kind) (address : ℕ) (p : Plan) (by : Pll) → Alike k qs 0 (hop_steps kind address p by qs) (hop_steps kind address p by ps)
+  pub hop_alike : (kind : Kind) (address : ℕ) (p : Plan) (by : Option pll-plan.Plan) → Alike k qs 0 (hop_steps kind address p by qs) (hop_steps kind address p by ps)
   hop_alike kind address p by = go kind p.path
     where
       ddc : List Step

@@ -19,7 +19,7 @@ use Rattle.pll.specs.declared.Kind.{Kind}
 use Rattle.pll.specs.declared.Kind.TheVariants.{R828D}
 use Rattle.pll.specs.Divide.{first_mixer, in_vco}
 use Rattle.pll.specs.Plan.{plan_of, plan_with}
-use Rattle.pll.specs.declared.Pll.TheVariants as pll-variants
+use Rattle.std.specs.Prelude.{None}
 use Rattle.tuning.specs.Mux.{mux_updates, range_of}
 use Rattle.tuning.specs.Program.{inner_steps, tune_steps}
 use Rattle.tuning.specs.Tries.{lock_by}
@@ -39,7 +39,7 @@ mux_entries t hz ok = repeater 1 true ∷ (entries_for (mux_updates t.notch (ran
 
 module _ (address hz z : ℕ) (kind : Kind) (notch : Bool) (rs os : List ℕ) (c : Chip) where
   abbrev tr : Trace
-  tr = trace (replicate 12 0 ++ (z ∷ os)) (tune_steps address kind notch pll-variants.Refused hz rs) c
+  tr = trace (replicate 12 0 ++ (z ∷ os)) (tune_steps address kind notch None hz rs) c
 
   left_log : tr.log ≡ repeater 1 true ∷ (entries_for (mux_updates notch (range_of hz)) c ++ (repeater 0 (eqb z 0) ∷ []))
   unfolding trace run step inner_steps entries_for
@@ -64,9 +64,9 @@ module _ (t : Tuner) (hz z : ℕ) (rs os room : List ℕ) where
   outcomes = replicate 12 0 ++ (z ∷ os)
 
   -- a tuning that is not refused before its steps, and whose plan is
-  module _ (e : refusal_of t (hz_refusal hz t.ifreq) 53 35 (length room) (length outcomes) (length rs) ≡ 0) (p : plan_for t hz ≡ pll-variants.Refused) where
+  module _ (e : refusal_of t (hz_refusal hz t.ifreq) 53 35 (length room) (length outcomes) (length rs) ≡ 0) (p : plan_for t hz ≡ None) where
     abbrev run_of : Trace
-    run_of = trace outcomes (tune_of t pll-variants.Refused hz rs) t.chip
+    run_of = trace outcomes (tune_of t None hz rs) t.chip
 
     left : result (call (Tuned (Tune hz rs)) outcomes room) t ≡ performed (Refused FREQUENCY) (lock_kept t) room run_of
     left = tune_by_plan t hz outcomes rs room ∙ ap (by_plan t hz outcomes rs room) p ∙ progress_on _ _ _ _ _ _ _ _ e
@@ -93,7 +93,7 @@ module _ (t : Tuner) (hz z : ℕ) (rs os room : List ℕ) where
 abbrev high : Tuner
 high = fresh_tuner R828D 0x74 28_800_000
 
-pub late_there : (plan_for high 2_000_000_000 ≡ pll-variants.Refused)
+pub late_there : (plan_for high 2_000_000_000 ≡ None)
     × (refusal_of high (hz_refusal 2_000_000_000 high.ifreq) 53 35 856 (length (outcomes high 2_000_000_000 1 [] (replicate 40 0) [])) 35 ≡ 0)
 unfolding plan_of plan_with first_mixer in_vco too_short
 late_there = (refl, refl)

@@ -26,8 +26,8 @@ use Rattle.chip.specs.Calls.{Called, answer_of, call_entries, call_of, too_short
 use Rattle.chip.specs.Steps.{Step, Trace, run, step, trace}
 use Rattle.pll.specs.declared.Kind.{Kind}
 use Rattle.pll.specs.declared.Kind.TheVariants.{R820T, R828D}
-use Rattle.pll.specs.declared.Pll.{Pll}
-use Rattle.pll.specs.declared.Pll.TheVariants as pll-variants
+use Rattle.std.specs.Prelude.{Option, None}
+use Rattle.pll.specs.declared.Plan.{Plan}
 use Rattle.pll.specs.Divide.{first_mixer, in_vco}
 use Rattle.pll.specs.Fraction.{turn_of, turns_of}
 use Rattle.pll.specs.Plan.{plan_of as pllOf, plan_with}
@@ -163,16 +163,16 @@ bit_reached = refl
 -- ---- "A PLL refusal comes after the mux: all done, it leaves 13 entries (open, 11 writes, close)"
 
 -- whatever the chip, the notch and the range: the steps are open, the mux's writes, close
-thirteen : (address hz : ℕ) (kind : Kind) (notch : Bool) (rs os : List ℕ) (c : Chip) → length (trace (replicate 13 0 ++ os) (tune_steps address kind notch pll-variants.Refused hz rs) c).log ≡ 13
+thirteen : (address hz : ℕ) (kind : Kind) (notch : Bool) (rs os : List ℕ) (c : Chip) → length (trace (replicate 13 0 ++ os) (tune_steps address kind notch None hz rs) c).log ≡ 13
 unfolding trace run step inner_steps
 thirteen address hz kind notch rs os c = refl
 
-none_failed : (address hz : ℕ) (kind : Kind) (notch : Bool) (rs os : List ℕ) (c : Chip) → (trace (replicate 13 0 ++ os) (tune_steps address kind notch pll-variants.Refused hz rs) c).progress ≡ Going
+none_failed : (address hz : ℕ) (kind : Kind) (notch : Bool) (rs os : List ℕ) (c : Chip) → (trace (replicate 13 0 ++ os) (tune_steps address kind notch None hz rs) c).progress ≡ Going
 unfolding trace run step inner_steps
 none_failed address hz kind notch rs os c = refl
 
 -- a tuning by its plan
-abbrev pub by_plan : Tuner → ℕ → List ℕ → List ℕ → List ℕ → Pll → Called Tuner
+abbrev pub by_plan : Tuner → ℕ → List ℕ → List ℕ → List ℕ → Option Plan → Called Tuner
 by_plan t hz os rs room plan =
     call_of (refusal_of t (hz_refusal hz t.ifreq) 53 35 (length room) (length os) (length rs)) (tune_answer plan hz) os
     (tune_of t plan hz rs) t.chip (lock_kept t) t room
@@ -190,7 +190,7 @@ progress_on number whole os ss c keep old room e = rw (eq-eqb number 0 e)
 -- a tuning that is not refused before its steps, and whose plan is: its answer, and how many entries it made
 pub refused_in_the_pll : (t : Tuner) (hz : ℕ) (rs os room : List ℕ)
     → refusal_of t (hz_refusal hz t.ifreq) 53 35 (length room) (length (replicate 13 0 ++ os)) (length rs) ≡ 0
-    → plan_for t hz ≡ pll-variants.Refused
+    → plan_for t hz ≡ None
     → ((result_of (Tune hz rs) (replicate 13 0 ++ os) t room).answer ≡ Refused FREQUENCY) × ((result_of (Tune hz rs) (replicate 13 0 ++ os) t room).count ≡ 13)
 refused_in_the_pll t hz rs os room e p =
     let is : _ = tune_by_plan t hz (replicate 13 0 ++ os) rs room ∙ ap (by_plan t hz (replicate 13 0 ++ os) rs room) p ∙ progress_on _ _ _ _ _ _ _ _ e in (
@@ -207,7 +207,7 @@ late_count R828D (Some path) = 23
 
 module _ (address : ℕ) (rs os : List ℕ) (c : Chip) where
   abbrev late : Kind → board.Plan → Trace
-  late kind p = trace (replicate 23 0 ++ os) (hop_steps kind address p pll-variants.Refused rs) c
+  late kind p = trace (replicate 23 0 ++ os) (hop_steps kind address p None rs) c
 
   hop_late : (kind : Kind) (p : board.Plan) (route : Option Path) → p.path ≡ route → (length (late kind p).log ≡ late_count kind route) × ((late kind p).progress ≡ Going)
   unfolding trace run step inner_steps output_steps bit_steps access_step
@@ -219,14 +219,14 @@ module _ (address : ℕ) (rs os : List ℕ) (c : Chip) where
 
 pub hop_refused_in_the_pll : (t : Tuner) (hz : ℕ) (table rs : List ℕ) (d : Driver) (os room : List ℕ)
     → refusal_with (sound t && sound_driver d) (hop_refusal (plan_by table hz) t.ifreq) 64 38 (length room) (length (replicate 23 0 ++ os)) (length rs) ≡ 0
-    → plan_for t (plan_by table hz).plan.hz ≡ pll-variants.Refused
+    → plan_for t (plan_by table hz).plan.hz ≡ None
     → ((hop_result (plan_by table hz) hz rs (replicate 23 0 ++ os) t d room).answer ≡ Refused FREQUENCY)
     × ((hop_result (plan_by table hz) hz rs (replicate 23 0 ++ os) t d room).count ≡ late_count t.kind (plan_by table hz).plan.path)
 unfolding hop_result left_by
 hop_refused_in_the_pll t hz table rs d os room e p =
     let at : Planned = plan_by table hz in
     let outcomes : List ℕ = replicate 23 0 ++ os in
-    let by : Pll → Called Both = (λ plan.
+    let by : Option Plan → Called Both = (λ plan.
     call_of (refusal_with (sound t && sound_driver d) (hop_refusal at t.ifreq) 64 38 (length room) (length outcomes) (length rs)) (tune_answer plan hz) outcomes
     (hop_steps t.kind t.chip.address at.plan plan rs) t.chip (hop_kept t d at.plan (tune_answer plan hz) hz) (both t d) room) in
     let is : by (plan_for t at.plan.hz) ≡ _ = ap by p ∙ progress_on _ _ _ _ _ _ _ _ e in

@@ -20,8 +20,7 @@ use Rattle.chip.proofs.Laws.{and_left}
 use Rattle.pll.specs.declared.Kind.{Kind}
 use Rattle.pll.specs.declared.Kind.TheVariants.{R820T, R828D}
 use Rattle.pll.specs.declared.Plan.{Plan}
-use Rattle.pll.specs.declared.Pll.{Pll}
-use Rattle.pll.specs.declared.Pll.TheVariants.{Planned, Refused}
+use Rattle.std.specs.Prelude.{Option, Some, None}
 use Rattle.tuning.specs.Mux.{mux_updates, pll_updates, range_of}
 use Rattle.tuning.specs.Tries.{after_try, again, fine_of, locked, locks_at, power_of, repair_updates, reply_bytes, status_steps, tries_from, try_read}
 use Rattle.tuning.specs.Program.{inner_steps, pll_steps, tune_steps}
@@ -167,14 +166,14 @@ module _ (address : ℕ) (rs : List ℕ) (small : address ≤ 255) (bytes : ever
       (every_append fine (updates (repair_updates kind number (get_or rs 4 0))) (tries_from address rs 10 0)
       (fine_updates (repair_updates kind number (get_or rs 4 0)) (repair_in kind number (get_or rs 4 0))) (fine_tries 10 0))
 
-  fine_inner : (kind : Kind) (notch : Bool) (plan : Pll) (hz : ℕ) → every fine (inner_steps address kind notch plan hz rs) ≡ true
+  fine_inner : (kind : Kind) (notch : Bool) (plan : Option Plan) (hz : ℕ) → every fine (inner_steps address kind notch plan hz rs) ≡ true
   unfolding inner_steps
-  fine_inner kind notch Refused hz = fine_updates (mux_updates notch (range_of hz)) (mux_in notch hz)
-  fine_inner kind notch (Planned p) hz =
+  fine_inner kind notch None hz = fine_updates (mux_updates notch (range_of hz)) (mux_in notch hz)
+  fine_inner kind notch (Some p) hz =
       every_append fine (updates (mux_updates notch (range_of hz) ++ pll_updates p)) (pll_steps address kind p.number rs)
       (fine_updates (mux_updates notch (range_of hz) ++ pll_updates p) (tune_in notch hz p)) (fine_pll kind p.number)
 
-  pub fine_tune : (kind : Kind) (notch : Bool) (plan : Pll) (hz : ℕ) → every fine (tune_steps address kind notch plan hz rs) ≡ true
+  pub fine_tune : (kind : Kind) (notch : Bool) (plan : Option Plan) (hz : ℕ) → every fine (tune_steps address kind notch plan hz rs) ≡ true
   fine_tune kind notch plan hz = fine_behind (inner_steps address kind notch plan hz rs) (fine_inner kind notch plan hz)
 
 -- ---- the driver's two
@@ -212,11 +211,11 @@ fine_path_part R820T route rs = no_steps
 fine_path_part R828D None rs = no_steps
 fine_path_part R828D (Some path) rs = fine_board R828D path rs
 
-fine_ddc_part : (plan : Pll) (inverted : Bool) → every fine (ddc_part plan inverted) ≡ true
-fine_ddc_part Refused inverted = no_steps
-fine_ddc_part (Planned p) inverted = fines (ddc_steps inverted) (beside_ddc inverted)
+fine_ddc_part : (plan : Option Plan) (inverted : Bool) → every fine (ddc_part plan inverted) ≡ true
+fine_ddc_part None inverted = no_steps
+fine_ddc_part (Some p) inverted = fines (ddc_steps inverted) (beside_ddc inverted)
 
-pub fine_hop : (address : ℕ) (rs : List ℕ) → address ≤ 255 → every is_byte rs ≡ true → (kind : Kind) (p : board-plan.Plan) (plan : Pll) → every fine (hop_steps kind address p plan rs) ≡ true
+pub fine_hop : (address : ℕ) (rs : List ℕ) → address ≤ 255 → every is_byte rs ≡ true → (kind : Kind) (p : board-plan.Plan) (plan : Option Plan) → every fine (hop_steps kind address p plan rs) ≡ true
 fine_hop address rs small bytes kind p plan =
     let k : ℕ = path_replies kind p.path in
     every_append fine (path_part kind p.path rs) (tune_steps address kind p.notch plan p.hz (drop k rs) ++ ddc_part plan p.inverted) (fine_path_part kind p.path rs)
@@ -250,14 +249,14 @@ pll_length : (address : ℕ) (kind : Kind) (number : ℕ) (rs : List ℕ) → le
 pll_length address kind number rs =
     omega (arith, length-append (updates (repair_updates kind number (get_or rs 4 0))) (tries_from address rs 10 0), repair_length kind number (get_or rs 4 0), tries_length address rs 10 0)
 
-inner_length : (address : ℕ) (kind : Kind) (notch : Bool) (plan : Pll) (hz : ℕ) (rs : List ℕ) → length (inner_steps address kind notch plan hz rs) ≤ 51
+inner_length : (address : ℕ) (kind : Kind) (notch : Bool) (plan : Option Plan) (hz : ℕ) (rs : List ℕ) → length (inner_steps address kind notch plan hz rs) ≤ 51
 unfolding inner_steps
-inner_length address kind notch Refused hz rs = omega arith
-inner_length address kind notch (Planned p) hz rs =
+inner_length address kind notch None hz rs = omega arith
+inner_length address kind notch (Some p) hz rs =
     omega (arith, pll_length address kind p.number rs)
 
 -- "tune 53"
-pub tune_length : (address : ℕ) (kind : Kind) (notch : Bool) (plan : Pll) (hz : ℕ) (rs : List ℕ) → length (tune_steps address kind notch plan hz rs) ≤ 53
+pub tune_length : (address : ℕ) (kind : Kind) (notch : Bool) (plan : Option Plan) (hz : ℕ) (rs : List ℕ) → length (tune_steps address kind notch plan hz rs) ≤ 53
 tune_length address kind notch plan hz rs =
     omega (arith, length-append (inner_steps address kind notch plan hz rs) (Close ∷ []), inner_length address kind notch plan hz rs)
 
@@ -276,13 +275,13 @@ path_part_length R820T route rs = omega arith
 path_part_length R828D None rs = omega arith
 path_part_length R828D (Some path) rs = board_length R828D path rs
 
-ddc_part_length : (plan : Pll) (inverted : Bool) → length (ddc_part plan inverted) ≤ 1
+ddc_part_length : (plan : Option Plan) (inverted : Bool) → length (ddc_part plan inverted) ≤ 1
 unfolding ddc_steps
-ddc_part_length Refused inverted = omega arith
-ddc_part_length (Planned p) inverted = omega arith
+ddc_part_length None inverted = omega arith
+ddc_part_length (Some p) inverted = omega arith
 
 -- #113: "of at most 64 entries"
-pub hop_length : (kind : Kind) (address : ℕ) (p : board-plan.Plan) (plan : Pll) (rs : List ℕ) → length (hop_steps kind address p plan rs) ≤ 64
+pub hop_length : (kind : Kind) (address : ℕ) (p : board-plan.Plan) (plan : Option Plan) (rs : List ℕ) → length (hop_steps kind address p plan rs) ≤ 64
 hop_length kind address p plan rs =
     let tail : List Step = tune_steps address kind p.notch plan p.hz (drop (path_replies kind p.path) rs) in
     omega (

@@ -49,8 +49,8 @@ use Rattle.driver.specs.Record.{xtal_by, xtal_of}
 use Rattle.gain.specs.Steps.{chosen_of, clamped}
 use Rattle.pll.specs.declared.Kind.{Kind}
 use Rattle.pll.specs.declared.Kind.TheVariants.{R820T, R828D}
-use Rattle.pll.specs.declared.Pll.{Pll}
-use Rattle.pll.specs.declared.Pll.TheVariants as pll-variants
+use Rattle.std.specs.Prelude.{Option, Some, None}
+use Rattle.pll.specs.declared.Plan.{Plan}
 use Rattle.r82xx.specs.declared.Tuner.{Tuner}
 use Rattle.r82xx.specs.Calls.{plan_for}
 use Rattle.r82xx.specs.Orders.{bracket, gain_row, path_row}
@@ -271,15 +271,15 @@ module _ (address : ℕ) (rs : List ℕ) where
   unfolding every
   level_status = refl
 
-  level_inner : (kind : Kind) (notch : Bool) (plan : Pll) (hz : ℕ) → every level (inner_steps address kind notch plan hz rs) ≡ true
+  level_inner : (kind : Kind) (notch : Bool) (plan : Option Plan) (hz : ℕ) → every level (inner_steps address kind notch plan hz rs) ≡ true
   unfolding inner_steps
-  level_inner kind notch pll-variants.Refused hz = level_updates (mux_updates notch (range_of hz))
-  level_inner kind notch (pll-variants.Planned p) hz =
+  level_inner kind notch None hz = level_updates (mux_updates notch (range_of hz))
+  level_inner kind notch (Some p) hz =
       every_append level (updates (mux_updates notch (range_of hz) ++ pll_updates p)) (pll_steps address kind p.number rs) (level_updates (mux_updates notch (range_of hz) ++ pll_updates p))
       (every_append level (status_steps address rs) (updates (repair_updates kind p.number (get_or rs 4 0)) ++ tries_from address rs 10 0) level_status
       (every_append level (updates (repair_updates kind p.number (get_or rs 4 0))) (tries_from address rs 10 0) (level_updates (repair_updates kind p.number (get_or rs 4 0))) (level_tries 10 0)))
 
-  shuts_tune : (kind : Kind) (notch : Bool) (plan : Pll) (hz : ℕ) → shuts false (tune_steps address kind notch plan hz rs) ≡ true
+  shuts_tune : (kind : Kind) (notch : Bool) (plan : Option Plan) (hz : ℕ) → shuts false (tune_steps address kind notch plan hz rs) ≡ true
   shuts_tune kind notch plan hz = shuts_behind (inner_steps address kind notch plan hz rs) (level_inner kind notch plan hz)
 
 -- ---- GPIO and the demodulator: no repeater at all
@@ -312,12 +312,12 @@ shuts_path_part R820T r rs = refl
 shuts_path_part R828D None rs = refl
 shuts_path_part R828D (Some path) rs = shuts_board R828D path rs
 
-shuts_ddc : (plan : Pll) (inverted : Bool) → shuts false (ddc_part plan inverted) ≡ true
+shuts_ddc : (plan : Option Plan) (inverted : Bool) → shuts false (ddc_part plan inverted) ≡ true
 unfolding shuts ddc_steps access_step
-shuts_ddc pll-variants.Refused inverted = refl
-shuts_ddc (pll-variants.Planned p) inverted = refl
+shuts_ddc None inverted = refl
+shuts_ddc (Some p) inverted = refl
 
-shuts_hop : (kind : Kind) (address : ℕ) (p : board-plan.Plan) (plan : Pll) (rs : List ℕ) → shuts false (hop_steps kind address p plan rs) ≡ true
+shuts_hop : (kind : Kind) (address : ℕ) (p : board-plan.Plan) (plan : Option Plan) (rs : List ℕ) → shuts false (hop_steps kind address p plan rs) ≡ true
 shuts_hop kind address p plan rs =
     let deeper : List ℕ = drop (path_replies kind p.path) rs in
     shuts_append false (path_part kind p.path rs) (tune_steps address kind p.notch plan p.hz deeper ++ ddc_part plan p.inverted) (shuts_path_part kind p.path rs)

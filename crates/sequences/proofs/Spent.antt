@@ -37,8 +37,8 @@ use Rattle.fir.specs.Packing.{pack_of}
 use Rattle.gain.specs.Steps.{chosen_of, clamped}
 use Rattle.pll.specs.declared.Kind.{Kind}
 use Rattle.pll.specs.declared.Kind.TheVariants.{R820T, R828D}
-use Rattle.pll.specs.declared.Pll.{Pll}
-use Rattle.pll.specs.declared.Pll.TheVariants as pll-variants
+use Rattle.std.specs.Prelude.{Option, Some, None}
+use Rattle.pll.specs.declared.Plan.{Plan}
 use Rattle.pll.specs.Divide.{first_mixer, in_vco}
 use Rattle.pll.specs.Fraction.{turn_of, turns_of}
 use Rattle.pll.specs.Plan.{plan_of as pllOf, plan_with}
@@ -185,10 +185,10 @@ module _ (address : ℕ) (rs : List ℕ) where
   unfolding needed
   needed_status = refl
 
-  needed_inner : (kind : Kind) (notch : Bool) (plan : Pll) (hz : ℕ) → needed (inner_steps address kind notch plan hz rs) ≤ 35
+  needed_inner : (kind : Kind) (notch : Bool) (plan : Option Plan) (hz : ℕ) → needed (inner_steps address kind notch plan hz rs) ≤ 35
   unfolding inner_steps
-  needed_inner kind notch pll-variants.Refused hz = omega (arith, needed_updates (mux_updates notch (range_of hz)))
-  needed_inner kind notch (pll-variants.Planned p) hz =
+  needed_inner kind notch None hz = omega (arith, needed_updates (mux_updates notch (range_of hz)))
+  needed_inner kind notch (Some p) hz =
       omega (
         arith,
         needed_append (updates (mux_updates notch (range_of hz) ++ pll_updates p)) (pll_steps address kind p.number rs),
@@ -200,7 +200,7 @@ module _ (address : ℕ) (rs : List ℕ) where
         needed_tries 10 0,
       )
 
-  needed_tune : (kind : Kind) (notch : Bool) (plan : Pll) (hz : ℕ) → needed (tune_steps address kind notch plan hz rs) ≤ 35
+  needed_tune : (kind : Kind) (notch : Bool) (plan : Option Plan) (hz : ℕ) → needed (tune_steps address kind notch plan hz rs) ≤ 35
   needed_tune kind notch plan hz = omega (arith, needed_behind (inner_steps address kind notch plan hz rs), needed_inner kind notch plan hz)
 
 -- ---- the driver's
@@ -245,12 +245,12 @@ needed_path_part R820T r rs = omega arith
 needed_path_part R828D None rs = omega arith
 needed_path_part R828D (Some path) rs = omega (arith, needed_board R828D path rs)
 
-needed_ddc : (plan : Pll) (inverted : Bool) → needed (ddc_part plan inverted) ≡ 0
+needed_ddc : (plan : Option Plan) (inverted : Bool) → needed (ddc_part plan inverted) ≡ 0
 unfolding needed ddc_steps access_step
-needed_ddc pll-variants.Refused inverted = refl
-needed_ddc (pll-variants.Planned p) inverted = refl
+needed_ddc None inverted = refl
+needed_ddc (Some p) inverted = refl
 
-needed_hop : (kind : Kind) (address : ℕ) (p : board-plan.Plan) (plan : Pll) (rs : List ℕ) → needed (hop_steps kind address p plan rs) ≤ 38
+needed_hop : (kind : Kind) (address : ℕ) (p : board-plan.Plan) (plan : Option Plan) (rs : List ℕ) → needed (hop_steps kind address p plan rs) ≤ 38
 needed_hop kind address p plan rs =
     let tail : List Step = tune_steps address kind p.notch plan p.hz (drop (path_replies kind p.path) rs) in
     omega (

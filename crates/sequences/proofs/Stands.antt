@@ -26,7 +26,7 @@ use Rattle.history.proofs.Runs.{done_by, going_before, run_keeps}
 use Rattle.oscillator.specs.Registers.{off}
 use Rattle.pll.specs.declared.Kind.{Kind}
 use Rattle.pll.specs.declared.Plan.{Plan}
-use Rattle.pll.specs.declared.Pll.TheVariants as pll-variants
+use Rattle.std.specs.Prelude.{Some}
 use Rattle.tuning.specs.Mux.{mux_updates, pll_updates, range_of}
 use Rattle.tuning.specs.Program.{inner_steps, pll_steps, tune_steps}
 use Rattle.tuning.specs.Tries.{after_try, again, fine_of, locked, locks_at, power_of, repair_updates, reply_bytes, status_steps, tries_from, try_read}
@@ -271,7 +271,7 @@ module _ (address : ℕ) (kind : Kind) (notch : Bool) (p : Plan) (hz : ℕ) (rs 
   abbrev opening : List Step
   opening = Open ∷ updates (mux_updates notch (range_of hz))
 
-  program : tune_steps address kind notch (pll-variants.Planned p) hz rs ≡ opening ++ (updates (pll_updates p) ++ tail)
+  program : tune_steps address kind notch (Some p) hz rs ≡ opening ++ (updates (pll_updates p) ++ tail)
   unfolding inner_steps
   program = refl
 
@@ -281,10 +281,10 @@ module _ (address : ℕ) (kind : Kind) (notch : Bool) (p : Plan) (hz : ℕ) (rs 
 
 module _ (os : List ℕ) (address : ℕ) (kind : Kind) (notch : Bool) (p : Plan) (hz : ℕ) (rs : List ℕ) (t : Trace) (long : Long os t) where
   abbrev end : Trace
-  end = run in_list os (tune_steps address kind notch (pll-variants.Planned p) hz rs) t
+  end = run in_list os (tune_steps address kind notch (Some p) hz rs) t
 
   module _ (g : end.progress ≡ Going) where
-    by_program : (ss : List Step) → tune_steps address kind notch (pll-variants.Planned p) hz rs ≡ ss → (run in_list os ss t).progress ≡ Going
+    by_program : (ss : List Step) → tune_steps address kind notch (Some p) hz rs ≡ ss → (run in_list os ss t).progress ≡ Going
     by_program ss e = ap (λ (l : List Step). (run in_list os l t).progress) (sym e) ∙ g
 
     abbrev open_first : List Step
@@ -383,14 +383,14 @@ module _ (os : List ℕ) (address : ℕ) (kind : Kind) (notch : Bool) (p : Plan)
         go : (y : Bool) → ltb (power_of kind) (fine_of (get_or rs 4 0)) ≡ y → (z : Bool) → ltb (fine_of (get_or rs 4 0)) (power_of kind) ≡ z
             → Divided (repaired address kind notch p hz rs)
         go true e z f =
-            let same : tune_steps address kind notch (pll-variants.Planned p) hz rs ≡ with_repair (masked 0x10 ((p.number - 1) * 32) 0xe0 ∷ []) = rw e in
+            let same : tune_steps address kind notch (Some p) hz rs ≡ with_repair (masked 0x10 ((p.number - 1) * 32) 0xe0 ∷ []) = rw e in
             let is : repaired address kind notch p hz rs ≡ p.number - 1 = rw e in
             subst Divided (sym is) (subst (λ (ss : List Step). Ends ss (p.number - 1)) (sym same) (repaired_so (p.number - 1) (omega arith) (by_program _ same)))
         go false e true f =
-            let same : tune_steps address kind notch (pll-variants.Planned p) hz rs ≡ with_repair (masked 0x10 ((p.number + 1) * 32) 0xe0 ∷ []) = rw (e, f) in
+            let same : tune_steps address kind notch (Some p) hz rs ≡ with_repair (masked 0x10 ((p.number + 1) * 32) 0xe0 ∷ []) = rw (e, f) in
             let is : repaired address kind notch p hz rs ≡ p.number + 1 = rw (e, f) in
             subst Divided (sym is) (subst (λ (ss : List Step). Ends ss (p.number + 1)) (sym same) (repaired_so (p.number + 1) (omega arith) (by_program _ same)))
         go false e false f =
-            let same : tune_steps address kind notch (pll-variants.Planned p) hz rs ≡ with_repair [] = rw (e, f) in
+            let same : tune_steps address kind notch (Some p) hz rs ≡ with_repair [] = rw (e, f) in
             let is : repaired address kind notch p hz rs ≡ p.number = rw (e, f) in
             subst Divided (sym is) (subst (λ (ss : List Step). Ends ss p.number) (sym same) (unrepaired (omega arith) (by_program _ same)))

@@ -22,8 +22,8 @@ use Rattle.driver.specs.declared.Driver.{Driver}
 use Rattle.driver.specs.Record.{sound_driver}
 use Rattle.history.proofs.Runs.{run_keeps}
 use Rattle.pll.specs.declared.Kind.{Kind}
-use Rattle.pll.specs.declared.Pll.{Pll}
-use Rattle.pll.specs.declared.Pll.TheVariants as pll-variants
+use Rattle.std.specs.Prelude.{Option, Some, None}
+use Rattle.pll.specs.declared.Plan.{Plan}
 use Rattle.r82xx.specs.declared.Tuner.{Tuner}
 use Rattle.r82xx.specs.Calls.{hz_refusal, plan_for, refusal_of}
 use Rattle.r82xx.specs.Orders.{tune_of}
@@ -177,13 +177,13 @@ module _ (os : List ℕ) where
     tries_waited (suc left) i t w = turn_over left i (tries_from address rs left (i + 1)) t w (λ u v. tries_waited left (i + 1) u v) (locks_at rs i) refl
 
   -- a tuning's program, with a plan or without, from a trace without a try
-  tune_waited : (address : ℕ) (kind : Kind) (notch : Bool) (plan : Pll) (hz : ℕ) (rs : List ℕ) (start : Trace) → Waiting 0 start.log
+  tune_waited : (address : ℕ) (kind : Kind) (notch : Bool) (plan : Option Plan) (hz : ℕ) (rs : List ℕ) (start : Trace) → Waiting 0 start.log
       → Waited 10 (run in_list os (tune_steps address kind notch plan hz rs) start).log
   unfolding run every inner_steps
-  tune_waited address kind notch pll-variants.Refused hz rs start w =
+  tune_waited address kind notch None hz rs start w =
       over 0 10 _ (omega arith)
-      (quiet_waited 0 (tune_steps address kind notch pll-variants.Refused hz rs) start (mux_writes address hz kind notch rs) (waited 0 start.log w))
-  tune_waited address kind notch (pll-variants.Planned p) hz rs start w =
+      (quiet_waited 0 (tune_steps address kind notch None hz rs) start (mux_writes address hz kind notch rs) (waited 0 start.log w))
+  tune_waited address kind notch (Some p) hz rs start w =
       let mux : List Step = updates (mux_updates notch (range_of hz) ++ pll_updates p) in
       let status : List Step = status_steps address rs in
       let fix : List Step = updates (repair_updates kind p.number (get_or rs 4 0)) in
@@ -201,12 +201,12 @@ module _ (os : List ℕ) where
       subst (λ (u : Trace). Waited 10 u.log) (sym split)
       (quiet_waited 10 (Close ∷ []) (run in_list os tries mended) refl (tries_waited address rs 10 0 mended second))
 
-  quiet_rest : (plan : Pll) (inverted : Bool) → every quiet (ddc_part plan inverted) ≡ true
+  quiet_rest : (plan : Option Plan) (inverted : Bool) → every quiet (ddc_part plan inverted) ≡ true
   unfolding every
-  quiet_rest pll-variants.Refused inverted = refl
-  quiet_rest (pll-variants.Planned p) inverted = quiet_ddc inverted
+  quiet_rest None inverted = refl
+  quiet_rest (Some p) inverted = quiet_ddc inverted
 
-  hop_waited : (kind : Kind) (address : ℕ) (at : board.Plan) (plan : Pll) (rs : List ℕ) (start : Trace) → Waiting 0 start.log
+  hop_waited : (kind : Kind) (address : ℕ) (at : board.Plan) (plan : Option Plan) (rs : List ℕ) (start : Trace) → Waiting 0 start.log
       → Waited 10 (run in_list os (hop_steps kind address at plan rs) start).log
   hop_waited kind address at plan rs start w =
       let left : List ℕ = drop (path_replies kind at.path) rs in

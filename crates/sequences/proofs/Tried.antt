@@ -41,8 +41,7 @@ use Rattle.chip.proofs.Taken.{untried}
 use Rattle.pll.specs.declared.Kind.{Kind}
 use Rattle.pll.specs.declared.Kind.TheVariants.{R820T, R828D}
 use Rattle.pll.specs.declared.Plan.{Plan}
-use Rattle.pll.specs.declared.Pll.{Pll}
-use Rattle.pll.specs.declared.Pll.TheVariants as pll-variants
+use Rattle.std.specs.Prelude.{Option, Some, None}
 use Rattle.pll.specs.Divide.{first_mixer, in_vco}
 use Rattle.pll.specs.Fraction.{turn_of, turns_of}
 use Rattle.pll.specs.Plan.{plan_of as pllOf, plan_with}
@@ -142,7 +141,7 @@ module _ (os : List ℕ) where
   quiet_trace ss c h = quiet_run ss (line c [] 0 Going false) h
 
 -- without a plan there is no waiting, only the mux's writes behind an open repeater
-pub mux_writes : (address hz : ℕ) (kind : Kind) (notch : Bool) (rs : List ℕ) → every quiet (tune_steps address kind notch pll-variants.Refused hz rs) ≡ true
+pub mux_writes : (address hz : ℕ) (kind : Kind) (notch : Bool) (rs : List ℕ) → every quiet (tune_steps address kind notch None hz rs) ≡ true
 unfolding every inner_steps
 mux_writes address hz kind notch rs = refl
 
@@ -154,12 +153,12 @@ none_said number os ss c h = go (eqb number 0) refl
     go false e = sym (untried number os ss c (eqb-false number 0 e))
 
 -- 2 in the PLL, whatever the outcomes: 0 tries, not locked
-pub refused_in_the_pll_untried : (hz : ℕ) (rs os room : List ℕ) (t : Tuner) → plan_for t hz ≡ pll-variants.Refused → lock_tries_of (Tune hz rs) os t room ≡ no_tries
+pub refused_in_the_pll_untried : (hz : ℕ) (rs os room : List ℕ) (t : Tuner) → plan_for t hz ≡ None → lock_tries_of (Tune hz rs) os t room ≡ no_tries
 unfolding lock_tries_of
 refused_in_the_pll_untried hz rs os room t p =
     let number : ℕ = refusal_of t (hz_refusal hz t.ifreq) 53 35 (length room) (length os) (length rs) in
-    ap (λ (q : Pll). lock_tries_in (call_entries number os (tune_of t q hz rs) t.chip)) p
-    ∙ none_said number os (tune_of t pll-variants.Refused hz rs) t.chip (mux_writes t.chip.address hz t.kind t.notch rs)
+    ap (λ (q : Option Plan). lock_tries_in (call_entries number os (tune_of t q hz rs) t.chip)) p
+    ∙ none_said number os (tune_of t None hz rs) t.chip (mux_writes t.chip.address hz t.kind t.notch rs)
 
 -- the board's path and the DDC byte have no try, and without a plan there is no waiting between them
 pub quiet_path : (kind : Kind) (route : Option Path) (rs : List ℕ) → every quiet (path_part kind route rs) ≡ true
@@ -174,21 +173,21 @@ pub quiet_ddc : (inverted : Bool) → every quiet (ddc_steps inverted) ≡ true
 unfolding every ddc_steps
 quiet_ddc inverted = refl
 
-pub quiet_hop : (kind : Kind) (address : ℕ) (plan : board.Plan) (rs : List ℕ) → every quiet (hop_steps kind address plan pll-variants.Refused rs) ≡ true
+pub quiet_hop : (kind : Kind) (address : ℕ) (plan : board.Plan) (rs : List ℕ) → every quiet (hop_steps kind address plan None rs) ≡ true
 unfolding every
 quiet_hop kind address plan rs =
     let left : List ℕ = drop (path_replies kind plan.path) rs in
-    every_app quiet (path_part kind plan.path rs) (tune_steps address kind plan.notch pll-variants.Refused plan.hz left ++ []) (quiet_path kind plan.path rs)
-    (every_app quiet (tune_steps address kind plan.notch pll-variants.Refused plan.hz left) [] (mux_writes address plan.hz kind plan.notch left) refl)
+    every_app quiet (path_part kind plan.path rs) (tune_steps address kind plan.notch None plan.hz left ++ []) (quiet_path kind plan.path rs)
+    (every_app quiet (tune_steps address kind plan.notch None plan.hz left) [] (mux_writes address plan.hz kind plan.notch left) refl)
 
-pub board_refused_in_the_pll_untried : (hz : ℕ) (table rs os room : List ℕ) (d : Driver) (t : Tuner) → plan_for t (plan_by table hz).plan.hz ≡ pll-variants.Refused
+pub board_refused_in_the_pll_untried : (hz : ℕ) (table rs os room : List ℕ) (d : Driver) (t : Tuner) → plan_for t (plan_by table hz).plan.hz ≡ None
     → hop_lock_tries (plan_by table hz) hz rs os t d room ≡ no_tries
 unfolding hop_lock_tries
 board_refused_in_the_pll_untried hz table rs os room d t p =
     let at : Planned = plan_by table hz in
     let number : ℕ = refusal_with (sound t && sound_driver d) (hop_refusal at t.ifreq) 64 38 (length room) (length os) (length rs) in
-    ap (λ (q : Pll). lock_tries_in (call_entries number os (hop_steps t.kind t.chip.address at.plan q rs) t.chip)) p
-    ∙ none_said number os (hop_steps t.kind t.chip.address at.plan pll-variants.Refused rs) t.chip (quiet_hop t.kind t.chip.address at.plan rs)
+    ap (λ (q : Option Plan). lock_tries_in (call_entries number os (hop_steps t.kind t.chip.address at.plan q rs) t.chip)) p
+    ∙ none_said number os (hop_steps t.kind t.chip.address at.plan None rs) t.chip (quiet_hop t.kind t.chip.address at.plan rs)
 
 -- ---- where no step failed: the tries by the replies
 
@@ -270,8 +269,8 @@ module _ (os : List ℕ) where
 
 -- a whole tuning by its plan, from a trace without a try
 tune_said : (os : List ℕ) (address : ℕ) (kind : Kind) (notch : Bool) (p : Plan) (hz : ℕ) (rs : List ℕ) (start : Trace)
-    → (run in_list os (tune_steps address kind notch (pll-variants.Planned p) hz rs) start).progress ≡ Going → lock_tries_in start.log ≡ no_tries
-    → lock_tries_in (run in_list os (tune_steps address kind notch (pll-variants.Planned p) hz rs) start).log ≡ waited_from rs 10 0
+    → (run in_list os (tune_steps address kind notch (Some p) hz rs) start).progress ≡ Going → lock_tries_in start.log ≡ no_tries
+    → lock_tries_in (run in_list os (tune_steps address kind notch (Some p) hz rs) start).log ≡ waited_from rs 10 0
 unfolding run every inner_steps
 tune_said os address kind notch p hz rs start h e =
     let mux : List Step = updates (mux_updates notch (range_of hz) ++ pll_updates p) in
@@ -297,19 +296,19 @@ tune_said os address kind notch p hz rs start h e =
     ∙ quiet_run os (Open ∷ []) start refl
     ∙ e)
 
-planned_said : (os rs : List ℕ) (hz : ℕ) (t : Tuner) (p : Plan) → (trace os (tune_of t (pll-variants.Planned p) hz rs) t.chip).progress ≡ Going
-    → lock_tries_in (trace os (tune_of t (pll-variants.Planned p) hz rs) t.chip).log ≡ waited_from rs 10 0
+planned_said : (os rs : List ℕ) (hz : ℕ) (t : Tuner) (p : Plan) → (trace os (tune_of t (Some p) hz rs) t.chip).progress ≡ Going
+    → lock_tries_in (trace os (tune_of t (Some p) hz rs) t.chip).log ≡ waited_from rs 10 0
 unfolding trace tries_in locked_in
 planned_said os rs hz t p h = tune_said os t.chip.address t.kind t.notch p hz rs (line t.chip [] 0 Going false) h refl
 
 -- by the plan: a tuning that is answered done has one
-by_plan_lem : (number : ℕ) (os rs room : List ℕ) (hz : ℕ) (t : Tuner) (plan : Pll)
+by_plan_lem : (number : ℕ) (os rs room : List ℕ) (hz : ℕ) (t : Tuner) (plan : Option Plan)
     → is_done (call_of number (tune_answer plan hz) os (tune_of t plan hz rs) t.chip (lock_kept t) t room).answer ≡ true
     → lock_tries_in (call_entries number os (tune_of t plan hz rs) t.chip) ≡ waited_from rs 10 0
-by_plan_lem number os rs room hz t pll-variants.Refused h =
-    absurd (false≢true (went number (Refused FREQUENCY) os (tune_of t pll-variants.Refused hz rs) t.chip (lock_kept t) t room h).0)
-by_plan_lem number os rs room hz t (pll-variants.Planned p) h =
-    let w = (went number (Done hz) os (tune_of t (pll-variants.Planned p) hz rs) t.chip (lock_kept t) t room h).1 in
+by_plan_lem number os rs room hz t None h =
+    absurd (false≢true (went number (Refused FREQUENCY) os (tune_of t None hz rs) t.chip (lock_kept t) t room h).0)
+by_plan_lem number os rs room hz t (Some p) h =
+    let w = (went number (Done hz) os (tune_of t (Some p) hz rs) t.chip (lock_kept t) t room h).1 in
     rw w.taken_up (planned_said os rs hz t p w.going)
 
 -- a tuning that is done tells the try whose reply has the lock bit, or all ten
@@ -319,14 +318,14 @@ unfolding result_of left_by lock_tries_of
 told_when_done hz value rs os room t h = by_plan_lem _ os rs room hz t (plan_for t hz) (ap is_done h)
 
 -- a board-level tune's waiting takes the replies that the board's path left
-hop_said : (os rs : List ℕ) (at : board.Plan) (t : Tuner) (p : Plan) → (trace os (hop_steps t.kind t.chip.address at (pll-variants.Planned p) rs) t.chip).progress ≡ Going
-    → lock_tries_in (trace os (hop_steps t.kind t.chip.address at (pll-variants.Planned p) rs) t.chip).log
+hop_said : (os rs : List ℕ) (at : board.Plan) (t : Tuner) (p : Plan) → (trace os (hop_steps t.kind t.chip.address at (Some p) rs) t.chip).progress ≡ Going
+    → lock_tries_in (trace os (hop_steps t.kind t.chip.address at (Some p) rs) t.chip).log
     ≡ waited_from (drop (path_replies t.kind at.path) rs) 10 0
 unfolding trace tries_in locked_in
 hop_said os rs at t p h =
     let left : List ℕ = drop (path_replies t.kind at.path) rs in
     let pre : List Step = path_part t.kind at.path rs in
-    let ss : List Step = tune_steps t.chip.address t.kind at.notch (pll-variants.Planned p) at.hz left in
+    let ss : List Step = tune_steps t.chip.address t.kind at.notch (Some p) at.hz left in
     let post : List Step = ddc_steps at.inverted in
     let u : Trace = run in_list os pre (line t.chip [] 0 Going false) in
     let v : Trace = run in_list os ss u in
@@ -336,13 +335,13 @@ hop_said os rs at t p h =
     ∙ quiet_run os post v (quiet_ddc at.inverted)
     ∙ tune_said os t.chip.address t.kind at.notch p at.hz left u ended (quiet_run os pre (line t.chip [] 0 Going false) (quiet_path t.kind at.path rs))
 
-hop_by : (number : ℕ) (os rs room : List ℕ) (hz : ℕ) (at : board.Plan) (t : Tuner) (d : Driver) (plan : Pll)
+hop_by : (number : ℕ) (os rs room : List ℕ) (hz : ℕ) (at : board.Plan) (t : Tuner) (d : Driver) (plan : Option Plan)
     → is_done (call_of number (tune_answer plan hz) os (hop_steps t.kind t.chip.address at plan rs) t.chip (hop_kept t d at (tune_answer plan hz) hz) (both t d) room).answer ≡ true
     → lock_tries_in (call_entries number os (hop_steps t.kind t.chip.address at plan rs) t.chip) ≡ waited_from (drop (path_replies t.kind at.path) rs) 10 0
-hop_by number os rs room hz at t d pll-variants.Refused h =
-    absurd (false≢true (went number (Refused FREQUENCY) os (hop_steps t.kind t.chip.address at pll-variants.Refused rs) t.chip (hop_kept t d at (Refused FREQUENCY) hz) (both t d) room h).0)
-hop_by number os rs room hz at t d (pll-variants.Planned p) h =
-    let w = (went number (Done hz) os (hop_steps t.kind t.chip.address at (pll-variants.Planned p) rs) t.chip (hop_kept t d at (Done hz) hz) (both t d) room h).1 in
+hop_by number os rs room hz at t d None h =
+    absurd (false≢true (went number (Refused FREQUENCY) os (hop_steps t.kind t.chip.address at None rs) t.chip (hop_kept t d at (Refused FREQUENCY) hz) (both t d) room h).0)
+hop_by number os rs room hz at t d (Some p) h =
+    let w = (went number (Done hz) os (hop_steps t.kind t.chip.address at (Some p) rs) t.chip (hop_kept t d at (Done hz) hz) (both t d) room h).1 in
     rw w.taken_up (hop_said os rs at t p w.going)
 
 pub board_told_when_done : (hz value : ℕ) (table rs os room : List ℕ) (d : Driver) (t : Tuner) → (hop_result (plan_by table hz) hz rs os t d room).answer ≡ Done value

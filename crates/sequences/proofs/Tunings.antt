@@ -43,8 +43,7 @@ use Rattle.oscillator.proofs.Oscillator.{Says}
 use Rattle.pll.specs.declared.Kind.{Kind}
 use Rattle.pll.specs.declared.Kind.TheVariants.{R820T, R828D}
 use Rattle.pll.specs.declared.Plan.{Plan}
-use Rattle.pll.specs.declared.Pll.{Pll}
-use Rattle.pll.specs.declared.Pll.TheVariants as pll-variants
+use Rattle.std.specs.Prelude.{Option, Some, None}
 use Rattle.pll.proofs.Plans.{Known, known}
 use Rattle.r82xx.specs.declared.Tuner.{Tuner}
 use Rattle.r82xx.specs.Calls.{hz_refusal, plan_for, refusal_of}
@@ -70,15 +69,15 @@ accepted true argument n m room os rs h = refl
 accepted false argument n m room os rs h = absurd (false≢true h)
 
 -- told as the number 0 it is done
-number_done : {R : Type 0} (number : ℕ) (x : Pll) (hz : ℕ) (os : List ℕ) (ss : List Step) (c : Chip) (keep : Trace → R) (old : R) (room : List ℕ)
+number_done : {R : Type 0} (number : ℕ) (x : Option Plan) (hz : ℕ) (os : List ℕ) (ss : List Step) (c : Chip) (keep : Trace → R) (old : R) (room : List ℕ)
     → number_of (call_of number (tune_answer x hz) os ss c keep old room).answer ≡ 0
     → is_done (call_of number (tune_answer x hz) os ss c keep old room).answer ≡ true
 unfolding call_of
 number_done number x hz os ss c keep old room = go (eqb number 0) refl
   where
-    by : (y : Pll) (w : Progress) → number_of (answer_of (tune_answer y hz) w) ≡ 0 → is_done (answer_of (tune_answer y hz) w) ≡ true
-    by pll-variants.Refused Going e = absurd (omega arith)
-    by (pll-variants.Planned p) Going e = refl
+    by : (y : Option Plan) (w : Progress) → number_of (answer_of (tune_answer y hz) w) ≡ 0 → is_done (answer_of (tune_answer y hz) w) ≡ true
+    by None Going e = absurd (omega arith)
+    by (Some p) Going e = refl
     by y (Refused11 k) e = absurd (omega arith)
 
     go : (b : Bool) → eqb number 0 ≡ b
@@ -119,9 +118,9 @@ kept_so t u c a n r h there w =
 
 -- a tuning's program that went through, from wherever it began
 tune_leaves : (os : List ℕ) (address : ℕ) (kind : Kind) (notch : Bool) (p : Plan) (hz : ℕ) (rs : List ℕ) (u : Trace) → Long os u
-    → (run in_list os (tune_steps address kind notch (pll-variants.Planned p) hz rs) u).progress ≡ Going
+    → (run in_list os (tune_steps address kind notch (Some p) hz rs) u).progress ≡ Going
     → p.number ≤ 5 → p.setting < 256 → p.sum < 65_536
-    → Leaves p (repaired address kind notch p hz rs) (run in_list os (tune_steps address kind notch (pll-variants.Planned p) hz rs) u).chip
+    → Leaves p (repaired address kind notch p hz rs) (run in_list os (tune_steps address kind notch (Some p) hz rs) u).chip
 tune_leaves os address kind notch p hz rs u long going n s f =
     record {
       divided = divider_there os address kind notch p hz rs u long going n;
@@ -165,7 +164,7 @@ module _ (t : Tuner) (es : List Entry) (s : Sequence t es) (hz : ℕ) (rs os roo
 
   -- answered done, a tuning has a plan, and on every chip the registers say it
   pub tuned_stands : is_done (result tune t).answer ≡ true → (before now : Regs) → Played t.chip.address (es ++ entries tune t) before now
-      → (p : Plan) × (plan_for t hz ≡ pll-variants.Planned p) × Says p (repaired t.chip.address t.kind t.notch p hz rs) now × Kept t (tuner_after tune t)
+      → (p : Plan) × (plan_for t hz ≡ Some p) × Says p (repaired t.chip.address t.kind t.notch p hz rs) now × Kept t (tuner_after tune t)
   unfolding trace
   tuned_stands h before now played = by (plan_for t hz) refl
     where
@@ -175,16 +174,16 @@ module _ (t : Tuner) (es : List Entry) (s : Sequence t es) (hz : ℕ) (rs os roo
       number : ℕ
       number = refusal_of t (hz_refusal hz t.ifreq) 53 35 (length room) (length os) (length rs)
 
-      by : (x : Pll) → plan_for t hz ≡ x
-          → (p : Plan) × (plan_for t hz ≡ pll-variants.Planned p) × Says p (repaired t.chip.address t.kind t.notch p hz rs) now × Kept t (tuner_after tune t)
-      by pll-variants.Refused e =
-          let is : result tune t ≡ by_plan t hz os rs room pll-variants.Refused = tune_by_plan t hz os rs room ∙ ap (by_plan t hz os rs room) e in
+      by : (x : Option Plan) → plan_for t hz ≡ x
+          → (p : Plan) × (plan_for t hz ≡ Some p) × Says p (repaired t.chip.address t.kind t.notch p hz rs) now × Kept t (tuner_after tune t)
+      by None e =
+          let is : result tune t ≡ by_plan t hz os rs room None = tune_by_plan t hz os rs room ∙ ap (by_plan t hz os rs room) e in
           let w =
-          went number (Refused FREQUENCY) os (tune_of t pll-variants.Refused hz rs) t.chip (lock_kept t) t room (ap (λ (d : Called Tuner). is_done d.answer) (sym is) ∙ h) in
+          went number (Refused FREQUENCY) os (tune_of t None hz rs) t.chip (lock_kept t) t room (ap (λ (d : Called Tuner). is_done d.answer) (sym is) ∙ h) in
           absurd (false≢true w.0)
-      by (pll-variants.Planned p) e =
-          let is : result tune t ≡ by_plan t hz os rs room (pll-variants.Planned p) = tune_by_plan t hz os rs room ∙ ap (by_plan t hz os rs room) e in
-          let ss : List Step = tune_of t (pll-variants.Planned p) hz rs in
+      by (Some p) e =
+          let is : result tune t ≡ by_plan t hz os rs room (Some p) = tune_by_plan t hz os rs room ∙ ap (by_plan t hz os rs room) e in
+          let ss : List Step = tune_of t (Some p) hz rs in
           let w = went number (Done hz) os ss t.chip (lock_kept t) t room (ap (λ (d : Called Tuner). is_done d.answer) (sym is) ∙ h) in
           let same : (tuner_after tune t).chip ≡ (run in_list os ss start).chip =
           ap (λ (d : Called Tuner). d.next.chip) is ∙ ap (λ (u : Tuner). u.chip) w.1.left in
@@ -242,7 +241,7 @@ ddc_quiet inverted = refl
 
 -- a board-level tune by its plan
 module _ (t : Tuner) (hz : ℕ) (table rs : List ℕ) (d : Driver) (os room : List ℕ) where
-  abbrev pub by_hop : Pll → Called Both
+  abbrev pub by_hop : Option Plan → Called Both
   by_hop plan =
       call_of (refusal_with (sound t && sound_driver d) (hop_refusal (plan_by table hz) t.ifreq) 64 38 (length room) (length os) (length rs)) (tune_answer plan hz) os
       (hop_steps t.kind t.chip.address (plan_by table hz).plan plan rs) t.chip (hop_kept t d (plan_by table hz).plan (tune_answer plan hz) hz) (both t d) room
@@ -264,7 +263,7 @@ module _ (t : Tuner) (es : List Entry) (s : Sequence t es) (hz : ℕ) (table rs 
 
   -- answered done, a board-level tune has a plan of the frequency that the table planned, and on every chip the registers say it
   pub hopped_stands : is_done (result hop t).answer ≡ true → (before now : Regs) → Played t.chip.address (es ++ entries hop t) before now
-      → (p : Plan) × (plan_for t at.plan.hz ≡ pll-variants.Planned p)
+      → (p : Plan) × (plan_for t at.plan.hz ≡ Some p)
       × Says p (repaired t.chip.address t.kind at.plan.notch p at.plan.hz left) now × Kept t (tuner_after hop t)
   unfolding trace
   hopped_stands h before now played = by (plan_for t at.plan.hz) refl
@@ -275,19 +274,19 @@ module _ (t : Tuner) (es : List Entry) (s : Sequence t es) (hz : ℕ) (table rs 
       number : ℕ
       number = refusal_with (sound t && sound_driver d) (hop_refusal at t.ifreq) 64 38 (length room) (length os) (length rs)
 
-      by : (x : Pll) → plan_for t at.plan.hz ≡ x
-          → (p : Plan) × (plan_for t at.plan.hz ≡ pll-variants.Planned p)
+      by : (x : Option Plan) → plan_for t at.plan.hz ≡ x
+          → (p : Plan) × (plan_for t at.plan.hz ≡ Some p)
           × Says p (repaired t.chip.address t.kind at.plan.notch p at.plan.hz left) now × Kept t (tuner_after hop t)
-      by pll-variants.Refused e =
-          let is : hop_result at hz rs os t d room ≡ by_hop t hz table rs d os room pll-variants.Refused = hop_by_plan t hz table rs d os room ∙ ap (by_hop t hz table rs d os room) e in
+      by None e =
+          let is : hop_result at hz rs os t d room ≡ by_hop t hz table rs d os room None = hop_by_plan t hz table rs d os room ∙ ap (by_hop t hz table rs d os room) e in
           let w =
-          went number (Refused FREQUENCY) os (hop_steps t.kind t.chip.address at.plan pll-variants.Refused rs) t.chip (hop_kept t d at.plan (Refused FREQUENCY) hz) (both t d) room
+          went number (Refused FREQUENCY) os (hop_steps t.kind t.chip.address at.plan None rs) t.chip (hop_kept t d at.plan (Refused FREQUENCY) hz) (both t d) room
           (ap (λ (x : Called Both). is_done x.answer) (sym is) ∙ h) in
           absurd (false≢true w.0)
-      by (pll-variants.Planned p) e =
-          let is : hop_result at hz rs os t d room ≡ by_hop t hz table rs d os room (pll-variants.Planned p) = hop_by_plan t hz table rs d os room ∙ ap (by_hop t hz table rs d os room) e in
+      by (Some p) e =
+          let is : hop_result at hz rs os t d room ≡ by_hop t hz table rs d os room (Some p) = hop_by_plan t hz table rs d os room ∙ ap (by_hop t hz table rs d os room) e in
           let pre : List Step = path_part t.kind at.plan.path rs in
-          let ss : List Step = tune_steps t.chip.address t.kind at.plan.notch (pll-variants.Planned p) at.plan.hz left in
+          let ss : List Step = tune_steps t.chip.address t.kind at.plan.notch (Some p) at.plan.hz left in
           let post : List Step = ddc_steps at.plan.inverted in
           let all : List Step = pre ++ (ss ++ post) in
           let w =

@@ -28,8 +28,8 @@ use Rattle.gain.specs.Product.{gain_of}
 use Rattle.gain.specs.Steps.{chosen_of, clamped, step_at}
 use Rattle.pll.specs.declared.Kind.{Kind}
 use Rattle.pll.specs.declared.Kind.TheVariants.{R820T, R828D}
-use Rattle.pll.specs.declared.Pll.{Pll}
-use Rattle.pll.specs.declared.Pll.TheVariants as pll-variants
+use Rattle.std.specs.Prelude.{Option, Some, None}
+use Rattle.pll.specs.declared.Plan.{Plan}
 use Rattle.writes.specs.Lists.{bandwidth_updates, gain_updates, if_updates, path_updates}
 use Rattle.r82xx.specs.declared.Tuner.{Tuner}
 use Rattle.r82xx.specs.Record.{sound, with_corrected, with_gain, with_if}
@@ -227,9 +227,9 @@ module _ (t : Tuner) where
   correction_proper true v ppm d = resting (with_corrected t v) (Done 0) refl refl
   correction_proper false v ppm d = resting t (Refused CORRECTION) refl refl
 
-  unstopped : (plan : Pll) (hz : ℕ) → stops (tune_answer plan hz) ≡ false
-  unstopped pll-variants.Refused hz = refl
-  unstopped (pll-variants.Planned p) hz = refl
+  unstopped : (plan : Option Plan) (hz : ℕ) → stops (tune_answer plan hz) ≡ false
+  unstopped None hz = refl
+  unstopped (Some p) hz = refl
 
   pub proper : (o : Order) → given o t ≡ true → t.chip.address ≤ 255 → Proper t (row_of o t)
   proper (Tuned Initialize) g small = stepping 0 19 0 [] (Done 0) _ _ refl fine_init (λ tr. refl)

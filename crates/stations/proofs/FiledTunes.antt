@@ -20,7 +20,7 @@ use Rattle.evidence.proofs.Marks.{Sure, known_sure, sure_exactly}
 use Rattle.oscillator.specs.Registers.{stands_by}
 use Rattle.oscillator.proofs.Oscillator.{Says}
 use Rattle.pll.specs.declared.Plan.{Plan}
-use Rattle.pll.specs.declared.Pll.TheVariants.{Planned}
+use Rattle.std.specs.Prelude.{Some}
 use Rattle.pll.proofs.Plans.{known}
 use Rattle.r82xx.specs.declared.Tuner.{Tuner}
 use Rattle.r82xx.specs.Calls.{plan_for}
@@ -64,7 +64,7 @@ module _ (t : Tuner) (rate : ℕ) (table : List ℕ) (d : Driver) (os room : Lis
   before_it = so_far t rate table d os room es s h small u gs between
 
   -- a divider's number is at most 5
-  few_by : (hz : ℕ) (p : Plan) → plan_for u hz ≡ Planned p → (number : ℕ) → number ≡ p.number → (now : Regs) → Says p number now → code_in now ≤ 7
+  few_by : (hz : ℕ) (p : Plan) → plan_for u hz ≡ Some p → (number : ℕ) → number ≡ p.number → (now : Regs) → Says p number now → code_in now ≤ 7
   few_by hz p e number same now says = omega (arith, (known u.kind (hz + u.ifreq) u.corrected p e).number, same, says.divided)
 
   pub filed : (hz : ℕ) (rs os' room' : List ℕ) → given (Tuned (Tune hz rs)) u ≡ true

@@ -22,8 +22,8 @@ use Rattle.demod.specs.Programs.{ddc_steps}
 use Rattle.driver.specs.declared.Driver.{Driver}
 use Rattle.driver.specs.Calls.{Both, both}
 use Rattle.driver.specs.Record.{sound_driver}
-use Rattle.pll.specs.declared.Pll.{Pll}
-use Rattle.pll.specs.declared.Pll.TheVariants as pll-variants
+use Rattle.std.specs.Prelude.{Option, Some, None}
+use Rattle.pll.specs.declared.Plan.{Plan}
 use Rattle.r82xx.specs.declared.Tuner.{Tuner}
 use Rattle.r82xx.specs.Calls.{hz_refusal, plan_for, refusal_of}
 use Rattle.r82xx.specs.Orders.{lock_kept, lock_tries_of, result_of, tune_of}
@@ -72,14 +72,14 @@ module _ (t : Tuner) (hz : ℕ) (rs os room : List ℕ) where
       number : ℕ
       number = refusal_of t (hz_refusal hz t.ifreq) 53 35 (length room) (length os) (length rs)
 
-      by : (x : Pll) → plan_for t hz ≡ x
+      by : (x : Option Plan) → plan_for t hz ≡ x
           → LockTold t.chip.address (lock_tries_of (Tune hz rs) os t room) (es ++ entries (call (Tuned (Tune hz rs)) os room) t)
-      by pll-variants.Refused e =
+      by None e =
           let is = tune_by_plan t hz os rs room ∙ ap (by_plan t hz os rs room) e in
-          absurd (false≢true (went number (Refused FREQUENCY) os (tune_of t pll-variants.Refused hz rs) t.chip (lock_kept t) t room (ap (λ (d : Called Tuner). is_done d.answer) (sym is) ∙ h)).0)
-      by (pll-variants.Planned p) e =
+          absurd (false≢true (went number (Refused FREQUENCY) os (tune_of t None hz rs) t.chip (lock_kept t) t room (ap (λ (d : Called Tuner). is_done d.answer) (sym is) ∙ h)).0)
+      by (Some p) e =
           let is = tune_by_plan t hz os rs room ∙ ap (by_plan t hz os rs room) e in
-          let ss : List Step = tune_of t (pll-variants.Planned p) hz rs in
+          let ss : List Step = tune_of t (Some p) hz rs in
           let w = (went number (Done hz) os ss t.chip (lock_kept t) t room (ap (λ (d : Called Tuner). is_done d.answer) (sym is) ∙ h)).1 in
           let log : entries (call (Tuned (Tune hz rs)) os room) t ≡ (trace os ss t.chip).log = rw (w.taken_up, e) in
           let told = value_of (result_of (Tune hz rs) os t room).answer h in
@@ -109,17 +109,17 @@ module _ (t : Tuner) (hz : ℕ) (table rs : List ℕ) (d : Driver) (os room : Li
       → LockTold t.chip.address (hop_lock_tries at hz rs os t d room) (es ++ entries (call (BoardTune hz table rs d) os room) t)
   lock_told_board h es = by (plan_for t at.plan.hz) refl
     where
-      by : (x : Pll) → plan_for t at.plan.hz ≡ x
+      by : (x : Option Plan) → plan_for t at.plan.hz ≡ x
           → LockTold t.chip.address (hop_lock_tries at hz rs os t d room) (es ++ entries (call (BoardTune hz table rs d) os room) t)
-      by pll-variants.Refused e =
+      by None e =
           let is = hop_by_plan t hz table rs d os room ∙ ap (by_hop t hz table rs d os room) e in
-          absurd (false≢true (went number (Refused FREQUENCY) os (hop_steps t.kind t.chip.address at.plan pll-variants.Refused rs) t.chip (hop_kept t d at.plan (Refused FREQUENCY) hz) (both t d) room
+          absurd (false≢true (went number (Refused FREQUENCY) os (hop_steps t.kind t.chip.address at.plan None rs) t.chip (hop_kept t d at.plan (Refused FREQUENCY) hz) (both t d) room
           (ap (λ (x : Called Both). is_done x.answer) (sym is) ∙ h)).0)
-      by (pll-variants.Planned p) e =
+      by (Some p) e =
           let address : ℕ = t.chip.address in
           let is = hop_by_plan t hz table rs d os room ∙ ap (by_hop t hz table rs d os room) e in
           let pre : List Step = path_part t.kind at.plan.path rs in
-          let ss : List Step = tune_steps address t.kind at.plan.notch (pll-variants.Planned p) at.plan.hz left in
+          let ss : List Step = tune_steps address t.kind at.plan.notch (Some p) at.plan.hz left in
           let post : List Step = ddc_steps at.plan.inverted in
           let all : List Step = pre ++ (ss ++ post) in
           let w = (went number (Done hz) os all t.chip (hop_kept t d at.plan (Done hz) hz) (both t d) room (ap (λ (x : Called Both). is_done x.answer) (sym is) ∙ h)).1 in

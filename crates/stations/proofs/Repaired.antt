@@ -18,7 +18,7 @@ use Rattle.oscillator.proofs.Oscillator.{Says}
 use Rattle.oscillator.proofs.Repaired.{by_status}
 use Rattle.pll.specs.declared.Kind.{Kind}
 use Rattle.pll.specs.declared.Plan.{Plan}
-use Rattle.pll.specs.declared.Pll.TheVariants as pll-variants
+use Rattle.std.specs.Prelude.{Some}
 use Rattle.pll.specs.Plan.{plan_of}
 use Rattle.r82xx.specs.declared.Tuner.{Tuner}
 use Rattle.r82xx.specs.Orders.Order.{Tune}
@@ -29,7 +29,7 @@ use Rattle.sequences.specs.Sequences.{Sequence}
 use Rattle.sequences.proofs.Stands.{repaired}
 use Rattle.sequences.proofs.Tunings.{hopped_stands, is_done, tuned_stands}
 
-at_status : (address : ℕ) (kind : Kind) (notch : Bool) (hz : ℕ) (rs : List ℕ) (lo r : ℕ) (p : Plan) → plan_of kind lo r ≡ pll-variants.Planned p → (reg : Bytes)
+at_status : (address : ℕ) (kind : Kind) (notch : Bool) (hz : ℕ) (rs : List ℕ) (lo r : ℕ) (p : Plan) → plan_of kind lo r ≡ Some p → (reg : Bytes)
     → Says p (repaired address kind notch p hz rs) reg → ByStatus (power_of kind) (fine_of (get_or rs 4 0)) lo r reg
 unfolding repaired
 at_status address kind notch hz rs lo r p is reg says =

@@ -17,7 +17,7 @@ use Rattle.oscillator.specs.Registers.{Bytes}
 use Rattle.oscillator.proofs.Sharp as exactly
 use Rattle.oscillator.proofs.Thousands as thousands
 use Rattle.pll.specs.declared.Plan.{Plan}
-use Rattle.pll.specs.declared.Pll.TheVariants.{Planned}
+use Rattle.std.specs.Prelude.{Some}
 use Rattle.pll.specs.Plan.{plan_of}
 use Rattle.r82xx.specs.declared.Tuner.{Tuner}
 use Rattle.r82xx.specs.Orders.Order.{Tune}
@@ -31,7 +31,7 @@ use Rattle.sequences.proofs.Tunings.{hopped_stands, is_done, tuned_stands}
 module _ (t : Tuner) (es : List Entry) (s : Sequence t es) where
   -- by a law of bytes that say a plan
   abbrev Law : ℕ → ℕ → Type 0
-  Law under over = (lo : ℕ) (p : Plan) → plan_of t.kind lo t.corrected ≡ Planned p → (reg : Bytes) → Says p p.number reg → Around under over lo t.corrected reg
+  Law under over = (lo : ℕ) (p : Plan) → plan_of t.kind lo t.corrected ≡ Some p → (reg : Bytes) → Says p p.number reg → Around under over lo t.corrected reg
 
   tune_by : (under over : ℕ) → Law under over → (hz : ℕ) (rs os room : List ℕ) → given (Tuned (Tune hz rs)) t ≡ true
       → is_done (result (call (Tuned (Tune hz rs)) os room) t).answer ≡ true
@@ -58,7 +58,7 @@ module _ (t : Tuner) (es : List Entry) (s : Sequence t es) where
   law_exact : t.corrected ≡ 28_800_000 → Law 2_757 1_243
   law_exact exact lo p is reg says =
       subst (λ (r : ℕ). Around 2_757 1_243 lo r reg) (sym exact)
-      (exactly.around t.kind lo p (subst (λ (r : ℕ). plan_of t.kind lo r ≡ Planned p) exact is) reg says)
+      (exactly.around t.kind lo p (subst (λ (r : ℕ). plan_of t.kind lo r ≡ Some p) exact is) reg says)
 
   module _ (exact : t.corrected ≡ 28_800_000) where
     pub nearer : (hz : ℕ) (rs os room : List ℕ) → given (Tuned (Tune hz rs)) t ≡ true

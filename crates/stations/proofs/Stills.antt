@@ -35,8 +35,8 @@ use Rattle.gain.specs.Steps.{chosen_of, clamped}
 use Rattle.history.proofs.Fine.{every_append}
 use Rattle.pll.specs.declared.Kind.{Kind}
 use Rattle.pll.specs.declared.Kind.TheVariants.{R820T, R828D}
-use Rattle.pll.specs.declared.Pll.{Pll}
-use Rattle.pll.specs.declared.Pll.TheVariants as pll-variants
+use Rattle.std.specs.Prelude.{Option, Some, None}
+use Rattle.pll.specs.declared.Plan.{Plan}
 use Rattle.r82xx.specs.declared.Tuner.{Tuner}
 use Rattle.r82xx.specs.Calls.{plan_for}
 use Rattle.r82xx.specs.Record.{with_corrected}
@@ -97,15 +97,15 @@ module _ (address : ℕ) (rs : List ℕ) where
       (every_append still (after_try i) (tries_from address rs left (i + 1)) (every_append still (updates (again i)) (Plain (wait 1) ∷ []) (still_updates (again i)) still_wait)
       (still_tries left (i + 1))))
 
-  still_inner : (kind : Kind) (notch : Bool) (plan : Pll) (hz : ℕ) → every still (inner_steps address kind notch plan hz rs) ≡ true
+  still_inner : (kind : Kind) (notch : Bool) (plan : Option Plan) (hz : ℕ) → every still (inner_steps address kind notch plan hz rs) ≡ true
   unfolding inner_steps
-  still_inner kind notch pll-variants.Refused hz = still_updates (mux_updates notch (range_of hz))
-  still_inner kind notch (pll-variants.Planned p) hz =
+  still_inner kind notch None hz = still_updates (mux_updates notch (range_of hz))
+  still_inner kind notch (Some p) hz =
       every_append still (updates (mux_updates notch (range_of hz) ++ pll_updates p)) (pll_steps address kind p.number rs) (still_updates (mux_updates notch (range_of hz) ++ pll_updates p))
       (every_append still (status_steps address rs) (updates (repair_updates kind p.number (get_or rs 4 0)) ++ tries_from address rs 10 0) still_status
       (every_append still (updates (repair_updates kind p.number (get_or rs 4 0))) (tries_from address rs 10 0) (still_updates (repair_updates kind p.number (get_or rs 4 0))) (still_tries 10 0)))
 
-  pub still_tune : (kind : Kind) (notch : Bool) (plan : Pll) (hz : ℕ) → every still (tune_steps address kind notch plan hz rs) ≡ true
+  pub still_tune : (kind : Kind) (notch : Bool) (plan : Option Plan) (hz : ℕ) → every still (tune_steps address kind notch plan hz rs) ≡ true
   still_tune kind notch plan hz = still_behind (inner_steps address kind notch plan hz rs) (still_inner kind notch plan hz)
 
 -- ---- the driver's
@@ -137,11 +137,11 @@ still_ddc : (inverted : Bool) → every still (ddc_steps inverted) ≡ true
 unfolding every demod_names covers shakes ddc_steps
 still_ddc inverted = refl
 
-still_ddc_part : (plan : Pll) (inverted : Bool) → every still (ddc_part plan inverted) ≡ true
-still_ddc_part pll-variants.Refused inverted = still_none
-still_ddc_part (pll-variants.Planned p) inverted = still_ddc inverted
+still_ddc_part : (plan : Option Plan) (inverted : Bool) → every still (ddc_part plan inverted) ≡ true
+still_ddc_part None inverted = still_none
+still_ddc_part (Some p) inverted = still_ddc inverted
 
-still_hop : (kind : Kind) (address : ℕ) (p : board-plan.Plan) (plan : Pll) (rs : List ℕ) → every still (hop_steps kind address p plan rs) ≡ true
+still_hop : (kind : Kind) (address : ℕ) (p : board-plan.Plan) (plan : Option Plan) (rs : List ℕ) → every still (hop_steps kind address p plan rs) ≡ true
 still_hop kind address p plan rs =
     let tail : List Step = tune_steps address kind p.notch plan p.hz (drop (path_replies kind p.path) rs) in
     every_append still (path_part kind p.path rs) (tail ++ ddc_part plan p.inverted) (still_path_part kind p.path rs)

@@ -22,7 +22,7 @@ use Rattle.chip.proofs.Laws.{active, step_address}
 use Rattle.history.proofs.Runs.{done_by, going_before}
 use Rattle.pll.specs.declared.Kind.{Kind}
 use Rattle.pll.specs.declared.Plan.{Plan}
-use Rattle.pll.specs.declared.Pll.TheVariants as pll-variants
+use Rattle.std.specs.Prelude.{Some}
 use Rattle.tuning.specs.Mux.{mux_updates, pll_updates, range_of}
 use Rattle.tuning.specs.Program.{inner_steps, tune_steps}
 use Rattle.tuning.specs.Tries.{after_try, fine_of, locked, locks_at, power_of, repair_updates, reply_bytes, status_steps, tries_from, try_read}
@@ -196,7 +196,7 @@ module _ (address : ℕ) where
 
     -- whatever was heard before it
     pub at_tune : (kind : Kind) (notch : Bool) (p : Plan) (hz : ℕ) (h : Heard)
-        → effects (tune_steps address kind notch (pll-variants.Planned p) hz rs) h ≡ ended (waited_from rs 10 0)
+        → effects (tune_steps address kind notch (Some p) hz rs) h ≡ ended (waited_from rs 10 0)
     unfolding inner_steps
     at_tune kind notch p hz h =
         let mux : List Step = updates (mux_updates notch (range_of hz) ++ pll_updates p) in

@@ -16,8 +16,8 @@ use Rattle.chip.specs.Steps.Step.{Plain}
 use Rattle.chip.proofs.Laws.{and_right}
 use Rattle.chip.proofs.Lists.{inner_update}
 use Rattle.pll.specs.declared.Kind.{Kind}
-use Rattle.pll.specs.declared.Pll.{Pll}
-use Rattle.pll.specs.declared.Pll.TheVariants.{Planned, Refused}
+use Rattle.std.specs.Prelude.{Option, Some, None}
+use Rattle.pll.specs.declared.Plan.{Plan}
 use Rattle.tuning.specs.Mux.{mux_updates, pll_updates, range_of}
 use Rattle.tuning.specs.Tries.{after_try, again, locked, locks_at, repair_updates, reply_bytes, status_steps, tries_from, try_read}
 use Rattle.tuning.specs.Program.{inner_steps, pll_steps}
@@ -86,10 +86,10 @@ module _ (p : Step → Bool) (by-plain : (e : Entry) → length e.bytes ≡ 8 �
       (every_app p (updates (repair_updates kind number (get_or rs 4 0))) (tries_from address rs 10 0)
       (all_updates (repair_updates kind number (get_or rs 4 0))) (all_tries address rs 10 0))
 
-  pub all_inner : (address : ℕ) (kind : Kind) (notch : Bool) (plan : Pll) (hz : ℕ) (rs : List ℕ) → every p (inner_steps address kind notch plan hz rs) ≡ true
+  pub all_inner : (address : ℕ) (kind : Kind) (notch : Bool) (plan : Option Plan) (hz : ℕ) (rs : List ℕ) → every p (inner_steps address kind notch plan hz rs) ≡ true
   unfolding inner_steps
-  all_inner address kind notch Refused hz rs = all_updates (mux_updates notch (range_of hz))
-  all_inner address kind notch (Planned q) hz rs =
+  all_inner address kind notch None hz rs = all_updates (mux_updates notch (range_of hz))
+  all_inner address kind notch (Some q) hz rs =
       every_app p (updates (mux_updates notch (range_of hz) ++ pll_updates q)) (pll_steps address kind q.number rs)
       (all_updates (mux_updates notch (range_of hz) ++ pll_updates q)) (all_pll address kind q.number rs)
 
@@ -103,11 +103,11 @@ inner_after = all_after inner (λ e h. refl) inner_update
 pub inner_pll : (address : ℕ) (kind : Kind) (number : ℕ) (rs : List ℕ) → every inner (pll_steps address kind number rs) ≡ true
 inner_pll = all_pll inner (λ e h. refl) inner_update
 
-pub inner_inner : (address : ℕ) (kind : Kind) (notch : Bool) (plan : Pll) (hz : ℕ) (rs : List ℕ) → every inner (inner_steps address kind notch plan hz rs) ≡ true
+pub inner_inner : (address : ℕ) (kind : Kind) (notch : Bool) (plan : Option Plan) (hz : ℕ) (rs : List ℕ) → every inner (inner_steps address kind notch plan hz rs) ≡ true
 inner_inner = all_inner inner (λ e h. refl) inner_update
 
 -- eight data bytes each
-pub eight_inner : (address : ℕ) (kind : Kind) (notch : Bool) (plan : Pll) (hz : ℕ) (rs : List ℕ) → every eight (inner_steps address kind notch plan hz rs) ≡ true
+pub eight_inner : (address : ℕ) (kind : Kind) (notch : Bool) (plan : Option Plan) (hz : ℕ) (rs : List ℕ) → every eight (inner_steps address kind notch plan hz rs) ≡ true
 eight_inner = all_inner eight (λ e h. eq-eqb (length e.bytes) 8 h) eight_update
 
 pub inner_updates : (us : List Update) → every inner (updates us) ≡ true

@@ -16,8 +16,7 @@ use Rattle.chip.specs.Steps.Step.{Close, Plain}
 use Rattle.chip.proofs.Laws.{parts, stop, swap}
 use Rattle.pll.specs.declared.Kind.{Kind}
 use Rattle.pll.specs.declared.Plan.{Plan}
-use Rattle.pll.specs.declared.Pll.{Pll}
-use Rattle.pll.specs.declared.Pll.TheVariants.{Planned, Refused}
+use Rattle.std.specs.Prelude.{Option, Some, None}
 use Rattle.tuning.specs.declared.Fix.{Fix}
 use Rattle.tuning.specs.declared.FreqRange.{FreqRange}
 use Rattle.tuning.specs.InCode.{fix_updates}
@@ -70,14 +69,14 @@ pub try_made : (address : ℕ) (rs bytes : List ℕ) (i : ℕ) → bytes ≡ rep
 try_made address rs bytes i e = rw e
 
 -- the registers' writes, where row and plan were worked out apart
-pub mux_made : (address : ℕ) (kind : Kind) (notch : Bool) (plan : Pll) (hz : ℕ) (rs : List ℕ) (range : FreqRange) (us : List Update) (p : Plan)
-    → range ≡ range_of hz → us ≡ mux_updates notch range ++ pll_updates p → plan ≡ Refused
+pub mux_made : (address : ℕ) (kind : Kind) (notch : Bool) (plan : Option Plan) (hz : ℕ) (rs : List ℕ) (range : FreqRange) (us : List Update) (p : Plan)
+    → range ≡ range_of hz → us ≡ mux_updates notch range ++ pll_updates p → plan ≡ None
     → updates (take 11 us) ≡ inner_steps address kind notch plan hz rs
 unfolding inner_steps
 mux_made address kind notch plan hz rs range us p e l q = rw (l, e, q)
 
-pub plan_made : (address : ℕ) (kind : Kind) (notch : Bool) (plan : Pll) (hz : ℕ) (rs : List ℕ) (range : FreqRange) (us : List Update) (p : Plan)
-    → range ≡ range_of hz → us ≡ mux_updates notch range ++ pll_updates p → plan ≡ Planned p
+pub plan_made : (address : ℕ) (kind : Kind) (notch : Bool) (plan : Option Plan) (hz : ℕ) (rs : List ℕ) (range : FreqRange) (us : List Update) (p : Plan)
+    → range ≡ range_of hz → us ≡ mux_updates notch range ++ pll_updates p → plan ≡ Some p
     → updates (take 16 us) ++ pll_steps address kind p.number rs ≡ inner_steps address kind notch plan hz rs
 unfolding inner_steps
 plan_made address kind notch plan hz rs range us p e l q = rw (l, e, q)

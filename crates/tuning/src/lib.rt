@@ -17,7 +17,7 @@ ghost use Rattle.tuning.specs.InCode.{fix_updates};
 ghost use Rattle.tuning.specs.Program.{inner_steps, divider_number, tune_steps, tune_answer};
 
 use chip::{Chip, Flow, LockTries, Log, Progress, Update, Updates, masked};
-use pll::{Kind, Plan, Pll};
+use pll::{Kind, Plan};
 use refusals::Answer;
 use transcript::Entry;
 
@@ -46,17 +46,17 @@ pub struct Fix {
 pub struct Tuning {
     pub kind: Kind,
     pub notch: bool,
-    pub plan: Pll,
+    pub plan: Option<Plan>,
     pub hz: u64,
 }
 
 // Returns a tuning's answer where no step fails.
-pub fn whole_answer(plan: Pll, hz: u64) -> Answer
+pub fn whole_answer(plan: Option<Plan>, hz: u64) -> Answer
     ensures { result ≡ tune_answer plan hz }
 {
     match plan {
-        Pll::Refused => Answer::Refused(refusals::FREQUENCY),
-        Pll::Planned(_) => Answer::Done(hz),
+        None => Answer::Refused(refusals::FREQUENCY),
+        Some(_) => Answer::Done(hz),
     }
 }
 
@@ -469,7 +469,7 @@ fn tune_inner(
 {
     let range = freq_range(t.hz);
     let plan = t.plan;
-    let Pll::Planned(p) = plan else {
+    let Some(p) = plan else {
         let list = tune_updates(range, t.notch, NO_PLAN);
         let mux = Updates { list: list, n: 11 };
         return chip::write_list(l, address, mux, shadow, doubtful, outcomes, room);

@@ -5,7 +5,7 @@ use Rattle.fir.proofs.Worked.{default-packed}
 use Rattle.gain.proofs.Worked.{three_two_index, three_two_answer, nan_index, far_below_tenths, far_below_index}
 use Rattle.pll.specs.declared.Kind.{Kind}
 use Rattle.pll.specs.declared.Kind.TheVariants.{R820T, R828D}
-use Rattle.pll.specs.declared.Pll.TheVariants.{Refused}
+use Rattle.std.specs.Prelude.{None}
 use Rattle.pll.specs.Divide.{in_vco, first_mixer}
 use Rattle.pll.specs.Setting.{setting_of}
 use Rattle.pll.specs.Fraction.{turn_of, turns_of}
@@ -14,7 +14,7 @@ use Rattle.reference.specs.Correct.{corrected_of}
 use Rattle.registers.specs.Rates.{ratio_holds, if_regs_of, rate_number, sent_of, true_of}
 use Rattle.worked.specs.Numbers.{whole_in, Worked}
 
-too_small : (kind : Kind) → plan_of kind 885_000_000 100_000_000 ≡ Refused
+too_small : (kind : Kind) → plan_of kind 885_000_000 100_000_000 ≡ None
 unfolding in_vco first_mixer setting_of turn_of turns_of plan_with plan_of
 too_small R820T = refl
 too_small R828D = refl
@@ -24,7 +24,7 @@ unfolding in_vco first_mixer setting_of turn_of turns_of plan_with plan_of
 least_whole R820T = refl
 least_whole R828D = refl
 
-below_least : (kind : Kind) → plan_of kind 885_000_000 68_076_924 ≡ Refused
+below_least : (kind : Kind) → plan_of kind 885_000_000 68_076_924 ≡ None
 unfolding in_vco first_mixer setting_of turn_of turns_of plan_with plan_of
 below_least R820T = refl
 below_least R828D = refl

@@ -1,5 +1,5 @@
 -- Document 01, "Worked numbers (marked * are proved)": each starred line, in its order, a field for each number.
-use Rattle.std.specs.Prelude.{ℕ, ◌*◌, ◌≡◌, Bool, true, false, [], ◌∷◌, pos, neg_ℤ, Some}
+use Rattle.std.specs.Prelude.{ℕ, ◌*◌, ◌≡◌, Bool, true, false, [], ◌∷◌, pos, neg_ℤ, Option, Some, None}
 use Rattle.std.specs.Float.{binary32, nan}
 use Rattle.std.specs.Float.Ieee.{of_bits, to_bits}
 use Rattle.refusals.specs.Table.{RATIO}
@@ -11,8 +11,7 @@ use Rattle.gain.specs.Product.{gain_of, tenths_of}
 use Rattle.gain.specs.Steps.{chosen_of, step_at}
 use Rattle.pll.specs.declared.Kind.{Kind}
 use Rattle.pll.specs.declared.Kind.TheVariants.{R820T, R828D}
-use Rattle.pll.specs.declared.Pll.{Pll}
-use Rattle.pll.specs.declared.Pll.TheVariants as pll
+use Rattle.pll.specs.declared.Plan.{Plan}
 use Rattle.pll.specs.Plan.{whole_of, plan_of}
 use Rattle.pll.specs.Setting.{setting_of}
 use Rattle.reference.specs.declared.Corrected.TheVariants as reference
@@ -20,41 +19,41 @@ use Rattle.reference.specs.Correct.{corrected_of}
 use Rattle.registers.specs.Rates.{if_value_of, if_regs_of, ratio_of, rate_number, sent_of, three_of, true_of}
 
 -- the divider and N of a plan; of a refusal 0, which no line below names
-abbrev pub divider_in : Pll → ℕ
-divider_in (pll.Planned p) = p.m
-divider_in pll.Refused = 0
+abbrev pub divider_in : Option Plan → ℕ
+divider_in (Some p) = p.m
+divider_in None = 0
 
-abbrev pub whole_in : Pll → ℕ
-whole_in (pll.Planned p) = p.n
-whole_in pll.Refused = 0
+abbrev pub whole_in : Option Plan → ℕ
+whole_in (Some p) = p.n
+whole_in None = 0
 
-abbrev pub taken : Pll → Bool
-taken (pll.Planned p) = true
-taken pll.Refused = false
+abbrev pub taken : Option Plan → Bool
+taken (Some p) = true
+taken None = false
 
 pub record Worked : Type 0 where
   -- lo 27,656,250: m 64; 27,656,249 refused
   pub lowest : divider_in (plan_of R828D 27_656_250 28_800_000) ≡ 64
-  pub below : plan_of R828D 27_656_249 28_800_000 ≡ pll.Refused
+  pub below : plan_of R828D 27_656_249 28_800_000 ≡ None
   -- 885,000,000: m 2; 884,999,999: m 4
   pub by_two : divider_in (plan_of R828D 885_000_000 28_800_000) ≡ 2
   pub by_four : divider_in (plan_of R828D 884_999_999 28_800_000) ≡ 4
   -- 1,799,999,999 taken, 1,800,000,000 refused (R 28,800,000, R828D)
   pub highest : taken (plan_of R828D 1_799_999_999 28_800_000) ≡ true
-  pub above : plan_of R828D 1_800_000_000 28_800_000 ≡ pll.Refused
+  pub above : plan_of R828D 1_800_000_000 28_800_000 ≡ None
   -- R 16,000,000, R820T: lo 1,023,999,999 taken, N 63; 1,024,000,000 refused
   pub at_cap : whole_in (plan_of R820T 1_023_999_999 16_000_000) ≡ 63
-  pub past_cap : plan_of R820T 1_024_000_000 16_000_000 ≡ pll.Refused
+  pub past_cap : plan_of R820T 1_024_000_000 16_000_000 ≡ None
   -- R828D, R 28,800,000, lo 102,300,000: m 32, N 56, 0x14 = 0xca, F 48,000, S 0xd556, rest 1
   pub broadcast :
-      plan_of R828D 102_300_000 28_800_000 ≡ pll.Planned (record { m = 32; number = 4; n = 56; setting = 0xca; fraction = 48_000; sum = 0xd556; rest = 1 })
+      plan_of R828D 102_300_000 28_800_000 ≡ Some (record { m = 32; number = 4; n = 56; setting = 0xca; fraction = 48_000; sum = 0xd556; rest = 1 })
   -- R 100,000,000, lo 885,000,000: N 8, 0x14 = 0xc0. Document 02, #111: "document 01's line with N 8 becomes a refusal". The formulas give both still
   pub small_whole : whole_of (885_000_000 * 2) 100_000_000 ≡ 8
   pub wrapped : setting_of 8 ≡ 0xc0
-  pub too_small : (kind : Kind) → plan_of kind 885_000_000 100_000_000 ≡ pll.Refused
+  pub too_small : (kind : Kind) → plan_of kind 885_000_000 100_000_000 ≡ None
   -- the first reference at which an N is below 13, and the one before it
   pub least_whole : (kind : Kind) → whole_in (plan_of kind 885_000_000 68_076_923) ≡ 13
-  pub below_least : (kind : Kind) → plan_of kind 885_000_000 68_076_924 ≡ pll.Refused
+  pub below_least : (kind : Kind) → plan_of kind 885_000_000 68_076_924 ≡ None
   -- 28,800,000 at -1 ppm: 28,799,972; at -1,000,000: refused
   pub minus_one : corrected_of 28_800_000 (neg_ℤ (pos 1)) ≡ reference.Is 28_799_972
   pub minus_all : corrected_of 28_800_000 (neg_ℤ (pos 1_000_000)) ≡ reference.Refused

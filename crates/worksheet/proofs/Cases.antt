@@ -3,42 +3,43 @@ use mathlib.Core.Path.{◌≡◌, refl, sym, subst, ◌∙◌}
 use mathlib.Core.Bool.{Bool, true, false, cond}
 use Prim.Native.Nat.{ℕ, ◌*◌, ◌/◌, ◌%◌, ◌≤◌, ◌<◌}
 use lib.Dec.{eqb}
+use Rattle.std.specs.Prelude.{Some, None, Option}
 use borrow.Author.Tests.{le-leb, lt-leb, eq-eqb, ne_eqb}
 use Rattle.pll.specs.declared.Kind.{Kind}
 use Rattle.pll.specs.Plan.{cap_of}
-use Rattle.worksheet.specs.declared.Filled.TheVariants.{In, Refused}
+use Rattle.worksheet.specs.declared.Sheet.{Sheet}
 use Rattle.worksheet.specs.declared.Work.{Work}
 use Rattle.worksheet.specs.Sheet.{byte_of, divider_on, filled_of, sheet_of, sheet_with, sum_on}
 
-pub no_reference : (kind : Kind) (lo r : ℕ) → r ≡ 0 → Refused ≡ sheet_of kind lo r
+pub no_reference : (kind : Kind) (lo r : ℕ) → r ≡ 0 → None ≡ sheet_of kind lo r
 unfolding sheet_of
 no_reference kind lo r z = simp (eq-eqb r 0 z)
 
-both_refuse : (a b : Bool) → Refused ≡ cond a Refused (cond b Refused Refused)
+both_refuse : (a b : Bool) → ◌≡◌ {A = Option Sheet} None (cond a None (cond b None None))
 both_refuse true b = refl
 both_refuse false true = refl
 both_refuse false false = refl
 
-pub no_range : (kind : Kind) (lo r m : ℕ) → m ≡ divider_on lo → m ≡ 0 → Refused ≡ sheet_of kind lo r
+pub no_range : (kind : Kind) (lo r m : ℕ) → m ≡ divider_on lo → m ≡ 0 → None ≡ sheet_of kind lo r
 unfolding sheet_of
 no_range kind lo r m e z = simp (eq-eqb (divider_on lo) 0 (sym e ∙ z)) (both_refuse (eqb r 0) true)
 
-refused_with : (kind : Kind) (lo r m : ℕ) → m ≡ divider_on lo → sheet_with kind m (lo * m) r ≡ Refused → Refused ≡ sheet_of kind lo r
+refused_with : (kind : Kind) (lo r m : ℕ) → m ≡ divider_on lo → sheet_with kind m (lo * m) r ≡ None → None ≡ sheet_of kind lo r
 unfolding sheet_of
 refused_with kind lo r m e h =
-    let g : sheet_with kind (divider_on lo) (lo * divider_on lo) r ≡ Refused = subst (λ (n : ℕ). sheet_with kind n (lo * n) r ≡ Refused) e h in
+    let g : sheet_with kind (divider_on lo) (lo * divider_on lo) r ≡ None = subst (λ (n : ℕ). sheet_with kind n (lo * n) r ≡ None) e h in
     simp g (both_refuse (eqb r 0) (eqb (divider_on lo) 0))
 
-pub too_slow : (kind : Kind) (lo r m : ℕ) → m ≡ divider_on lo → lo * m / (2 * r) < 13 → Refused ≡ sheet_of kind lo r
+pub too_slow : (kind : Kind) (lo r m : ℕ) → m ≡ divider_on lo → lo * m / (2 * r) < 13 → None ≡ sheet_of kind lo r
 unfolding sheet_with
 too_slow kind lo r m e h =
-    let w : sheet_with kind m (lo * m) r ≡ Refused = simp (lt-leb _ _ h) in
+    let w : sheet_with kind m (lo * m) r ≡ None = simp (lt-leb _ _ h) in
     refused_with kind lo r m e w
 
-pub too_fast : (kind : Kind) (lo r m : ℕ) → m ≡ divider_on lo → 13 ≤ lo * m / (2 * r) → cap_of kind < lo * m / (2 * r) → Refused ≡ sheet_of kind lo r
+pub too_fast : (kind : Kind) (lo r m : ℕ) → m ≡ divider_on lo → 13 ≤ lo * m / (2 * r) → cap_of kind < lo * m / (2 * r) → None ≡ sheet_of kind lo r
 unfolding sheet_with
 too_fast kind lo r m e l h =
-    let w : sheet_with kind m (lo * m) r ≡ Refused = simp (le-leb _ _ l, lt-leb _ _ h) in
+    let w : sheet_with kind m (lo * m) r ≡ None = simp (le-leb _ _ l, lt-leb _ _ h) in
     refused_with kind lo r m e w
 
 filled_with : (kind : Kind) (lo r m : ℕ) → (r ≡ 0 → ⊥) → (m ≡ 0 → ⊥) → m ≡ divider_on lo → 13 ≤ lo * m / (2 * r) → lo * m / (2 * r) ≤ cap_of kind → filled_of m (lo * m) r ≡ sheet_of kind lo r
@@ -58,6 +59,6 @@ pub filled : (kind : Kind) (lo r m b : ℕ) (w : Work)
     → lo * m / (2 * r) ≤ cap_of kind
     → b ≡ byte_of (lo * m / (2 * r))
     → w ≡ sum_on (r / 1000) (lo * m % (2 * r) / 1000)
-    → In (record { m = m; n = lo * m / (2 * r); setting = b; sum = w.sum; rest = w.left }) ≡ sheet_of kind lo r
+    → Some (record { m = m; n = lo * m / (2 * r); setting = b; sum = w.sum; rest = w.left }) ≡ sheet_of kind lo r
 filled kind lo r m b w nr nm e l h eb ew =
-    (λ i. In (record { m = m; n = lo * m / (2 * r); setting = eb i; sum = (ew i).sum; rest = (ew i).left })) ∙ filled_with kind lo r m nr nm e l h
+    (λ i. Some (record { m = m; n = lo * m / (2 * r); setting = eb i; sum = (ew i).sum; rest = (ew i).left })) ∙ filled_with kind lo r m nr nm e l h

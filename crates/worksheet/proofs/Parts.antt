@@ -7,10 +7,9 @@ use Prim.Native.Nat.{ℕ, zero, suc, ◌+◌, ◌-◌, ◌*◌, ◌/◌, ◌%◌
 use native.Mathlib.Omega.{arith}
 use native.Mathlib.Nat.{mod_def}
 use lib.Dec.{leb, eqb, eqb→eq}
+use Rattle.std.specs.Prelude.{Option, Some, None}
 use borrow.Author.Tests.{lt-leb, le-leb}
 use Rattle.below.proofs.Test.{below}
-use Rattle.pll.specs.declared.Mixer.{Mixer}
-use Rattle.pll.specs.declared.Mixer.TheVariants.{By, Missing}
 use Rattle.pll.specs.declared.Sum.{Sum}
 use Rattle.pll.specs.Divide.{divider_of}
 use Rattle.pll.specs.Fraction.{takes_turn, turn_of, turns_of, sum_start, sum_of}
@@ -25,9 +24,9 @@ use Rattle.worksheet.specs.Sheet.{adds, band_of, bands_of, divider_on, lines, li
 -- ---- the divider
 
 -- m, and 0 where there is none
-abbrev pub m_of : Mixer → ℕ
-m_of (By m number) = m
-m_of Missing = 0
+abbrev pub m_of : Option (ℕ × ℕ) → ℕ
+m_of (Some (m, number)) = m
+m_of None = 0
 
 below_it : (lo a : ℕ) → lo < a → leb a lo ≡ false
 below_it lo a h = lt-leb a lo h
@@ -178,9 +177,9 @@ same_divider lo =
     or_else at above under = ⊎_elim under above (below_or lo at)
 
 -- so lo·m stays below the oscillator's upper end
-vco_by : (lo : ℕ) (x : Mixer) → divider_of lo ≡ x → lo * m_of x < 3_600_000_000
-vco_by lo Missing e = omega arith
-vco_by lo (By m k) e = (found lo m k e).high
+vco_by : (lo : ℕ) (x : Option (ℕ × ℕ)) → divider_of lo ≡ x → lo * m_of x < 3_600_000_000
+vco_by lo None e = omega arith
+vco_by lo (Some (m, k)) e = (found lo m k e).high
 
 pub vco_most : (lo m : ℕ) → m ≡ divider_on lo → lo * m < 3_600_000_000
 vco_most lo m e = subst (λ (n : ℕ). lo * n < 3_600_000_000) (sym (e ∙ same_divider lo)) (vco_by lo (divider_of lo) refl)

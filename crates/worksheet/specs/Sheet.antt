@@ -1,14 +1,12 @@
 -- The technicians' worksheet. Document 02, #111: "a table of six lo ranges for the divider, and the fractional sum written out step by step".
 -- Assumes nothing.
-use Rattle.std.specs.Prelude.{ℕ, ◌+◌, ◌-◌, ◌*◌, ◌/◌, ◌%◌, Bool, true, false, cond, not, ◌&&◌, List, [], ◌∷◌, leb, ltb, eqb}
+use Rattle.std.specs.Prelude.{ℕ, ◌+◌, ◌-◌, ◌*◌, ◌/◌, ◌%◌, Bool, true, false, cond, not, ◌&&◌, List, [], ◌∷◌, leb, ltb, eqb, Option, Some, None}
 use Rattle.pll.specs.declared.Kind.{Kind}
-use Rattle.pll.specs.declared.Pll.{Pll}
-use Rattle.pll.specs.declared.Pll.TheVariants as pll
+use Rattle.pll.specs.declared.Plan.{Plan}
 use Rattle.pll.specs.Plan.{cap_of}
 use Rattle.worksheet.specs.declared.Band.{Band}
-use Rattle.worksheet.specs.declared.Filled.{Filled}
-use Rattle.worksheet.specs.declared.Filled.TheVariants.{In, Refused}
 use Rattle.worksheet.specs.declared.Line.{Line}
+use Rattle.worksheet.specs.declared.Sheet.{Sheet}
 use Rattle.worksheet.specs.declared.Work.{Work}
 
 -- the first lo, the last, and the divider
@@ -79,9 +77,9 @@ abbrev pub byte_of : ℕ → ℕ
 byte_of n = (n - 13) % 4 * 64 + (n - 13) / 4
 
 -- N and F: how often 2R goes into lo·m, and the thousands of what is left
-abbrev pub filled_of : ℕ → ℕ → ℕ → Filled
+abbrev pub filled_of : ℕ → ℕ → ℕ → Option Sheet
 filled_of m vco r =
-    In (record {
+    Some (record {
       m = m;
       n = vco / (2 * r);
       setting = byte_of (vco / (2 * r));
@@ -90,15 +88,15 @@ filled_of m vco r =
     })
 
 -- "N below 13 is refused", and above the cap as by document 01
-unfoldable pub sheet_with : Kind → ℕ → ℕ → ℕ → Filled
+unfoldable pub sheet_with : Kind → ℕ → ℕ → ℕ → Option Sheet
 sheet_with kind m vco r =
-    cond (leb 13 (vco / (2 * r)) && leb (vco / (2 * r)) (cap_of kind)) (filled_of m vco r) Refused
+    cond (leb 13 (vco / (2 * r)) && leb (vco / (2 * r)) (cap_of kind)) (filled_of m vco r) None
 
-unfoldable pub sheet_of : Kind → ℕ → ℕ → Filled
+unfoldable pub sheet_of : Kind → ℕ → ℕ → Option Sheet
 sheet_of kind lo r =
-    cond (eqb r 0) Refused (cond (eqb (divider_on lo) 0) Refused (sheet_with kind (divider_on lo) (lo * divider_on lo) r))
+    cond (eqb r 0) None (cond (eqb (divider_on lo) 0) None (sheet_with kind (divider_on lo) (lo * divider_on lo) r))
 
 -- what of a plan of crate pll stands on a sheet
-abbrev pub filled_by : Pll → Filled
-filled_by (pll.Planned p) = In (record { m = p.m; n = p.n; setting = p.setting; sum = p.sum; rest = p.rest })
-filled_by pll.Refused = Refused
+abbrev pub filled_by : Option Plan → Option Sheet
+filled_by (Some p) = Some (record { m = p.m; n = p.n; setting = p.setting; sum = p.sum; rest = p.rest })
+filled_by None = None

@@ -8,7 +8,7 @@ ghost use Rattle.std.specs.Prelude.{◌≡◌, ◌<◌, ◌≤◌, ◌^◌};
 ghost use Rattle.pll.specs.Plan.{cap_of};
 ghost use Rattle.worksheet.specs.Sheet.{band_of, byte_of, divider_on, line_of, sheet_of, sum_on, filled_by};
 
-use pll::{Kind, Pll};
+use pll::{Kind, Plan};
 
 // A range of lo: its first, its last, its divider.
 #[derive(Clone, Copy)]
@@ -62,12 +62,9 @@ fn in_band(lo: u64, m: u64, b: Band) -> u64
 fn divider(lo: u64) -> u64
     ensures { result ≡ divider_on lo }
 {
-    let table = BANDS;
-    let mut m: u64 = 0;
-    let mut i: usize = 0;
-    while i < 6 {
-        m = in_band(lo, m, table[i]);
-        i += 1;
+    let mut m = 0;
+    for b in BANDS {
+        m = in_band(lo, m, b);
     }
     m
 }
@@ -107,20 +104,18 @@ fn summed(k: u64, f: u64) -> Work
     requires { k < 2 ^ 32 }
     ensures { result ≡ sum_on k f }
 {
-    let table = LINES;
     let mut w = Work {
         sum: 0,
         left: f,
         ended: false,
     };
-    let mut i: usize = 0;
-    while i < 16 {
-        w = worked_line(k, w, table[i]);
-        i += 1;
+    for l in LINES {
+        w = worked_line(k, w, l);
     }
     w
 }
 
+// As pll's cap, and written again on purpose: this engine is a second one, and calls nothing of the first.
 fn most(kind: Kind) -> u64
     ensures { result ≡ cap_of kind }
 {
@@ -148,31 +143,25 @@ pub struct Sheet {
     pub rest: u64,
 }
 
-#[derive(Clone, Copy)]
-pub enum Filled {
-    In(Sheet),
-    Refused,
-}
-
 // The sheet for the oscillator's frequency `lo` at the reference `r`.
-pub fn fill(kind: Kind, lo: u64, r: u32) -> Filled
+pub fn fill(kind: Kind, lo: u64, r: u32) -> Option<Sheet>
     ensures { result ≡ sheet_of kind lo r }
 {
     if r == 0 {
-        return Filled::Refused;
+        return None;
     }
     let m = divider(lo);
     if m == 0 {
-        return Filled::Refused;
+        return None;
     }
     let wide = r as u64;
     let vco = lo * m;
     let n = vco / (2 * wide);
     if n < 13 {
-        return Filled::Refused;
+        return None;
     }
     if most(kind) < n {
-        return Filled::Refused;
+        return None;
     }
     let setting = byte(n);
     let end = summed(wide / 1000, vco % (2 * wide) / 1000);
@@ -180,7 +169,7 @@ pub fn fill(kind: Kind, lo: u64, r: u32) -> Filled
     let rest = end.left;
     let small = n as u8;
     let short = s as u16;
-    Filled::In(Sheet {
+    Some(Sheet {
         m,
         n: small,
         setting,
@@ -190,17 +179,14 @@ pub fn fill(kind: Kind, lo: u64, r: u32) -> Filled
 }
 
 // What of a plan of crate pll stands on a sheet.
-pub fn filled_by(plan: Pll) -> Filled
+pub fn filled_by(plan: Option<Plan>) -> Option<Sheet>
     ensures { result ≡ filled_by plan }
 {
-    match plan {
-        Pll::Planned(p) => Filled::In(Sheet {
-            m: p.m,
-            n: p.n,
-            setting: p.setting,
-            sum: p.sum,
-            rest: p.rest,
-        }),
-        Pll::Refused => Filled::Refused,
-    }
+    plan.map(|p| Sheet {
+        m: p.m,
+        n: p.n,
+        setting: p.setting,
+        sum: p.sum,
+        rest: p.rest,
+    })
 }

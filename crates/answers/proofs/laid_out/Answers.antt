@@ -18,4 +18,4 @@ returns-in_default c =
 
 pub returns : goal.returns
 returns c =
-    ap filled_in (sym c.in-In.is) ∙ laid _ _ _ c.if-kind-gt1.false c.if-reference-eq0.false
+    ap filled_in (sym c.in-Some.is) ∙ laid _ _ _ c.if-kind-gt1.false c.if-reference-eq0.false

@@ -9,7 +9,8 @@ use mir.Facts.{to_z-of_z}
 use mir.Syntax.{w32}
 use Rattle.chip.proofs.Refusals.{taken_by}
 use Rattle.driver.specs.Record.{xtal_by}
-use Rattle.pll.specs.declared.Pll.{Pll}
+use Rattle.std.specs.Prelude.{Option}
+use Rattle.pll.specs.declared.Plan.{Plan}
 use Rattle.r82xx.proofs.Tuned.{number_small}
 use Rattle.tuning.specs.Program.{divider_number}
 use Rattle.boards.proofs.Hops.{hop_hz, hop_refused, hop_taken}
@@ -47,7 +48,7 @@ hop-requires c =
     let one = z.lent.rooms in
     let two = z.lent.outs in
     let three = z.lent.back in
-    (subst⁻¹ (λ (p : Pll). divider_number p ≤ 5) c.plan_pll-by.ensures (number_small _ _ _), omega arith, omega arith, omega arith)
+    (subst⁻¹ (λ (p : Option Plan). divider_number p ≤ 5) c.plan_pll-by.ensures (number_small _ _ _), omega arith, omega arith, omega arith)
 
 pub returns : goal.returns
 returns c =

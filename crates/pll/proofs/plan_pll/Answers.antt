@@ -1,7 +1,6 @@
 -- `pll::plan_pll` meets its contract: each `return` is the law of its case, the products stay below the oscillator's upper end. Assumes nothing.
-use Rattle.std.proofs.Common.{◌≡◌, ◌*◌, ◌/◌, ◌^◌, ◌<◌, sym, ◌∙◌, subst, arith}
+use Rattle.std.proofs.Common.{◌≡◌, ◌*◌, ◌/◌, ◌^◌, ◌<◌, Some, sym, ◌∙◌, subst, arith}
 use native.Mathlib.Nat.{mul-div-le}
-use Rattle.pll.specs.declared.Mixer.TheVariants.{By}
 use Rattle.pll.specs.declared.Sum.{Sum}
 use Rattle.pll.specs.Divide.{divider_of}
 use Rattle.pll.proofs.Dividers.{found}
@@ -11,17 +10,17 @@ use Rattle.pll.proofs.plan_pll.Goals as goal
 
 -- in the arm of the divider: it is the definition's, and lo·m is below 3,600,000,000
 came :
-    (c : goal.In-By) → divider_of c.args.lo ≡ By c.in-By.m c.in-By.number
+    (c : goal.In_ok-m) → divider_of c.args.lo ≡ Some (c.in_ok-m.m, c.in_ok-m.number)
 came c =
-    sym c.divider.ensures ∙ c.in-By.is
+    sym c.divider.ensures ∙ c.in_ok-m.was
 
-bounded : (c : goal.In-By) → c.args.lo * c.in-By.m < 3_600_000_000
+bounded : (c : goal.In_ok-m) → c.args.lo * c.in_ok-m.m < 3_600_000_000
 bounded c = (found _ _ _ (came c)).high
 
 -- where the cap was passed: N is below 128
 within : (c : goal.Else-cap-n)
     → c.args.lo
-    * c.in-By.m / (2 * c.args.r)
+    * c.in_ok-m.m / (2 * c.args.r)
     < 128
 within c =
     omega (arith, c.if-cap-n.false, c.cap.ensures, cap_most c.args.kind)
@@ -29,8 +28,8 @@ within c =
 pub returns-then-r-eq0 : goal.returns-then-r-eq0
 returns-then-r-eq0 c = sym (no_reference _ _ _ c.if-r-eq0.true)
 
-pub returns-in_default : goal.returns-in_default
-returns-in_default c = sym (no_divider _ _ _ (sym c.divider.ensures ∙ c.in_default.is))
+pub returns-in_err-m : goal.returns-in_err-m
+returns-in_err-m c = c.from_residual.ensures ∙ sym (no_divider _ _ _ (sym c.divider.ensures ∙ c.in_err-m.was))
 
 pub overflow_mul-vco : goal.overflow_mul-vco
 overflow_mul-vco c = omega (arith, bounded c)
@@ -45,7 +44,7 @@ returns-then-cap-n c =
 pub overflow_mul-f-2 : goal.overflow_mul-f-2
 overflow_mul-f-2 c =
     let args = c.args in
-    omega (arith, bounded (c.before.before.before), mul-div-le (args.lo * c.in-By.m) (2 * args.r))
+    omega (arith, bounded (c.before.before.before), mul-div-le (args.lo * c.in_ok-m.m) (2 * args.r))
 
 pub overflow_sub-f : goal.overflow_sub-f
 overflow_sub-f c = mul-div-le _ _

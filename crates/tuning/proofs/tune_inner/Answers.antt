@@ -5,7 +5,8 @@ use Prim.Native.Nat.{◌≤◌}
 use mathlib.Core.List.{List, ◌++◌}
 use lib.ListN.{take}
 use Rattle.chip.specs.declared.Update.{Update}
-use Rattle.pll.specs.declared.Pll.{Pll}
+use Rattle.std.specs.Prelude.{Option}
+use Rattle.pll.specs.declared.Plan.{Plan}
 use Rattle.chip.specs.InCode.{in_room}
 use Rattle.chip.specs.Steps.{every, in_range, updates}
 use Rattle.chip.proofs.Laws.{parts, swap}
@@ -39,7 +40,7 @@ returns-in_default c =
 -- antt refused `tune-updates-requires-2` as it was built: the module's report says why
 pub tune_updates-list-requires-2 : goal.tune_updates-list-requires-2
 tune_updates-list-requires-2 c =
-    subst (λ (q : Pll). divider_number q ≤ 5) c.in-Planned.is c.requires.0
+    subst (λ (q : Option Plan). divider_number q ≤ 5) c.in-Some.is c.requires.0
 
 -- antt refused `write-list-requires-2` as it was built: the module's report says why
 pub write_list-written-requires : goal.write_list-written-requires
@@ -50,7 +51,7 @@ write_list-written-requires c =
 -- antt refused `repair-requires` as it was built: the module's report says why
 pub repair-fix-requires : goal.repair-fix-requires
 repair-fix-requires c =
-    subst (λ (q : Pll). divider_number q ≤ 5) c.in-Planned.is c.requires.0
+    subst (λ (q : Option Plan). divider_number q ≤ 5) c.in-Some.is c.requires.0
 
 -- antt refused `set-pll-raw-requires` as it was built: the module's report says why
 pub set_pll_raw-requires : goal.set_pll_raw-requires
@@ -67,10 +68,10 @@ returns c =
     let args = c.args in
     let t = args.t in
     let rs = args.replies.now in
-    let number = c.in-Planned.p.number in record {
+    let number = c.in-Some.p.number in record {
       room_after = swap in_room _ _ _ _ _
           (plan_made args.address t.kind t.notch t.plan t.hz rs _ _ _ c.freq_range-range.ensures tune-updates2.ensures
-          c.in-Planned.is)
+          c.in-Some.is)
           (parts in_room _ (updates (take 16 tune-updates2.result)) (pll_steps args.address t.kind number rs) _ _ _
           (inner_pll args.address t.kind number rs) write-list2.ensures.room_after
           (swap in_room _ _ _ _ _

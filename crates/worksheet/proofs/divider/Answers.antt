@@ -1,24 +1,18 @@
--- `worksheet::divider` meets its contract. The loop's invariant: the ranges that are left, from here, give what all give from none. Assumes nothing.
-use mathlib.Core.Path.{refl, ap, ◌∙◌}
-use borrow.Author.Rules.{rules}
+-- `worksheet::divider` meets its contract: a turn of the loop is a row of the table, and no row is left at the end. Assumes nothing.
+use mathlib.Core.Path.{ap, ◌∙◌}
 use Prim.Native.Nat.{ℕ, ◌+◌}
 use lib.ListN.{drop}
 use Rattle.worksheet.specs.Sheet.{bands, bands_of}
 use Rattle.worksheet.proofs.Tables.{band_turn, band_end}
 use Rattle.worksheet.proofs.divider.Goals as goal
 
-pub loop-i-init : goal.loop-i-init
-loop-i-init c = refl
-
-pub loop-i-preserved : goal.loop-i-preserved
-loop-i-preserved c =
-    let loop = c.loop-i in
-    let args = c.args in
-    ap (λ (m : ℕ). bands_of args.lo m (drop (loop.i + 1) bands)) c.in_band-m.ensures
-    ∙ band_turn args.lo loop.m _ loop.i (search rules)
-    ∙ loop.invariant
+pub loop-b-preserved : goal.loop-b-preserved
+loop-b-preserved c =
+    let l = c.loop-b in
+    let lo = c.args.lo in
+    ap (λ (m : ℕ). bands_of lo m (drop (l.b-index + 1) bands)) c.in_band-m.ensures
+    ∙ band_turn lo l.m _ l.b-index c.loop-b-test.true
+    ∙ l.invariant
 
 pub returns : goal.returns
-returns c =
-    let loop = c.loop-i in
-    band_end c.args.lo loop.m loop.i (search rules) ∙ loop.invariant
+returns c = band_end c.args.lo c.loop-b.m c.loop-b.b-index c.loop-b-test.false ∙ c.loop-b.invariant

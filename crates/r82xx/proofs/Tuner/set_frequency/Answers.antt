@@ -4,7 +4,8 @@ use native.Mathlib.Omega.{arith}
 use Prim.Native.Nat.{◌≤◌, ℕ}
 use lib.ListN.{length}
 use Rattle.chip.proofs.Refusals.{taken_by}
-use Rattle.pll.specs.declared.Pll.{Pll}
+use Rattle.std.specs.Prelude.{Option}
+use Rattle.pll.specs.declared.Plan.{Plan}
 use Rattle.tuning.specs.Program.{divider_number}
 use Rattle.r82xx.specs.Calls.{refusal_of}
 use Rattle.r82xx.specs.Record.{sound}
@@ -42,7 +43,7 @@ tune-requires c =
     let rooms = z.lent.rooms in
     let outs = z.lent.outs in
     let back = z.lent.back in
-    (subst⁻¹ (λ (p : Pll). divider_number p ≤ 5) c.plan_pll-plan.ensures (number_small _ _ _), omega arith, omega arith, omega arith)
+    (subst⁻¹ (λ (p : Option Plan). divider_number p ≤ 5) c.plan_pll-plan.ensures (number_small _ _ _), omega arith, omega arith, omega arith)
 
 pub returns : goal.returns
 returns c =
