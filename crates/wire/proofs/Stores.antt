@@ -2,12 +2,13 @@
 -- Assumes nothing.
 use Prim.Native.Nat.{ℕ, suc, ◌+◌, ◌-◌, ◌/◌, ◌%◌, ◌<◌, ◌≤◌}
 use mathlib.Core.Path.{◌≡◌, sym, ap, ◌∙◌}
-use mathlib.Core.List.{List, [], ◌∷◌, ◌++◌}
+use mathlib.Core.List.{List, [], ◌∷◌, ◌++◌, append_assoc}
 use native.Mathlib.Omega.{arith}
-use native.Mathlib.Numerals.{add-one}
 use native.Mathlib.Nat.{add-suc, suc-add, add-zero}
-use lib.ListN.{length, get_or, set, drop, drop_of_length-le}
-use lib.Seq.{sets, drop-cons}
+use lib.ListN.{length, set}
+use lib.Seq.{sets, drop-drop}
+use borrow.Rule.Slice.PartMut.{put_mid}
+use Rattle.std.proofs.lemmas.List.Edits.{sets-eq}
 use Rattle.wire.specs.Bytes.{le_bytes}
 
 pub sets_append : (l : List ℕ) (i : ℕ) (xs ys : List ℕ) → sets l i (xs ++ ys) ≡ sets (sets l i xs) (i + length xs) ys
@@ -25,13 +26,6 @@ put_turn s at i k n h =
     let next : at + (i + 1) ≡ suc (at + i) = omega arith in
     rw (left, next)
 
--- a turn of `copy`: the first of the elements that are left is stored
-pub copy_turn : (s : List ℕ) (at i : ℕ) (from : List ℕ) → i < length from
-    → sets (set s (at + i) (get_or from i 0)) (at + (i + 1)) (drop (i + 1) from) ≡ sets s (at + i) (drop i from)
-copy_turn s at i from h =
-    let next : at + (i + 1) ≡ suc (at + i) = omega arith in
-    rw (next, add-one, drop-cons from i 0 h)
-
 -- the loops' first and last states
 pub put_start : (s : List ℕ) (at k n : ℕ) → sets s (at + 0) (le_bytes (k - 0) n) ≡ sets s at (le_bytes k n)
 put_start s at k n =
@@ -45,10 +39,8 @@ put_end s at i k n h =
     let none : k - i ≡ 0 = omega arith in
     rw none
 
-pub copy_start : (s : List ℕ) (at : ℕ) (from : List ℕ) → sets s (at + 0) (drop 0 from) ≡ sets s at from
-copy_start s at from =
-    let here : at + 0 ≡ at = omega arith in
-    rw here
-
-pub copy_end : (s : List ℕ) (at i : ℕ) (from : List ℕ) → length from ≤ i → s ≡ sets s (at + i) (drop i from)
-copy_end s at i from h = rw (drop_of_length-le from h)
+-- a part of a list with another of its length in its place
+pub copy_put : (at : ℕ) (l from : List ℕ) → at + length from ≤ length l → put_mid at (at + length from - at) l from ≡ sets l at from
+copy_put at l from h =
+    let many : at + length from - at ≡ length from = omega arith in
+    rw (many, drop-drop, sets-eq from l at h, append_assoc)

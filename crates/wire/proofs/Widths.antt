@@ -4,7 +4,7 @@ use Prim.Native.Nat.{ℕ, zero, suc, ◌+◌, ◌-◌, ◌*◌, ◌/◌, ◌%◌
 use mathlib.Core.Path.{◌≡◌, refl, ap, ◌∙◌}
 use mathlib.Core.List.{List, [], ◌∷◌}
 use native.Mathlib.Omega.{arith}
-use native.Mathlib.Nat.{pow-succ', pow-le-pow_right}
+use native.Mathlib.Nat.{add_assoc, pow-succ', pow-le-pow_right}
 use lib.ListN.{length, get_or, take, drop, length-take, length-drop}
 use lib.Seq.{drop-cons, get_or-drop}
 use Rattle.wire.specs.Bytes.{le_value, le_bytes, Bytes}
@@ -63,10 +63,10 @@ get_below n b i k pos le h byte =
     let more : k - (i - 1) ≡ suc (k - i) = omega arith in
     rw (more, pow-succ') (omega arith)
 
--- which at most eight bytes keep within 64 bits
-pub get_fits : (n b i k : ℕ) → 0 < i → i ≤ k → k ≤ 8 → n < 256 ^ (k - i) → b < 256 → n * 256 + b < 2 ^ 64
-get_fits n b i k pos le most h byte =
-    let under : n * 256 + b < 256 ^ (k - (i - 1)) = get_below n b i k pos le h byte in
+-- which at most eight bytes keep within 64 bits, whatever the next byte is
+pub get_fits : (n i k : ℕ) → 0 < i → i ≤ k → k ≤ 8 → n < 256 ^ (k - i) → n * 256 + 255 < 2 ^ 64
+get_fits n i k pos le most h =
+    let under : n * 256 + 255 < 256 ^ (k - (i - 1)) = get_below n 255 i k pos le h (omega arith) in
     let top : 256 ^ (k - (i - 1)) ≤ 256 ^ 8 = pow-le-pow_right {n = 256} (omega arith) {i = k - (i - 1)} {j = 8} (omega arith) in
     omega arith
 
@@ -121,11 +121,10 @@ four_spelt k at s h =
     ∙ ap (λ l. get_or s at 0 ∷ get_or s (at + 1) 0 ∷ l) (spelt (suc k) (at + 2) (at + 3) s (omega arith) (omega arith))
     ∙ ap (λ l. get_or s at 0 ∷ get_or s (at + 1) 0 ∷ get_or s (at + 2) 0 ∷ l) (spelt k (at + 3) (at + 4) s (omega arith) (omega arith))
 
--- the number of eight bytes by those of its halves
-pub eight_halves : (at : ℕ) (s : List ℕ) → at + 8 ≤ length s
-    → le_value (take 4 (drop at s)) + 0x100000000 * le_value (take 4 (drop (at + 4) s)) ≡ le_value (take 8 (drop at s))
-unfolding le_value
-eight_halves at s h =
-    let low : le_value (take 4 (drop at s)) ≡ _ = ap le_value (four_spelt 0 at s (omega arith)) in
-    let all : le_value (take 8 (drop at s)) ≡ _ = ap le_value (four_spelt 4 at s (omega arith)) in
-    omega arith
+pub eight_spelt : (at : ℕ) (s : List ℕ) → at + 8 ≤ length s
+    → take 8 (drop at s)
+    ≡ get_or s at 0 ∷ get_or s (at + 1) 0 ∷ get_or s (at + 2) 0 ∷ get_or s (at + 3) 0
+    ∷ get_or s (at + 4) 0 ∷ get_or s (at + 5) 0 ∷ get_or s (at + 6) 0 ∷ get_or s (at + 7) 0 ∷ []
+eight_spelt at s h =
+    four_spelt 4 at s (omega arith)
+    ∙ ap (λ l. get_or s at 0 ∷ get_or s (at + 1) 0 ∷ get_or s (at + 2) 0 ∷ get_or s (at + 3) 0 ∷ l) (simp add_assoc at (four_spelt 0 (at + 4) s (omega arith)))

@@ -4,7 +4,7 @@
 
 #![tactic(auto)]
 
-ghost use Rattle.std.specs.Prelude.{◌≡◌, [], ◌∷◌, ◌+◌, ◌^◌, ◌≤◌, ◌<◌, length, take, drop};
+ghost use Rattle.std.specs.Prelude.{◌≡◌, ◌+◌, ◌^◌, ◌≤◌, ◌<◌, length, take, drop};
 ghost use Rattle.std.proofs.lemmas.List.Edits.{sets};
 ghost use Rattle.std.specs.Float.Ieee.{of_bits, to_bits};
 ghost use Rattle.std.specs.Float.{binary32};
@@ -12,48 +12,40 @@ ghost use Rattle.std.specs.Int.{w32};
 ghost use Rattle.std.proofs.Common.{to_z, of_z};
 ghost use Rattle.wire.specs.Bytes.{le_value, le_bytes};
 
-fn wide(x: u8) -> u64
-    ensures { (result ≡ x) × (result < 256) }
-{
-    x as u64
-}
-
 // The number that stands in k bytes from `at`, lowest first: read from the highest down.
 pub fn get(s: &[u8], at: usize, k: usize) -> u64
     requires { (k ≤ 8) × (at + k ≤ length s.now) }
     ensures { (result ≡ le_value (take k (drop at s.now))) × (result < 256 ^ k) }
 {
     let mut n: u64 = 0;
-    let mut i = k;
-    while 0 < i {
-        i -= 1;
-        let b = wide(s[at + i]);
-        n = n * 256 + b;
+    for i in (0..k).rev() {
+        n = n * 256 + (s[at + i] as u64);
     }
     n
 }
 
-// The number of four bytes, lowest first.
-fn word(a: u8, b: u8, c: u8, d: u8) -> u32
-    ensures { result ≡ le_value (a ∷ b ∷ c ∷ d ∷ []) }
-{
-    (a as u32) + 0x100 * (b as u32) + 0x1_0000 * (c as u32) + 0x100_0000 * (d as u32)
-}
-
-// The numbers of four and of eight bytes as one sum: the compiler makes one load of it, whatever the number is tested for.
-// The bytes of `get`'s loop it takes apart where they are tested.
+// The numbers of four and of eight bytes, each by one load. The bytes of `get`'s loop the compiler takes apart where they are tested.
 pub fn four(s: &[u8], at: usize) -> u32
     requires { at + 4 ≤ length s.now }
     ensures { result ≡ le_value (take 4 (drop at s.now)) }
 {
-    word(s[at], s[at + 1], s[at + 2], s[at + 3])
+    u32::from_le_bytes([s[at], s[at + 1], s[at + 2], s[at + 3]])
 }
 
 pub fn eight(s: &[u8], at: usize) -> u64
     requires { at + 8 ≤ length s.now }
     ensures { result ≡ le_value (take 8 (drop at s.now)) }
 {
-    (four(s, at) as u64) + 0x1_0000_0000 * (four(s, at + 4) as u64)
+    u64::from_le_bytes([
+        s[at],
+        s[at + 1],
+        s[at + 2],
+        s[at + 3],
+        s[at + 4],
+        s[at + 5],
+        s[at + 6],
+        s[at + 7],
+    ])
 }
 
 // The low k bytes of n, lowest first, from `at`.
@@ -62,11 +54,9 @@ pub fn put(s: &mut [u8], at: usize, n: u64, k: usize)
     ensures { s.new ≡ sets s.old at (le_bytes k n) }
 {
     let mut rest = n;
-    let mut i = 0;
-    while i < k {
+    for i in 0..k {
         s[at + i] = (rest % 256) as u8;
         rest = rest / 256;
-        i += 1;
     }
 }
 
@@ -75,31 +65,21 @@ pub fn copy(dst: &mut [u8], at: usize, src: &[u8])
     requires { at + length src.now ≤ length dst.old }
     ensures { dst.new ≡ sets dst.old at src.now }
 {
-    let mut i = 0;
-    while i < src.len() {
-        dst[at + i] = src[i];
-        i += 1;
-    }
+    dst[at..at + src.len()].copy_from_slice(src);
 }
 
 // A 32-bit signed number of its bits. The upper half counts down from -1.
 pub fn to_signed(x: u32) -> i32
     ensures { result ≡ to_z w32 x }
 {
-    if x < 0x8000_0000 {
-        return x as i32;
-    }
-    -1 - ((0xffff_ffff - x) as i32)
+    x.cast_signed()
 }
 
 // The bits of a 32-bit signed number.
 pub fn to_bits(x: i32) -> u32
     ensures { result ≡ of_z w32 x }
 {
-    if x < 0 {
-        return 0xffff_ffff - ((-1 - x) as u32);
-    }
-    x as u32
+    x.cast_unsigned()
 }
 
 // The binary32 of any bits. All NaN patterns are the one NaN, which `from_bits` is not asked for.

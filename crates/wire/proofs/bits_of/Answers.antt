@@ -1,7 +1,6 @@
 -- `wire::bits_of` meets its contract: what differs from itself is the NaN, and all else has its own bits.
 -- Assumes nothing.
 use Rattle.wire.proofs.Floats.{nan_bits_lem, no_nan}
-use borrow.Author.Rules.{rules}
 use Rattle.wire.proofs.bits_of.Goals as goal
 
 pub returns-then-x : goal.returns-then-x

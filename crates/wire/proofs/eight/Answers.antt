@@ -1,13 +1,12 @@
--- `wire::eight` meets its contract: the number by its two halves.
+-- `wire::eight` meets its contract: the eight bytes, one by one, are those of the part.
 -- Assumes nothing.
-use mathlib.Core.Path.{ap₂, ◌∙◌}
-use Prim.Native.Nat.{◌+◌, ◌*◌}
-use borrow.Author.Rules.{rules}
-use Rattle.wire.proofs.Widths.{eight_halves}
+use Rattle.std.proofs.Common.{arith, ap}
+use Rattle.wire.specs.Bytes.{le_value}
+use Rattle.wire.proofs.Widths.{eight_spelt}
 use Rattle.wire.proofs.eight.Goals as goal
 
 pub returns : goal.returns
+unfolding le_value
 returns c =
-    let a = c.args in
-    ap₂ (λ x y. x + 0x100000000 * y) c.four.ensures c.four-2.ensures
-    ∙ eight_halves a.at a.s.now (search rules)
+    let part = ap le_value (eight_spelt c.args.at c.args.s.now (omega arith)) in
+    omega (arith, c.from_le_bytes.ensures, part)

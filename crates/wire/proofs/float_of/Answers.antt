@@ -1,7 +1,6 @@
 -- `wire::float_of` meets its contract: a pattern above infinity's is the NaN, which 0.0 / 0.0 is too.
 -- Assumes nothing.
 use Rattle.wire.proofs.Floats.{nan_above, no_nan_above}
-use borrow.Author.Rules.{rules}
 use Rattle.wire.proofs.float_of.Goals as goal
 
 pub returns-then-bits-gt2139095040 : goal.returns-then-bits-gt2139095040

@@ -1,12 +1,9 @@
 -- `wire::get` meets its contract. The loop's invariant: n is the value of the bytes from i on, and below 256 to their number.
 -- Assumes nothing.
-use Prim.Native.Nat.{◌≤◌, ◌<◌, ◌+◌, ◌*◌, ◌-◌, ◌^◌}
-use mathlib.Core.Path.{◌≡◌, ap₂, ◌∙◌}
-use native.Mathlib.Omega.{arith}
-use borrow.Author.Rules.{rules}
+use Prim.Native.Nat.{◌≤◌, ◌<◌, ◌+◌, ◌-◌, ◌^◌}
+use mathlib.Core.Path.{◌≡◌}
 use lib.ListN.{take, drop}
 use Rattle.wire.specs.Bytes.{le_value}
-use Rattle.wire.proofs.Widths.{get_turn, get_below, get_fits, get_start, get_end}
 use Rattle.wire.proofs.get.Given as goal
 
 abbrev pub invariant-loop-i : goal.invariant-loop-i

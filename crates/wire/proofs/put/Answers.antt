@@ -1,17 +1,10 @@
 -- `wire::put` meets its contract. The loop's invariant: storing the bytes that are left gives what storing all of them gave.
 -- Assumes nothing.
-use Prim.Native.Nat.{◌≤◌, ◌+◌, ◌-◌}
-use mathlib.Core.Path.{◌≡◌, refl, ◌∙◌}
+use mathlib.Core.Path.{refl, ◌∙◌}
 use native.Mathlib.Omega.{arith}
 use borrow.Author.Rules.{rules}
-use lib.ListN.{length}
-use lib.Seq.{sets}
-use Rattle.wire.specs.Bytes.{le_bytes}
 use Rattle.wire.proofs.Stores.{put_turn, put_start, put_end}
 use Rattle.wire.proofs.put.Goals as goal
-
-pub loop-i-init : goal.loop-i-init
-loop-i-init c = (search rules, (refl, put_start _ _ _ _))
 
 pub loop-i-preserved : goal.loop-i-preserved
 loop-i-preserved c = (omega arith, (search rules, put_turn _ _ _ _ _ (search rules) ∙ c.loop-i.invariant.1.1))

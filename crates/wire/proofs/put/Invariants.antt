@@ -1,13 +1,10 @@
 -- `wire::put` meets its contract. The loop's invariant: storing the bytes that are left gives what storing all of them gave.
 -- Assumes nothing.
 use Prim.Native.Nat.{◌≤◌, ◌+◌, ◌-◌}
-use mathlib.Core.Path.{◌≡◌, refl, ◌∙◌}
-use native.Mathlib.Omega.{arith}
-use borrow.Author.Rules.{rules}
+use mathlib.Core.Path.{◌≡◌}
 use lib.ListN.{length}
 use lib.Seq.{sets}
 use Rattle.wire.specs.Bytes.{le_bytes}
-use Rattle.wire.proofs.Stores.{put_turn, put_start, put_end}
 use Rattle.wire.proofs.put.Given as goal
 
 abbrev pub invariant-loop-i : goal.invariant-loop-i
