@@ -12,7 +12,6 @@ use Rattle.board.specs.declared.Plan.{Plan}
 use Rattle.device.specs.Accesses.{access_step}
 use Rattle.device.specs.Gpio.{bit_steps, output_steps}
 use Rattle.pll.specs.declared.Kind.TheVariants.{R828D}
-use Rattle.std.specs.Prelude.{None}
 use Rattle.tuning.specs.Program.{inner_steps}
 use Rattle.boards.specs.Hops.{hop_steps}
 

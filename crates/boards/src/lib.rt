@@ -121,16 +121,14 @@ pub fn hop_refusal(p: Planned, ifreq: u64) -> u8
     if p.refusal != 0 {
         return p.refusal;
     }
-    let plan = p.plan;
-    r82xx::hz_refusal(plan.hz, ifreq)
+    r82xx::hz_refusal(p.plan.hz, ifreq)
 }
 
 // The driver's record after it.
 fn heard(d: Driver, hz: u64, answer: Answer) -> Driver
     ensures { result ≡ heard_by d hz answer }
 {
-    let mut next = d;
-    next.frequency = hz;
+    let next = Driver { frequency: hz, ..d };
     match answer {
         Answer::Done(_) => next,
         Answer::Refused(_) => d,
@@ -155,26 +153,23 @@ fn hop(
         (trace outcomes.now (hop_steps tuner.kind tuner.chip.address plan by replies.now) tuner.chip))
         × (lock_tries result.tries result.locked ≡ lock_tries_in (trace outcomes.now (hop_steps tuner.kind tuner.chip.address plan by replies.now) tuner.chip).log) }
 {
-    let kind = tuner.kind;
-    let chip_state = tuner.chip;
     let start = Flow {
-        chip: chip_state,
+        chip: tuner.chip,
         log: chip::START,
     };
-    let f = hop_steps(start, kind, plan, by, outcomes, replies, room);
+    let f = hop_steps(start, tuner.kind, plan, by, outcomes, replies, room);
     let answered = chip::finish(f, tuning::whole_answer(by, hz), room);
-    let left = f.chip;
-    let log = f.log;
-    let lock = log.lock;
-    let mut next = tuner;
-    next.chip = left;
-    next.notch = plan.notch;
-    next.lock = tuning::lock_after(lock, tuner.lock);
+    let lock = f.log.lock;
     Hopped {
-        tuner: next,
+        tuner: Tuner {
+            chip: f.chip,
+            notch: plan.notch,
+            lock: tuning::lock_after(lock, tuner.lock),
+            ..tuner
+        },
         driver: heard(driver, hz, answered),
         answer: answered,
-        count: log.count,
+        count: f.log.count,
         tries: lock.tries,
         locked: lock.locked,
     }
@@ -217,8 +212,7 @@ pub fn tune_planned(
         };
     }
     let plan = planned.plan;
-    let kind = tuner.kind;
-    let by = pll::plan_pll(kind, plan.hz + tuner.ifreq, tuner.corrected);
+    let by = pll::plan_pll(tuner.kind, plan.hz + tuner.ifreq, tuner.corrected);
     hop(driver, tuner, plan, by, hz, outcomes, replies, room)
 }
 

@@ -15,32 +15,24 @@ use refusals::Answer;
 fn less_both(lo: u64, ifreq: u64, up: u64) -> Answer
     ensures { result ≡ less lo (ifreq + up) }
 {
-    if lo < ifreq {
+    let Some(hz) = lo.checked_sub(ifreq).and_then(|rest| rest.checked_sub(up)) else {
         return Answer::Refused(refusals::FREQUENCY);
-    }
-    let rest = lo - ifreq;
-    if rest < up {
-        return Answer::Refused(refusals::FREQUENCY);
-    }
-    Answer::Done(rest - up)
+    };
+    Answer::Done(hz)
 }
 
 // Of one that shifts downward: the shift is put on again, so that an IF above the oscillator is no end by itself.
 fn less_one(lo: u64, ifreq: u64, down: u64) -> Answer
     ensures { result ≡ less (lo + down) ifreq }
 {
-    if lo < ifreq {
-        let lack = ifreq - lo;
-        if down < lack {
-            return Answer::Refused(refusals::FREQUENCY);
-        }
-        return Answer::Done(down - lack);
-    }
-    let rest = lo - ifreq;
-    if 0xffff_ffff_ffff_ffff - rest < down {
+    let told = match lo.checked_sub(ifreq) {
+        Some(rest) => rest.checked_add(down),
+        None => down.checked_sub(ifreq - lo),
+    };
+    let Some(hz) = told else {
         return Answer::Refused(refusals::FREQUENCY);
-    }
-    Answer::Done(rest + down)
+    };
+    Answer::Done(hz)
 }
 
 // The shift is what the band's frequency for the tuner is above the driver's.
@@ -48,9 +40,10 @@ fn unshifted(lo: u64, ifreq: u64, tuned: u64, hz: u64) -> Answer
     ensures { result ≡ less (lo + hz) (ifreq + tuned) }
 {
     if hz <= tuned {
-        return less_both(lo, ifreq, tuned - hz);
+        less_both(lo, ifreq, tuned - hz)
+    } else {
+        less_one(lo, ifreq, hz - tuned)
     }
-    less_one(lo, ifreq, hz - tuned)
 }
 
 fn at_plan(lo: u64, planned: Planned, ifreq: u64, hz: u64) -> Answer
@@ -59,8 +52,7 @@ fn at_plan(lo: u64, planned: Planned, ifreq: u64, hz: u64) -> Answer
     if planned.refusal != 0 {
         return Answer::Refused(planned.refusal);
     }
-    let plan = planned.plan;
-    unshifted(lo, ifreq, plan.hz, hz)
+    unshifted(lo, ifreq, planned.plan.hz, hz)
 }
 
 // A malformed table, then what the oscillator is refused by, then a frequency without a plan.

@@ -1,34 +1,27 @@
--- Bytes written to registers from one upward: one turn of the loop. Assumes nothing.
-use Prim.Native.Nat.{ℕ, suc, ◌+◌, ◌≤◌, ◌<◌}
-use mathlib.Core.Path.{◌≡◌, ap}
-use mathlib.Core.List.{List}
-use native.Mathlib.Omega.{arith}
-use native.Mathlib.Numerals.{add-one}
-use lib.ListN.{length, get_or, take, drop, drop_of_length-le, length-take}
-use lib.Seq.{drop-cons, get_or-take, length-take-le}
+-- Bytes written to registers from one upward: those before an index, and one more. Assumes nothing.
+use Rattle.std.proofs.Common.{◌≡◌, ℕ, suc, ◌+◌, ◌<◌, List, [], ◌∷◌, ◌++◌, length, get_or, take, ap, arith, length-take-le}
+use Rattle.std.proofs.lemmas.List.{take_more}
 use Rattle.transcript.specs.declared.Entry.{Entry}
-use Rattle.chip.specs.Steps.{Line, run, step}
+use Rattle.chip.specs.Steps.{Line, Step, run, step}
 use Rattle.chip.specs.Steps.Step.{Plain}
+use Rattle.chip.proofs.Laws.{one_last, then}
 use Rattle.device.specs.Accesses.{demod_write}
 use Rattle.demod.specs.Programs.{upward}
 
-module _ {L : Type 0} (put : L → ℕ → Entry → L) (os : List ℕ) where
-  pub turn : (register : ℕ) (l : List ℕ) (n i : ℕ) (w : Line L) → i < n → n ≤ length l
-      → run put os (upward (register + (i + 1)) (drop (i + 1) (take n l))) (step put os (Plain (demod_write 1 (register + i) (get_or l i 0))) w)
-      ≡ run put os (upward (register + i) (drop i (take n l))) w
-  unfolding run upward
-  turn register l n i w h k =
-      let there : i < length (take n l) = rw (length-take-le n l k) h in
-      let next : register + (i + 1) ≡ suc (register + i) = omega arith in
-      rw (next, add-one, drop-cons (take n l) i 0 there, get_or-take n l i 0 h)
+-- one byte more goes to the register behind those of the others
+upward_more : (register : ℕ) (bs : List ℕ) (b at : ℕ) → at ≡ register + length bs
+    → upward register (bs ++ (b ∷ [])) ≡ upward register bs ++ (Plain (demod_write 1 at b) ∷ [])
+unfolding upward
+upward_more register [] b at h =
+    let here : register ≡ at = omega arith in
+    ap (λ (r : ℕ). Plain (demod_write 1 r b) ∷ []) here
+upward_more register (a ∷ bs) b at h =
+    ap (λ (ss : List Step). Plain (demod_write 1 register a) ∷ ss) (upward_more (suc register) bs b at (omega arith))
 
-  pub end : (register : ℕ) (l : List ℕ) (n i : ℕ) (w : Line L) → n ≤ i → w ≡ run put os (upward (register + i) (drop i (take n l))) w
-  unfolding run upward
-  end register l n i w h =
-      let over : length (take n l) ≤ i = rw length-take (omega arith) in
-      rw (drop_of_length-le (take n l) over)
-
-  pub begin : (register : ℕ) (l : List ℕ) (n : ℕ) (w : Line L) → run put os (upward (register + 0) (drop 0 (take n l))) w ≡ run put os (upward register (take n l)) w
-  begin register l n w =
-      let none : register + 0 ≡ register = omega arith in
-      ap (λ (r : ℕ). run put os (upward r (take n l)) w) none
+pub further : {L : Type 0} (put : L → ℕ → Entry → L) (os : List ℕ) (register : ℕ) (bs : List ℕ) (i : ℕ) (w x v : Line L) → i < length bs
+    → x ≡ run put os (upward register (take i bs)) w → v ≡ step put os (Plain (demod_write 1 (register + i) (get_or bs i 0))) x
+    → v ≡ run put os (upward register (take (i + 1) bs)) w
+further put os register bs i w x v h e f =
+    let before : register + i ≡ register + length (take i bs) = omega (arith, length-take-le i bs) in
+    rw (take_more bs i 0 h, upward_more register (take i bs) (get_or bs i 0) (register + i) before)
+    (then put os (upward register (take i bs)) (Plain (demod_write 1 (register + i) (get_or bs i 0)) ∷ []) w x v e (one_last put os _ x v f))

@@ -4,18 +4,18 @@
 
 #![tactic(auto)]
 
-ghost use Rattle.std.specs.Prelude.{◌++◌, ◌≡◌, ◌+◌, ◌*◌, ◌≤◌, ◌<◌, length, replicate, take};
+ghost use Rattle.std.specs.Prelude.{◌++◌, ◌≡◌, ◌+◌, ◌*◌, ◌≤◌, ◌<◌, length, replicate};
 ghost use Rattle.chip.specs.declared.Chip.{Chip};
 ghost use Rattle.chip.specs.InCode.{in_room, on_log, on_room};
 ghost use Rattle.chip.specs.Steps.{closing_owed, run};
-ghost use Rattle.device.specs.InCode.{ten, back};
+ghost use Rattle.device.specs.InCode.{back};
 ghost use Rattle.device.specs.Calls.{free_result};
 ghost use Rattle.demod.specs.Programs.{ddc_byte, ddc_steps, fir_steps, if_rows, if_steps, init_steps, power_steps, rate_rows, rate_steps, reset_steps, upward};
 ghost use Rattle.demod.specs.Calls.{demod_course};
 ghost use Rattle.demod.specs.Calls.Order.{Baseband, LowIf, ZeroIf, Reset, Direct, Start, Stop, IfXtal, RateXtal};
 
 use chip::{Flow, Log};
-use device::{Access, Handed, NO_CHIP, NONE};
+use device::{Access, Handed, NO_CHIP};
 use refusals::Answer;
 use registers::demod::{
     P0_PAGE, P1_DDC_SYNC, P1_DDC_SYNC_INVERT, P1_DDC_SYNC_NORMAL, P1_IF_FREQ_H, P1_IF_FREQ_L,
@@ -27,7 +27,7 @@ use transcript::{BLOCK, BLOCK16, DEMOD, DEMOD16, WAIT};
 pub const DEFAULT_SAMPLE_RATE: u32 = 2_048_000;
 
 // `reset_demod`'s accesses.
-const RESET: [Access; 10] = [
+const RESET: [Access; 2] = [
     Access {
         kind: DEMOD,
         target: P1_PAGE,
@@ -40,18 +40,10 @@ const RESET: [Access; 10] = [
         address: P1_SOFT_RESET,
         value: P1_SOFT_RESET_OFF as u16,
     },
-    NONE,
-    NONE,
-    NONE,
-    NONE,
-    NONE,
-    NONE,
-    NONE,
-    NONE,
 ];
 
 // Low-IF mode, and the in-phase ADC input on.
-const LOW_IF: [Access; 10] = [
+const LOW_IF: [Access; 2] = [
     Access {
         kind: DEMOD,
         target: P1_PAGE,
@@ -64,18 +56,10 @@ const LOW_IF: [Access; 10] = [
         address: 0x08,
         value: 0x4d,
     },
-    NONE,
-    NONE,
-    NONE,
-    NONE,
-    NONE,
-    NONE,
-    NONE,
-    NONE,
 ];
 
 // Zero-IF mode, and the in-phase ADC input off.
-const ZERO_IF: [Access; 10] = [
+const ZERO_IF: [Access; 2] = [
     Access {
         kind: DEMOD,
         target: P1_PAGE,
@@ -88,17 +72,9 @@ const ZERO_IF: [Access; 10] = [
         address: 0x08,
         value: 0x4c,
     },
-    NONE,
-    NONE,
-    NONE,
-    NONE,
-    NONE,
-    NONE,
-    NONE,
-    NONE,
 ];
 
-const START: [Access; 10] = [
+const START: [Access; 2] = [
     Access {
         kind: BLOCK16,
         target: block::USB,
@@ -111,17 +87,9 @@ const START: [Access; 10] = [
         address: usb::EPA_CTL,
         value: 0x0000,
     },
-    NONE,
-    NONE,
-    NONE,
-    NONE,
-    NONE,
-    NONE,
-    NONE,
-    NONE,
 ];
 
-const STOP: [Access; 10] = [
+const STOP: [Access; 2] = [
     Access {
         kind: BLOCK16,
         target: block::USB,
@@ -134,14 +102,6 @@ const STOP: [Access; 10] = [
         address: sys::DEMOD_CTL,
         value: sys::DEMOD_CTL_POWER_OFF as u16,
     },
-    NONE,
-    NONE,
-    NONE,
-    NONE,
-    NONE,
-    NONE,
-    NONE,
-    NONE,
 ];
 
 // `init_baseband` up to the zeros of 0x16: USB, system, the wait of 100 ms, the reset, DDC off.
@@ -209,7 +169,7 @@ const POWER: [Access; 10] = [
 ];
 
 // `init_baseband` after the FIR.
-const MODE: [Access; 10] = [
+const MODE: [Access; 9] = [
     Access {
         kind: DEMOD,
         target: P0_PAGE,
@@ -264,7 +224,6 @@ const MODE: [Access; 10] = [
         address: 0x0d,
         value: 0x83,
     },
-    NONE,
 ];
 
 pub fn reset_steps(f: Flow, outcomes: &[u8], room: &mut [u8]) -> Flow
@@ -272,37 +231,37 @@ pub fn reset_steps(f: Flow, outcomes: &[u8], room: &mut [u8]) -> Flow
     ensures room_after { on_room result room.new ≡ run in_room outcomes.now reset_steps (on_room f room.old) }
     ensures bounds { result.log.count + closing_owed result.log.opened ≤ f.log.count + 2 + closing_owed f.log.opened }
 {
-    device::access_all(f, RESET, 2, outcomes, room)
+    device::access_all(f, &RESET, outcomes, room)
 }
 
 pub fn reset_demod(outcomes: &[u8], room: &mut [u8]) -> Handed
     ensures { back result room.new ≡ free_result (demod_course Reset) outcomes.now room.old }
 {
-    device::perform(RESET, 2, 0, outcomes, 0, room)
+    device::perform(&RESET, 0, outcomes, 0, room)
 }
 
 pub fn set_tuner_low_if(outcomes: &[u8], room: &mut [u8]) -> Handed
     ensures { back result room.new ≡ free_result (demod_course LowIf) outcomes.now room.old }
 {
-    device::perform(LOW_IF, 2, 0, outcomes, 0, room)
+    device::perform(&LOW_IF, 0, outcomes, 0, room)
 }
 
 pub fn set_tuner_zero_if(outcomes: &[u8], room: &mut [u8]) -> Handed
     ensures { back result room.new ≡ free_result (demod_course ZeroIf) outcomes.now room.old }
 {
-    device::perform(ZERO_IF, 2, 0, outcomes, 0, room)
+    device::perform(&ZERO_IF, 0, outcomes, 0, room)
 }
 
 pub fn start_streaming(outcomes: &[u8], room: &mut [u8]) -> Handed
     ensures { back result room.new ≡ free_result (demod_course Start) outcomes.now room.old }
 {
-    device::perform(START, 2, 0, outcomes, 0, room)
+    device::perform(&START, 0, outcomes, 0, room)
 }
 
 pub fn stop_streaming(outcomes: &[u8], room: &mut [u8]) -> Handed
     ensures { back result room.new ≡ free_result (demod_course Stop) outcomes.now room.old }
 {
-    device::perform(STOP, 2, 0, outcomes, 0, room)
+    device::perform(&STOP, 0, outcomes, 0, room)
 }
 
 pub fn write_reg_direct(
@@ -314,14 +273,13 @@ pub fn write_reg_direct(
 ) -> Handed
     ensures { back result room.new ≡ free_result (demod_course (Direct page register value)) outcomes.now room.old }
 {
-    let mut rows = [NONE; 10];
-    rows[0] = Access {
+    let rows = [Access {
         kind: DEMOD,
         target: page,
         address: register,
         value: value as u16,
-    };
-    device::perform(rows, 1, 0, outcomes, 0, room)
+    }];
+    device::perform(&rows, 0, outcomes, 0, room)
 }
 
 fn ddc_byte(inverted: bool) -> u8
@@ -340,14 +298,13 @@ pub fn ddc(f: Flow, inverted: bool, outcomes: &[u8], room: &mut [u8]) -> Flow
     ensures room_after { on_room result room.new ≡ run in_room outcomes.now (ddc_steps inverted) (on_room f room.old) }
     ensures bounds { result.log.count + closing_owed result.log.opened ≤ f.log.count + 1 + closing_owed f.log.opened }
 {
-    let byte = ddc_byte(inverted);
     device::one_access(
         f,
         Access {
             kind: DEMOD,
             target: P1_PAGE,
             address: P1_DDC_SYNC,
-            value: byte as u16,
+            value: ddc_byte(inverted) as u16,
         },
         outcomes,
         room,
@@ -355,31 +312,31 @@ pub fn ddc(f: Flow, inverted: bool, outcomes: &[u8], room: &mut [u8]) -> Flow
 }
 
 // 22 bits, high first.
-fn if_rows(hz: u32, xtal: u32) -> [Access; 10]
+fn if_rows(hz: u32, xtal: u32) -> [Access; 3]
     requires { 0 < xtal }
-    ensures { result ≡ ten (if_rows hz xtal) }
+    ensures { result ≡ if_rows hz xtal }
 {
     let value = registers::if_value(hz, xtal);
-    let mut rows = [NONE; 10];
-    rows[0] = Access {
-        kind: DEMOD,
-        target: P1_PAGE,
-        address: P1_IF_FREQ_H,
-        value: (value >> 16) as u16,
-    };
-    rows[1] = Access {
-        kind: DEMOD,
-        target: P1_PAGE,
-        address: P1_IF_FREQ_M,
-        value: ((value >> 8) % 256) as u16,
-    };
-    rows[2] = Access {
-        kind: DEMOD,
-        target: P1_PAGE,
-        address: P1_IF_FREQ_L,
-        value: (value % 256) as u16,
-    };
-    rows
+    [
+        Access {
+            kind: DEMOD,
+            target: P1_PAGE,
+            address: P1_IF_FREQ_H,
+            value: (value >> 16) as u16,
+        },
+        Access {
+            kind: DEMOD,
+            target: P1_PAGE,
+            address: P1_IF_FREQ_M,
+            value: ((value >> 8) % 256) as u16,
+        },
+        Access {
+            kind: DEMOD,
+            target: P1_PAGE,
+            address: P1_IF_FREQ_L,
+            value: (value % 256) as u16,
+        },
+    ]
 }
 
 pub fn if_steps(f: Flow, hz: u32, xtal: u32, outcomes: &[u8], room: &mut [u8]) -> Flow
@@ -387,8 +344,7 @@ pub fn if_steps(f: Flow, hz: u32, xtal: u32, outcomes: &[u8], room: &mut [u8]) -
     ensures room_after { on_room result room.new ≡ run in_room outcomes.now (if_steps hz xtal) (on_room f room.old) }
     ensures bounds { result.log.count + closing_owed result.log.opened ≤ f.log.count + 3 + closing_owed f.log.opened }
 {
-    let rows = if_rows(hz, xtal);
-    device::access_all(f, rows, 3, outcomes, room)
+    device::access_all(f, &if_rows(hz, xtal), outcomes, room)
 }
 
 pub fn set_if_freq_xtal(hz: u32, xtal: u32, outcomes: &[u8], room: &mut [u8]) -> Handed
@@ -397,43 +353,41 @@ pub fn set_if_freq_xtal(hz: u32, xtal: u32, outcomes: &[u8], room: &mut [u8]) ->
     if xtal == 0 {
         return device::refused(refusals::CORRECTION);
     }
-    let rows = if_rows(hz, xtal);
-    device::perform(rows, 3, 0, outcomes, 0, room)
+    device::perform(&if_rows(hz, xtal), 0, outcomes, 0, room)
 }
 
 // The ratio's high and low 16 bits, and two zeros.
-fn rate_rows(rate: u32, xtal: u32) -> [Access; 10]
+fn rate_rows(rate: u32, xtal: u32) -> [Access; 4]
     requires { 0 < rate }
-    ensures { result ≡ ten (rate_rows rate xtal) }
+    ensures { result ≡ rate_rows rate xtal }
 {
-    let ratio = registers::ratio(rate, xtal);
-    let sent = registers::sent(ratio);
-    let mut rows = [NONE; 10];
-    rows[0] = Access {
-        kind: DEMOD16,
-        target: P1_PAGE,
-        address: 0x9f,
-        value: (sent >> 16) as u16,
-    };
-    rows[1] = Access {
-        kind: DEMOD16,
-        target: P1_PAGE,
-        address: 0xa1,
-        value: (sent % 65536) as u16,
-    };
-    rows[2] = Access {
-        kind: DEMOD,
-        target: P1_PAGE,
-        address: 0x3f,
-        value: 0x00,
-    };
-    rows[3] = Access {
-        kind: DEMOD,
-        target: P1_PAGE,
-        address: 0x3e,
-        value: 0x00,
-    };
-    rows
+    let sent = registers::sent(registers::ratio(rate, xtal));
+    [
+        Access {
+            kind: DEMOD16,
+            target: P1_PAGE,
+            address: 0x9f,
+            value: (sent >> 16) as u16,
+        },
+        Access {
+            kind: DEMOD16,
+            target: P1_PAGE,
+            address: 0xa1,
+            value: (sent % 65536) as u16,
+        },
+        Access {
+            kind: DEMOD,
+            target: P1_PAGE,
+            address: 0x3f,
+            value: 0x00,
+        },
+        Access {
+            kind: DEMOD,
+            target: P1_PAGE,
+            address: 0x3e,
+            value: 0x00,
+        },
+    ]
 }
 
 pub fn rate_steps(f: Flow, rate: u32, xtal: u32, outcomes: &[u8], room: &mut [u8]) -> Flow
@@ -441,8 +395,7 @@ pub fn rate_steps(f: Flow, rate: u32, xtal: u32, outcomes: &[u8], room: &mut [u8
     ensures room_after { on_room result room.new ≡ run in_room outcomes.now (rate_steps rate xtal) (on_room f room.old) }
     ensures bounds { result.log.count + closing_owed result.log.opened ≤ f.log.count + 4 + closing_owed f.log.opened }
 {
-    let rows = rate_rows(rate, xtal);
-    device::access_all(f, rows, 4, outcomes, room)
+    device::access_all(f, &rate_rows(rate, xtal), outcomes, room)
 }
 
 pub fn set_sample_rate_xtal(rate: u32, xtal: u32, outcomes: &[u8], room: &mut [u8]) -> Handed
@@ -452,62 +405,39 @@ pub fn set_sample_rate_xtal(rate: u32, xtal: u32, outcomes: &[u8], room: &mut [u
     if number != 0 {
         return device::refused(number);
     }
-    let rows = rate_rows(rate, xtal);
-    device::perform(rows, 4, 0, outcomes, 0, room)
+    device::perform(&rate_rows(rate, xtal), 0, outcomes, 0, room)
 }
 
-// The first n bytes, to the registers of page 1 from one upward.
-fn log_upward(
-    l: Log,
-    register: u16,
-    bytes: [u8; 20],
-    n: usize,
-    outcomes: &[u8],
-    room: &mut [u8],
-) -> Log
-    requires { (n ≤ 20) × (register ≤ 255) × (l.count + n + closing_owed l.opened ≤ length outcomes.now) × (16 * (l.count + n + closing_owed l.opened) ≤ length room.old) }
+// The bytes, to the registers of page 1 from one upward.
+fn log_upward(l: Log, register: u16, bytes: &[u8], outcomes: &[u8], room: &mut [u8]) -> Log
+    requires { (length bytes.now ≤ 20) × (register ≤ 255)
+        × (l.count + length bytes.now + closing_owed l.opened ≤ length outcomes.now) × (16 * (l.count + length bytes.now + closing_owed l.opened) ≤ length room.old) }
     ensures room_after { (chip : Chip) → on_log chip result room.new
-        ≡ run in_room outcomes.now (upward register (take n bytes)) (on_log chip l room.old) }
-    ensures bounds { result.count + closing_owed result.opened ≤ l.count + n + closing_owed l.opened }
+        ≡ run in_room outcomes.now (upward register bytes.now) (on_log chip l room.old) }
+    ensures bounds { result.count + closing_owed result.opened ≤ l.count + length bytes.now + closing_owed l.opened }
 {
     let mut l = l;
-    let mut i = 0;
-    while i < n {
-        let at = register + i as u16;
-        let byte = bytes[i];
-        l = device::log_access(
-            l,
-            Access {
-                kind: DEMOD,
-                target: P1_PAGE,
-                address: at,
-                value: byte as u16,
-            },
-            outcomes,
-            room,
-        );
-        i += 1;
+    for (i, &byte) in bytes.iter().enumerate() {
+        let a = Access {
+            kind: DEMOD,
+            target: P1_PAGE,
+            address: register + i as u16,
+            value: byte as u16,
+        };
+        l = device::log_access(l, a, outcomes, room);
     }
     l
 }
 
-fn write_upward(
-    f: Flow,
-    register: u16,
-    bytes: [u8; 20],
-    n: usize,
-    outcomes: &[u8],
-    room: &mut [u8],
-) -> Flow
-    requires { (n ≤ 20) × (register ≤ 255) × (f.log.count + n + closing_owed f.log.opened ≤ length outcomes.now) × (16 * (f.log.count + n + closing_owed f.log.opened) ≤ length room.old) }
-    ensures room_after { on_room result room.new ≡ run in_room outcomes.now (upward register (take n bytes)) (on_room f room.old) }
-    ensures bounds { result.log.count + closing_owed result.log.opened ≤ f.log.count + n + closing_owed f.log.opened }
+fn write_upward(f: Flow, register: u16, bytes: &[u8], outcomes: &[u8], room: &mut [u8]) -> Flow
+    requires { (length bytes.now ≤ 20) × (register ≤ 255)
+        × (f.log.count + length bytes.now + closing_owed f.log.opened ≤ length outcomes.now) × (16 * (f.log.count + length bytes.now + closing_owed f.log.opened) ≤ length room.old) }
+    ensures room_after { on_room result room.new ≡ run in_room outcomes.now (upward register bytes.now) (on_room f room.old) }
+    ensures bounds { result.log.count + closing_owed result.log.opened ≤ f.log.count + length bytes.now + closing_owed f.log.opened }
 {
-    let chip_state = f.chip;
-    let log = log_upward(f.log, register, bytes, n, outcomes, room);
     Flow {
-        chip: chip_state,
-        log: log,
+        chip: f.chip,
+        log: log_upward(f.log, register, bytes, outcomes, room),
     }
 }
 
@@ -516,9 +446,8 @@ fn power_steps(f: Flow, outcomes: &[u8], room: &mut [u8]) -> Flow
     ensures room_after { on_room result room.new ≡ run in_room outcomes.now (power_steps ++ upward 0x16 (replicate 6 0)) (on_room f room.old) }
     ensures bounds { result.log.count + closing_owed result.log.opened ≤ f.log.count + 16 + closing_owed f.log.opened }
 {
-    let zeros = [0u8; 20];
-    let on = device::access_all(f, POWER, 10, outcomes, room);
-    write_upward(on, 0x16, zeros, 6, outcomes, room)
+    let on = device::access_all(f, &POWER, outcomes, room);
+    write_upward(on, 0x16, &[0; 6], outcomes, room)
 }
 
 fn set_fir(f: Flow, outcomes: &[u8], room: &mut [u8]) -> Flow
@@ -526,8 +455,7 @@ fn set_fir(f: Flow, outcomes: &[u8], room: &mut [u8]) -> Flow
     ensures room_after { on_room result room.new ≡ run in_room outcomes.now fir_steps (on_room f room.old) }
     ensures bounds { result.log.count + closing_owed result.log.opened ≤ f.log.count + 20 + closing_owed f.log.opened }
 {
-    let bytes = fir::default_bytes();
-    write_upward(f, 0x1c, bytes, 20, outcomes, room)
+    write_upward(f, 0x1c, &fir::default_bytes(), outcomes, room)
 }
 
 fn init_steps(f: Flow, outcomes: &[u8], room: &mut [u8]) -> Flow
@@ -537,7 +465,7 @@ fn init_steps(f: Flow, outcomes: &[u8], room: &mut [u8]) -> Flow
 {
     let on = power_steps(f, outcomes, room);
     let filtered = set_fir(on, outcomes, room);
-    device::access_all(filtered, MODE, 9, outcomes, room)
+    device::access_all(filtered, &MODE, outcomes, room)
 }
 
 pub fn init_baseband(outcomes: &[u8], room: &mut [u8]) -> Handed
@@ -552,11 +480,9 @@ pub fn init_baseband(outcomes: &[u8], room: &mut [u8]) -> Handed
         log: chip::START,
     };
     let f = init_steps(start, outcomes, room);
-    let count = f.log.count;
-    let answer = chip::finish(f, Answer::Done(0), room);
     Handed {
-        answer: answer,
-        count: count,
+        answer: chip::finish(f, Answer::Done(0), room),
+        count: f.log.count,
     }
 }
 

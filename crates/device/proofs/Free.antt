@@ -86,3 +86,11 @@ pub argument_good : (argument n m : ℕ) (rs os : List ℕ) (xs ys : List Step) 
 unfolding free_result left_by
 argument_good argument n m rs os xs ys room v h same e =
     e ∙ ap (λ (ss : List Step). free_call (too_short n m (length room) (length os) (length rs)) os ss room) same ∙ rw h
+
+-- the same of a row whose steps are accesses, which `perform` counts
+pub accesses_good : (argument m : ℕ) (rs os : List ℕ) (rows wanted : List Access) (room : List ℕ) (v : Called (Unit {0})) → argument ≡ 0 → rows ≡ wanted
+    → v ≡ free_call (too_short (length rows) m (length room) (length os) (length rs)) os (map access_step rows) room
+    → v ≡ free_result (free argument (length wanted) m rs (map access_step wanted)) os room
+unfolding free_result left_by
+accesses_good argument m rs os rows wanted room v h same e =
+    e ∙ ap (λ (l : List Access). free_call (too_short (length l) m (length room) (length os) (length rs)) os (map access_step l) room) same ∙ rw h

@@ -4,14 +4,14 @@
 
 #![tactic(auto)]
 
-ghost use Rattle.std.specs.Prelude.{List, map, ◌≡◌, ℕ, ◌+◌, ◌*◌, ◌^◌, ◌≤◌, ◌<◌, length, get_or, take};
+ghost use Rattle.std.specs.Prelude.{List, map, ◌≡◌, ℕ, ◌+◌, ◌*◌, ◌^◌, ◌≤◌, ◌<◌, length, get_or};
 ghost use Rattle.chip.specs.declared.Chip.{Chip};
 ghost use Rattle.chip.specs.InCode.{in_room, on_log, on_room};
 ghost use Rattle.chip.specs.Steps.{closing_owed, step, run};
 ghost use Rattle.chip.specs.Calls.{called, too_short};
 ghost use Rattle.refusals.specs.declared.Answer.TheVariants.{Refused};
-ghost use Rattle.device.specs.Accesses.{access_entry, access_step};
-ghost use Rattle.device.specs.InCode.{ten, back};
+ghost use Rattle.device.specs.Accesses.{access, access_entry, access_step};
+ghost use Rattle.device.specs.InCode.{back};
 ghost use Rattle.device.specs.Calls.{free_call, free_result};
 ghost use Rattle.device.specs.Gpio.{bit_rows, bit_steps, changed_of, gpio_course, output_rows, output_steps, with_bit, without_bit};
 ghost use Rattle.device.specs.Gpio.Order.{Output, Bit};
@@ -31,14 +31,6 @@ pub struct Access {
     pub value: u16,
 }
 
-// What fills an array after the accesses of a call: of no kind, and never made.
-pub const NONE: Access = Access {
-    kind: 0,
-    target: 0,
-    address: 0,
-    value: 0,
-};
-
 // The chip of calls that touch no record.
 pub const NO_CHIP: Chip = Chip {
     address: 0,
@@ -57,27 +49,20 @@ pub struct Handed {
 fn entry(a: Access) -> Entry
     ensures { result ≡ access_entry a }
 {
-    let kind = a.kind;
     let high = (a.value / 256) as u8;
     let low = (a.value % 256) as u8;
-    if (kind == DEMOD16) | (kind == BLOCK16) {
-        return Entry {
-            kind: kind,
-            outcome: 0,
-            target: a.target,
-            n: 2,
-            address: a.address,
-            bytes: [high, low, 0, 0, 0, 0, 0, 0],
-        };
-    }
-    let n = if kind == WAIT { 0 } else { 1 };
+    let (n, bytes) = match a.kind {
+        DEMOD16 | BLOCK16 => (2, [high, low, 0, 0, 0, 0, 0, 0]),
+        WAIT => (0, [low, 0, 0, 0, 0, 0, 0, 0]),
+        _ => (1, [low, 0, 0, 0, 0, 0, 0, 0]),
+    };
     Entry {
-        kind: kind,
+        kind: a.kind,
         outcome: 0,
         target: a.target,
         n: n,
         address: a.address,
-        bytes: [low, 0, 0, 0, 0, 0, 0, 0],
+        bytes: bytes,
     }
 }
 
@@ -87,8 +72,7 @@ pub fn log_access(l: Log, a: Access, outcomes: &[u8], room: &mut [u8]) -> Log
         ≡ step in_room outcomes.now (access_step a) (on_log chip l room.old) }
     ensures bounds { result.count + closing_owed result.opened ≤ l.count + 1 + closing_owed l.opened }
 {
-    let e = entry(a);
-    chip::log_plain(l, e, outcomes, room)
+    chip::log_plain(l, entry(a), outcomes, room)
 }
 
 pub fn one_access(f: Flow, a: Access, outcomes: &[u8], room: &mut [u8]) -> Flow
@@ -96,41 +80,35 @@ pub fn one_access(f: Flow, a: Access, outcomes: &[u8], room: &mut [u8]) -> Flow
     ensures room_after { on_room result room.new ≡ step in_room outcomes.now (access_step a) (on_room f room.old) }
     ensures bounds { result.log.count + closing_owed result.log.opened ≤ f.log.count + 1 + closing_owed f.log.opened }
 {
-    let chip_state = f.chip;
-    let log = log_access(f.log, a, outcomes, room);
     Flow {
-        chip: chip_state,
-        log: log,
+        chip: f.chip,
+        log: log_access(f.log, a, outcomes, room),
     }
 }
 
-// The first n of a list of accesses; those after a failed one are not made.
-fn log_all(l: Log, rows: [Access; 10], n: usize, outcomes: &[u8], room: &mut [u8]) -> Log
-    requires { (n ≤ 10) × (l.count + n + closing_owed l.opened ≤ length outcomes.now) × (16 * (l.count + n + closing_owed l.opened) ≤ length room.old) }
+// The accesses one after the other; those after a failed one are not made.
+fn log_all(l: Log, rows: &[Access], outcomes: &[u8], room: &mut [u8]) -> Log
+    requires { (l.count + length rows.now + closing_owed l.opened ≤ length outcomes.now) × (16 * (l.count + length rows.now + closing_owed l.opened) ≤ length room.old) }
     ensures room_after { (chip : Chip) → on_log chip result room.new
-        ≡ run in_room outcomes.now (map access_step (take n rows)) (on_log chip l room.old) }
-    ensures bounds { result.count + closing_owed result.opened ≤ l.count + n + closing_owed l.opened }
+        ≡ run in_room outcomes.now (map access_step rows.now) (on_log chip l room.old) }
+    ensures bounds { result.count + closing_owed result.opened ≤ l.count + length rows.now + closing_owed l.opened }
 {
     let mut l = l;
-    let mut i = 0;
-    while i < n {
-        l = log_access(l, rows[i], outcomes, room);
-        i += 1;
+    for &a in rows {
+        l = log_access(l, a, outcomes, room);
     }
     l
 }
 
-pub fn access_all(f: Flow, rows: [Access; 10], n: usize, outcomes: &[u8], room: &mut [u8]) -> Flow
-    requires { (n ≤ 10) × (f.log.count + n + closing_owed f.log.opened ≤ length outcomes.now) × (16 * (f.log.count + n + closing_owed f.log.opened) ≤ length room.old) }
+pub fn access_all(f: Flow, rows: &[Access], outcomes: &[u8], room: &mut [u8]) -> Flow
+    requires { (f.log.count + length rows.now + closing_owed f.log.opened ≤ length outcomes.now) × (16 * (f.log.count + length rows.now + closing_owed f.log.opened) ≤ length room.old) }
     ensures room_after { on_room result room.new
-        ≡ run in_room outcomes.now (map access_step (take n rows)) (on_room f room.old) }
-    ensures bounds { result.log.count + closing_owed result.log.opened ≤ f.log.count + n + closing_owed f.log.opened }
+        ≡ run in_room outcomes.now (map access_step rows.now) (on_room f room.old) }
+    ensures bounds { result.log.count + closing_owed result.log.opened ≤ f.log.count + length rows.now + closing_owed f.log.opened }
 {
-    let chip_state = f.chip;
-    let log = log_all(f.log, rows, n, outcomes, room);
     Flow {
-        chip: chip_state,
-        log: log,
+        chip: f.chip,
+        log: log_all(f.log, rows, outcomes, room),
     }
 }
 
@@ -144,20 +122,19 @@ pub fn refused(number: u8) -> Handed
     }
 }
 
-// A whole call of n accesses and m replies that touches no record: 8, 9, 10, or its steps.
+// A whole call of these accesses and m replies that touches no record: 8, 9, 10, or its steps.
 pub fn perform(
-    rows: [Access; 10],
-    n: usize,
+    rows: &[Access],
     m: usize,
     outcomes: &[u8],
     replies: usize,
     room: &mut [u8],
 ) -> Handed
-    requires { n ≤ 10 }
+    requires { length rows.now ≤ 4096 }
     ensures { back result room.new
-        ≡ free_call (too_short n m (length room.old) (length outcomes.now) replies) outcomes.now (map access_step (take n rows)) room.old }
+        ≡ free_call (too_short (length rows.now) m (length room.old) (length outcomes.now) replies) outcomes.now (map access_step rows.now) room.old }
 {
-    let number = chip::too_short(n, m, room.len(), outcomes.len(), replies);
+    let number = chip::too_short(rows.len(), m, room.len(), outcomes.len(), replies);
     if number != 0 {
         return refused(number);
     }
@@ -165,12 +142,10 @@ pub fn perform(
         chip: NO_CHIP,
         log: START,
     };
-    let f = access_all(start, rows, n, outcomes, room);
-    let count = f.log.count;
-    let answer = chip::finish(f, Answer::Done(0), room);
+    let f = access_all(start, rows, outcomes, room);
     Handed {
-        answer: answer,
-        count: count,
+        answer: chip::finish(f, Answer::Done(0), room),
+        count: f.log.count,
     }
 }
 
@@ -178,10 +153,7 @@ pub fn perform(
 fn reply(replies: &[u8], i: usize) -> u8
     ensures { result ≡ get_or replies.now i 0 }
 {
-    if i < replies.len() {
-        return replies[i];
-    }
-    0
+    replies.get(i).copied().unwrap_or(0)
 }
 
 fn bit_of(gpio: u8) -> u8
@@ -195,51 +167,40 @@ fn with_bit(byte: u8, gpio: u8) -> u8
     requires { gpio < 8 }
     ensures { result ≡ with_bit byte gpio }
 {
-    let bit = bit_of(gpio);
-    byte | bit
+    byte | bit_of(gpio)
 }
 
 fn without_bit(byte: u8, gpio: u8) -> u8
     requires { gpio < 8 }
     ensures { result ≡ without_bit byte gpio }
 {
-    let bit = bit_of(gpio);
-    byte & !bit
+    byte & !bit_of(gpio)
+}
+
+// An access to a register of block SYS.
+fn system(kind: u8, address: u16, byte: u8) -> Access
+    ensures { result ≡ access kind 2 address byte }
+{
+    Access {
+        kind: kind,
+        target: block::SYS,
+        address: address,
+        value: byte as u16,
+    }
 }
 
 // `set_gpio_output`'s accesses; a and b are the bytes read.
-fn output_rows(gpio: u8, a: u8, b: u8) -> [Access; 10]
+fn output_rows(gpio: u8, a: u8, b: u8) -> [Access; 4]
     requires { gpio < 8 }
-    ensures { result ≡ ten (output_rows gpio a b) }
+    ensures { result ≡ output_rows gpio a b }
 {
-    let out = with_bit(a, gpio);
     let driven = without_bit(b, gpio);
-    let mut rows = [NONE; 10];
-    rows[0] = Access {
-        kind: READ,
-        target: block::SYS,
-        address: sys::GPOE,
-        value: a as u16,
-    };
-    rows[1] = Access {
-        kind: BLOCK,
-        target: block::SYS,
-        address: sys::GPOE,
-        value: out as u16,
-    };
-    rows[2] = Access {
-        kind: READ,
-        target: block::SYS,
-        address: sys::GPD,
-        value: b as u16,
-    };
-    rows[3] = Access {
-        kind: BLOCK,
-        target: block::SYS,
-        address: sys::GPD,
-        value: driven as u16,
-    };
-    rows
+    [
+        system(READ, sys::GPOE, a),
+        system(BLOCK, sys::GPOE, with_bit(a, gpio)),
+        system(READ, sys::GPD, b),
+        system(BLOCK, sys::GPD, driven),
+    ]
 }
 
 // The byte that `set_gpio_bit` writes back.
@@ -248,31 +209,21 @@ fn changed(gpio: u8, value: u8, a: u8) -> u8
     ensures { result ≡ changed_of gpio value a }
 {
     if value == 0 {
-        return without_bit(a, gpio);
+        without_bit(a, gpio)
+    } else {
+        with_bit(a, gpio)
     }
-    with_bit(a, gpio)
 }
 
 // `set_gpio_bit`'s accesses; a is the byte read.
-fn bit_rows(gpio: u8, value: u8, a: u8) -> [Access; 10]
+fn bit_rows(gpio: u8, value: u8, a: u8) -> [Access; 2]
     requires { gpio < 8 }
-    ensures { result ≡ ten (bit_rows gpio value a) }
+    ensures { result ≡ bit_rows gpio value a }
 {
-    let new = changed(gpio, value, a);
-    let mut rows = [NONE; 10];
-    rows[0] = Access {
-        kind: READ,
-        target: block::SYS,
-        address: sys::GPO,
-        value: a as u16,
-    };
-    rows[1] = Access {
-        kind: BLOCK,
-        target: block::SYS,
-        address: sys::GPO,
-        value: new as u16,
-    };
-    rows
+    [
+        system(READ, sys::GPO, a),
+        system(BLOCK, sys::GPO, changed(gpio, value, a)),
+    ]
 }
 
 // The steps of the two for a larger call. A failed read ends it, so the write after it never uses the zeros of a failed read.
@@ -281,8 +232,7 @@ pub fn gpio_output(f: Flow, gpio: u8, a: u8, b: u8, outcomes: &[u8], room: &mut 
     ensures room_after { on_room result room.new ≡ run in_room outcomes.now (output_steps gpio a b) (on_room f room.old) }
     ensures bounds { result.log.count + closing_owed result.log.opened ≤ f.log.count + 4 + closing_owed f.log.opened }
 {
-    let rows = output_rows(gpio, a, b);
-    access_all(f, rows, 4, outcomes, room)
+    access_all(f, &output_rows(gpio, a, b), outcomes, room)
 }
 
 pub fn gpio_bit(f: Flow, gpio: u8, value: u8, a: u8, outcomes: &[u8], room: &mut [u8]) -> Flow
@@ -290,8 +240,7 @@ pub fn gpio_bit(f: Flow, gpio: u8, value: u8, a: u8, outcomes: &[u8], room: &mut
     ensures room_after { on_room result room.new ≡ run in_room outcomes.now (bit_steps gpio value a) (on_room f room.old) }
     ensures bounds { result.log.count + closing_owed result.log.opened ≤ f.log.count + 2 + closing_owed f.log.opened }
 {
-    let rows = bit_rows(gpio, value, a);
-    access_all(f, rows, 2, outcomes, room)
+    access_all(f, &bit_rows(gpio, value, a), outcomes, room)
 }
 
 pub fn set_gpio_output(gpio: u8, outcomes: &[u8], replies: &[u8], room: &mut [u8]) -> Handed
@@ -303,7 +252,7 @@ pub fn set_gpio_output(gpio: u8, outcomes: &[u8], replies: &[u8], room: &mut [u8
     let a = reply(replies, 0);
     let b = reply(replies, 1);
     let rows = output_rows(gpio, a, b);
-    perform(rows, 4, 2, outcomes, replies.len(), room)
+    perform(&rows, 2, outcomes, replies.len(), room)
 }
 
 // A value of 0 clears the bit, any other sets it.
@@ -313,7 +262,6 @@ pub fn set_gpio_bit(gpio: u8, value: u8, outcomes: &[u8], replies: &[u8], room: 
     if gpio > 7 {
         return refused(refusals::PIN);
     }
-    let a = reply(replies, 0);
-    let rows = bit_rows(gpio, value, a);
-    perform(rows, 2, 1, outcomes, replies.len(), room)
+    let rows = bit_rows(gpio, value, reply(replies, 0));
+    perform(&rows, 1, outcomes, replies.len(), room)
 }

@@ -120,34 +120,27 @@ fn filter_steps(f: Flow, hz: u32, rate: u32, outcomes: &[u8], room: &mut [u8]) -
     ensures room_after { on_room result room.new ≡ run in_room outcomes.now (filter_steps hz rate) (on_room f room.old) }
     ensures bounds { result.log.count + closing_owed result.log.opened ≤ f.log.count + 7 }
 {
-    let chip_state = f.chip;
-    let mut shadow = chip_state.shadow;
-    let mut doubtful = chip_state.doubtful;
+    let mut chip = f.chip;
     let set = writes::set_if_bandwidth(
         f.log,
-        chip_state.address,
+        chip.address,
         hz as u64,
-        &mut shadow,
-        &mut doubtful,
+        &mut chip.shadow,
+        &mut chip.doubtful,
         outcomes,
         room,
     );
     let log = writes::set_bandwidth(
         set,
-        chip_state.address,
+        chip.address,
         rate,
-        &mut shadow,
-        &mut doubtful,
+        &mut chip.shadow,
+        &mut chip.doubtful,
         outcomes,
         room,
     );
-    let next = Chip {
-        address: chip_state.address,
-        shadow: shadow,
-        doubtful: doubtful,
-    };
     Flow {
-        chip: next,
+        chip: chip,
         log: log,
     }
 }
@@ -226,10 +219,11 @@ fn rate_argument(table: u8, rate: u8) -> u8
 fn retune(tuner: Tuner, hz: u32, chip: Chip) -> Tuner
     ensures { result ≡ retuned tuner hz chip }
 {
-    let mut next = tuner;
-    next.ifreq = hz as u64;
-    next.chip = chip;
-    next
+    Tuner {
+        ifreq: hz as u64,
+        chip: chip,
+        ..tuner
+    }
 }
 
 // The driver's record after a rate: the rate asked and the true one.
@@ -237,13 +231,14 @@ fn with_rate(d: Driver, rate: u32, xtal: u32, progress: Progress) -> Driver
     requires { rate_number rate xtal ≡ 0 }
     ensures { result ≡ rated_by d rate xtal progress }
 {
-    let Progress::Going = progress else {
-        return d;
-    };
-    let mut next = d;
-    next.rate = rate;
-    next.actual = registers::true_rate(rate, xtal);
-    next
+    match progress {
+        Progress::Going => Driver {
+            rate: rate,
+            actual: registers::true_rate(rate, xtal),
+            ..d
+        },
+        Progress::Refused11(_) => d,
+    }
 }
 
 // The number that a correction is refused by: 1 for either record, then 4 for either reference, 0 for none. Given are the tuner's nominal and corrected
@@ -307,15 +302,13 @@ pub fn set_ppm(t: &mut Tuner, d: &mut Driver, ppm: i32) -> Answer
 }
 
 // `set_ppm` for callers that hold the records by value: it lends its own copies, so that the proof of a caller has no reference to follow.
-pub fn corrected(t: Tuner, d: Driver, ppm: i32) -> CorrectionResult
+pub fn corrected(mut t: Tuner, mut d: Driver, ppm: i32) -> CorrectionResult
     ensures { called (both result.tuner result.driver) [] 0 result.answer ≡ correction_call ppm t d }
 {
-    let mut tuner = t;
-    let mut driver = d;
-    let answer = set_ppm(&mut tuner, &mut driver, ppm);
+    let answer = set_ppm(&mut t, &mut d, ppm);
     CorrectionResult {
-        tuner: tuner,
-        driver: driver,
+        tuner: t,
+        driver: d,
         answer: answer,
     }
 }
@@ -395,22 +388,17 @@ impl Driver {
                 count: 0,
             };
         }
-        let plan = planned.plan;
+        let inverted = planned.plan.inverted;
         let hz = if_for(tuner.ifreq, rate);
-        let chip_state = tuner.chip;
         let start = Flow {
-            chip: chip_state,
+            chip: tuner.chip,
             log: chip::START,
         };
-        let f = sample_rate_steps(start, hz, rate, xtal, plan.inverted, outcomes, room);
-        let answered = chip::finish(f, Answer::Done(0), room);
-        let log = f.log;
-        let progress = log.progress;
-        let left = f.chip;
+        let f = sample_rate_steps(start, hz, rate, xtal, inverted, outcomes, room);
         Rated {
-            tuner: retune(tuner, hz, left),
-            driver: with_rate(self, rate, xtal, progress),
-            answer: answered,
+            tuner: retune(tuner, hz, f.chip),
+            driver: with_rate(self, rate, xtal, f.log.progress),
+            answer: chip::finish(f, Answer::Done(0), room),
             count: f.log.count,
         }
     }
@@ -450,20 +438,17 @@ pub fn apply_input_path(
     if number != 0 {
         return r82xx::refused(tuner, number);
     }
-    let kind = tuner.kind;
-    let chip_state = tuner.chip;
     let start = Flow {
-        chip: chip_state,
+        chip: tuner.chip,
         log: chip::START,
     };
-    let f = path_steps(start, kind, by, outcomes, replies, room);
-    let answered = chip::finish(f, Answer::Done(0), room);
-    let left = f.chip;
-    let mut next = tuner;
-    next.chip = left;
+    let f = path_steps(start, tuner.kind, by, outcomes, replies, room);
     r82xx::TunerResult {
-        tuner: next,
-        answer: answered,
+        tuner: Tuner {
+            chip: f.chip,
+            ..tuner
+        },
+        answer: chip::finish(f, Answer::Done(0), room),
         count: f.log.count,
     }
 }

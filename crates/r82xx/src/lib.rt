@@ -4,17 +4,18 @@
 
 #![tactic(auto)]
 
-ghost use Rattle.std.specs.Prelude.{◌≡◌, true, cond, List, [], ℕ, ◌+◌, ◌≤◌, ◌<◌, length};
+ghost use Rattle.std.specs.Prelude.{◌≡◌, true, false, cond, List, [], ℕ, ◌+◌, ◌*◌, ◌≤◌, ◌<◌, length};
 ghost use Rattle.std.specs.Float.{binary32};
 ghost use Rattle.std.specs.Float.Ieee.{to_bits};
-ghost use Rattle.chip.specs.Calls.{called, performed, lock_tries_in};
+ghost use Rattle.chip.specs.Calls.{answer_of, called, performed, lock_tries_in};
 ghost use Rattle.refusals.specs.declared.Answer.TheVariants.{Done, Refused};
-ghost use Rattle.chip.specs.Entries.{lock_tries};
-ghost use Rattle.chip.specs.InCode.{meant_of};
-ghost use Rattle.chip.specs.Steps.{all_in, goes, trace};
+ghost use Rattle.chip.specs.declared.Progress.TheVariants.{Going};
+ghost use Rattle.chip.specs.Entries.{lock_tries, no_tries};
+ghost use Rattle.chip.specs.InCode.{logged, meant_of, on_room, sealed};
+ghost use Rattle.chip.specs.Steps.{all_in, goes, line, trace};
 ghost use Rattle.chip.specs.Courses.{left_by};
 ghost use Rattle.tuning.specs.Program.{divider_number, tune_answer};
-ghost use Rattle.r82xx.specs.Record.{fresh_tuner, made_of, sound, sound_by};
+ghost use Rattle.r82xx.specs.Record.{fresh_tuner, made_of, sound, sound_by, with_chip};
 ghost use Rattle.r82xx.specs.InCode.{kept_notch, sound_answer};
 ghost use Rattle.r82xx.specs.Calls.{hz_refusal, refusal_of};
 ghost use Rattle.r82xx.specs.Orders.{bracket, lock_kept, quietly, result_of, lock_tries_of, table_of, tune_of};
@@ -72,14 +73,13 @@ pub struct Table {
 fn fresh(kind: Kind, address: u8, nominal: u32) -> Tuner
     ensures { result ≡ fresh_tuner kind address nominal }
 {
-    let chip_state = Chip {
-        address: address,
-        shadow: INIT_ARRAY,
-        doubtful: [true; 27],
-    };
     Tuner {
         kind: kind,
-        chip: chip_state,
+        chip: Chip {
+            address: address,
+            shadow: INIT_ARRAY,
+            doubtful: [true; 27],
+        },
         nominal: nominal,
         corrected: nominal,
         lock: false,
@@ -111,20 +111,17 @@ pub fn refused(tuner: Tuner, number: u8) -> TunerResult
 fn kept_gain(progress: Progress, old: f32, new: f32) -> f32
     ensures { result ≡ cond (goes progress) new old }
 {
-    let Progress::Going = progress else {
-        return old;
-    };
-    new
+    match progress {
+        Progress::Going => new,
+        Progress::Refused11(_) => old,
+    }
 }
 
 // "2 frequency | hz 0; hz + IF over u64".
 pub fn hz_refusal(hz: u64, ifreq: u64) -> u8
     ensures { result ≡ hz_refusal hz ifreq }
 {
-    if hz == 0 {
-        return refusals::FREQUENCY;
-    }
-    if 0xffff_ffff_ffff_ffff - ifreq < hz {
+    if hz == 0 || hz.checked_add(ifreq).is_none() {
         return refusals::FREQUENCY;
     }
     0
@@ -133,19 +130,17 @@ pub fn hz_refusal(hz: u64, ifreq: u64) -> u8
 fn sound_answer(nominal: u32, corrected: u32, value: u64) -> Answer
     ensures { result ≡ sound_answer nominal corrected value }
 {
-    if !sound(nominal, corrected) {
-        return Answer::Refused(refusals::SETUP);
+    if sound(nominal, corrected) {
+        Answer::Done(value)
+    } else {
+        Answer::Refused(refusals::SETUP)
     }
-    Answer::Done(value)
 }
 
 fn kept_notch(nominal: u32, corrected: u32, old: bool, on: bool) -> bool
     ensures { result ≡ kept_notch nominal corrected old on }
 {
-    if !sound(nominal, corrected) {
-        return old;
-    }
-    on
+    if sound(nominal, corrected) { on } else { old }
 }
 
 // Document 01: "only `set_ppm` and `apply_notch` change the caller's record where it lies"; the former is crate driver's since #109. It calls covered functions on
@@ -153,11 +148,8 @@ fn kept_notch(nominal: u32, corrected: u32, old: bool, on: bool) -> bool
 pub fn apply_notch(t: &mut Tuner, on: bool) -> Answer
     ensures { (result ≡ (quietly (Notch on) t.old).answer) × (t.new ≡ (quietly (Notch on) t.old).next) }
 {
-    let n = t.nominal;
-    let c = t.corrected;
-    let old = t.notch;
-    t.notch = kept_notch(n, c, old, on);
-    sound_answer(n, c, 0)
+    t.notch = kept_notch(t.nominal, t.corrected, t.notch, on);
+    sound_answer(t.nominal, t.corrected, 0)
 }
 
 impl Tuner {
@@ -208,8 +200,35 @@ impl Tuner {
         chip::refusal(whole, argument, n, m, room, outcomes, replies)
     }
 
+    // Before the first step of a call.
+    fn start(self) -> Flow
+        ensures begun { (room : List ℕ) → on_room result room ≡ line self.chip (logged room no_tries) 0 Going false }
+        ensures none { result.log.count ≡ 0 }
+    {
+        Flow {
+            chip: self.chip,
+            log: chip::START,
+        }
+    }
+
+    // After its last: the trailer is written, and the record holds the chip as the steps left it.
+    fn ended(self, f: Flow, whole: Answer, room: &mut [u8]) -> TunerResult
+        requires { (f.log.count ≤ 4096) × (16 * f.log.count + 8 ≤ length room.old) }
+        ensures { called result.tuner room.new result.count result.answer
+            ≡ called (with_chip self f.chip) (sealed room.old f.log.count) f.log.count (answer_of whole f.log.progress) }
+    {
+        TunerResult {
+            tuner: Tuner {
+                chip: f.chip,
+                ..self
+            },
+            answer: chip::finish(f, whole, room),
+            count: f.log.count,
+        }
+    }
+
     // A call of one bracket of masked writes: the record is `next` after them, done or not, with the chip's part as they left it.
-    fn operate(self, mut next: Tuner, us: Updates, outcomes: &[u8], room: &mut [u8]) -> TunerResult
+    fn operate(self, next: Tuner, us: Updates, outcomes: &[u8], room: &mut [u8]) -> TunerResult
         requires { (us.n ≤ 14) × (all_in (meant_of us) ≡ true) }
         ensures { called result.tuner room.new result.count result.answer
             ≡ left_by (sound self) (bracket us.n (meant_of us) (Done 0) next next) outcomes.now self.chip self room.old }
@@ -218,55 +237,31 @@ impl Tuner {
         if number != 0 {
             return refused(self, number);
         }
-        let chip_state = self.chip;
-        let start = Flow {
-            chip: chip_state,
-            log: chip::START,
-        };
+        let start = self.start();
         let f = chip::with_repeater(start, us, outcomes, room);
-        let answered = chip::finish(f, Answer::Done(0), room);
-        let left = f.chip;
-        next.chip = left;
-        TunerResult {
-            tuner: next,
-            answer: answered,
-            count: f.log.count,
-        }
+        next.ended(f, Answer::Done(0), room)
     }
 
-    pub fn set_bandwidth(mut self, hz: u32, outcomes: &[u8], room: &mut [u8]) -> TunerResult
+    pub fn set_bandwidth(self, hz: u32, outcomes: &[u8], room: &mut [u8]) -> TunerResult
         ensures { called result.tuner room.new result.count result.answer
             ≡ result_of (Bandwidth hz) outcomes.now self room.old }
     {
         let us = writes::bandwidth_updates(hz);
-        let told = self.operate(self, us, outcomes, room);
-        let answer = told.answer;
-        self = told.tuner;
-        TunerResult {
-            tuner: self,
-            answer: answer,
-            count: told.count,
-        }
+        self.operate(self, us, outcomes, room)
     }
 
     // The IF changes before its writes are tried.
-    pub fn set_if_freq(mut self, hz: u64, outcomes: &[u8], room: &mut [u8]) -> TunerResult
+    pub fn set_if_freq(self, hz: u64, outcomes: &[u8], room: &mut [u8]) -> TunerResult
         ensures { called result.tuner room.new result.count result.answer
             ≡ result_of (IfFreq hz) outcomes.now self room.old }
     {
         let us = writes::if_updates(hz);
-        let old = self;
-        self.ifreq = hz;
-        old.operate(self, us, outcomes, room)
+        let next = Tuner { ifreq: hz, ..self };
+        self.operate(next, us, outcomes, room)
     }
 
     // The gain changes only when all writes are done.
-    pub fn set_gain_by_index(
-        mut self,
-        index: usize,
-        outcomes: &[u8],
-        room: &mut [u8],
-    ) -> TunerResult
+    pub fn set_gain_by_index(self, index: usize, outcomes: &[u8], room: &mut [u8]) -> TunerResult
         ensures { called result.tuner room.new result.count result.answer
             ≡ result_of (GainIndex index) outcomes.now self room.old }
     {
@@ -277,69 +272,41 @@ impl Tuner {
         }
         let actual = gain::gain_at(k);
         let bits = wire::bits_of(actual);
-        let chip_state = self.chip;
-        let start = Flow {
-            chip: chip_state,
-            log: chip::START,
+        let f = writes::gain_steps(self.start(), k, outcomes, room);
+        let next = Tuner {
+            gain: kept_gain(f.log.progress, self.gain, actual),
+            ..self
         };
-        let f = writes::gain_steps(start, k, outcomes, room);
-        let answered = chip::finish(f, Answer::Done(bits as u64), room);
-        let log = f.log;
-        let progress = log.progress;
-        let left = f.chip;
-        self.chip = left;
-        self.gain = kept_gain(progress, self.gain, actual);
-        TunerResult {
-            tuner: self,
-            answer: answered,
-            count: f.log.count,
-        }
+        next.ended(f, Answer::Done(bits as u64), room)
     }
 
     // The nearest step, then as by its index.
-    pub fn set_gain(mut self, db: f32, outcomes: &[u8], room: &mut [u8]) -> TunerResult
+    pub fn set_gain(self, db: f32, outcomes: &[u8], room: &mut [u8]) -> TunerResult
         ensures { called result.tuner room.new result.count result.answer
             ≡ result_of (Gain db) outcomes.now self room.old }
     {
-        let told = self.set_gain_by_index(gain::choose(db), outcomes, room);
-        let answer = told.answer;
-        self = told.tuner;
-        TunerResult {
-            tuner: self,
-            answer: answer,
-            count: told.count,
-        }
+        self.set_gain_by_index(gain::choose(db), outcomes, room)
     }
 
     // path: 0 HF, 1 VHF, 2 UHF. R820T has one input: nothing is written, and no lent memory is looked at.
-    pub fn set_input_path(mut self, path: u8, outcomes: &[u8], room: &mut [u8]) -> TunerResult
+    pub fn set_input_path(self, path: u8, outcomes: &[u8], room: &mut [u8]) -> TunerResult
         ensures { called result.tuner room.new result.count result.answer
             ≡ result_of (InputPath path) outcomes.now self room.old }
     {
         let Some(by) = board::path_of(path) else {
             return refused(self, refusals::SETUP);
         };
-        let kind = self.kind;
-        match kind {
+        match self.kind {
             Kind::R820T => TunerResult {
                 tuner: self,
                 answer: sound_answer(self.nominal, self.corrected, 0),
                 count: 0,
             },
-            Kind::R828D => {
-                let told = self.operate(self, writes::path_updates(by), outcomes, room);
-                let answer = told.answer;
-                self = told.tuner;
-                TunerResult {
-                    tuner: self,
-                    answer: answer,
-                    count: told.count,
-                }
-            }
+            Kind::R828D => self.operate(self, writes::path_updates(by), outcomes, room),
         }
     }
 
-    pub fn initialize(mut self, outcomes: &[u8], room: &mut [u8]) -> TunerResult
+    pub fn initialize(self, outcomes: &[u8], room: &mut [u8]) -> TunerResult
         ensures { called result.tuner room.new result.count result.answer
             ≡ result_of Initialize outcomes.now self room.old }
     {
@@ -347,24 +314,12 @@ impl Tuner {
         if number != 0 {
             return refused(self, number);
         }
-        let chip_state = self.chip;
-        let start = Flow {
-            chip: chip_state,
-            log: chip::START,
-        };
-        let f = writes::initialize(start, outcomes, room);
-        let answered = chip::finish(f, Answer::Done(0), room);
-        let left = f.chip;
-        self.chip = left;
-        TunerResult {
-            tuner: self,
-            answer: answered,
-            count: f.log.count,
-        }
+        let f = writes::initialize(self.start(), outcomes, room);
+        self.ended(f, Answer::Done(0), room)
     }
 
     // "Reload sends the attempted bytes in `initialize`'s chunks": since #106 they are the shadow, so nothing is set at its end.
-    pub fn reload(mut self, outcomes: &[u8], room: &mut [u8]) -> TunerResult
+    pub fn reload(self, outcomes: &[u8], room: &mut [u8]) -> TunerResult
         ensures { called result.tuner room.new result.count result.answer
             ≡ result_of Reload outcomes.now self room.old }
     {
@@ -372,26 +327,13 @@ impl Tuner {
         if number != 0 {
             return refused(self, number);
         }
-        let chip_state = self.chip;
-        let bytes = chip_state.shadow;
-        let start = Flow {
-            chip: chip_state,
-            log: chip::START,
-        };
-        let sent = writes::send_all(start, bytes, outcomes, room);
-        let answered = chip::finish(sent, Answer::Done(0), room);
-        let left = sent.chip;
-        self.chip = left;
-        TunerResult {
-            tuner: self,
-            answer: answered,
-            count: sent.log.count,
-        }
+        let sent = writes::send_all(self.start(), self.chip.shadow, outcomes, room);
+        self.ended(sent, Answer::Done(0), room)
     }
 
     // The steps of a tuning by its plan; all that they may need is lent.
     fn tune(
-        mut self,
+        self,
         plan: Option<Plan>,
         hz: u64,
         outcomes: &[u8],
@@ -403,38 +345,27 @@ impl Tuner {
             ≡ performed (tune_answer plan hz) (lock_kept self) room.old (trace outcomes.now (tune_of self plan hz replies.now) self.chip))
             × (lock_tries result.tries result.locked ≡ lock_tries_in (trace outcomes.now (tune_of self plan hz replies.now) self.chip).log) }
     {
-        let kind = self.kind;
-        let chip_state = self.chip;
-        let start = Flow {
-            chip: chip_state,
-            log: chip::START,
-        };
         let by = Tuning {
-            kind: kind,
+            kind: self.kind,
             notch: self.notch,
             plan: plan,
             hz: hz,
         };
-        let f = tuning::tune(start, by, outcomes, replies, room);
-        let answered = chip::finish(f, tuning::whole_answer(plan, hz), room);
-        let left = f.chip;
-        let log = f.log;
-        let lock = log.lock;
-        self.chip = left;
-        self.lock = tuning::lock_after(lock, self.lock);
+        let f = tuning::tune(self.start(), by, outcomes, replies, room);
+        let lock = f.log.lock;
+        let next = Tuner {
+            lock: tuning::lock_after(lock, self.lock),
+            ..self
+        };
         TuneResult {
-            told: TunerResult {
-                tuner: self,
-                answer: answered,
-                count: log.count,
-            },
+            told: next.ended(f, tuning::whole_answer(plan, hz), room),
             tries: lock.tries,
             locked: lock.locked,
         }
     }
 
     pub fn set_frequency(
-        mut self,
+        self,
         hz: u64,
         outcomes: &[u8],
         replies: &[u8],
@@ -460,8 +391,7 @@ impl Tuner {
                 locked: false,
             };
         }
-        let kind = self.kind;
-        let plan = pll::plan_pll(kind, hz + ifreq, self.corrected);
+        let plan = pll::plan_pll(self.kind, hz + ifreq, self.corrected);
         self.tune(plan, hz, outcomes, replies, room)
     }
 
@@ -482,16 +412,13 @@ impl Tuner {
     pub fn get_gain_table(self) -> Table
         ensures { result ≡ table_of self }
     {
-        let answer = sound_answer(self.nominal, self.corrected, 0);
-        if !sound(self.nominal, self.corrected) {
-            return Table {
-                answer: answer,
-                steps: [0; 29],
-            };
-        }
         Table {
-            answer: answer,
-            steps: gain::get_gain_table(),
+            answer: sound_answer(self.nominal, self.corrected, 0),
+            steps: if sound(self.nominal, self.corrected) {
+                gain::get_gain_table()
+            } else {
+                [0; 29]
+            },
         }
     }
 

@@ -24,11 +24,10 @@ pub fn oscillator(t: Tuner) -> Answer
     if !r82xx::sound(t.nominal, t.corrected) {
         return Answer::Refused(refusals::SETUP);
     }
-    let state = t.chip;
-    if in_doubt(state) {
+    if in_doubt(t.chip) {
         return Answer::Refused(refusals::DOUBTFUL);
     }
-    let bytes = state.shadow;
+    let bytes = t.chip.shadow;
     let hz = oscillator::frequency(
         t.corrected,
         bytes[11],

@@ -1,16 +1,12 @@
 -- `centre::less_one` meets its contract: what is put on may make up for what the oscillator lacks. Assumes nothing.
 use native.Mathlib.Omega.{arith}
+use Rattle.std.proofs.lemmas.Grind.{common_steps}
 use Rattle.centre.proofs.Rows.{below_0, left, past_64}
 use Rattle.centre.proofs.less_one.Goals as goal
+use Rattle.centre.proofs.less_one.Goals.{in-Some, in-None}
 
-pub returns-then-down-lack : goal.returns-then-down-lack
-returns-then-down-lack c = below_0 _ _ (omega arith)
-
-pub returns-then-lo-ifreq : goal.returns-then-lo-ifreq
-returns-then-lo-ifreq c = left _ _ _ (omega arith) (omega arith)
-
-pub returns-then-rest-down : goal.returns-then-rest-down
-returns-then-rest-down c = past_64 _ _ (omega arith)
+pub returns-in_default : goal.returns-in_default
+returns-in_default c = elim c.match-checked_sub.branch [ in-Some w ↦ past_64 _ _ (grind (arith, common_steps)) | in-None w ↦ below_0 _ _ (grind (arith, common_steps)) ]
 
 pub returns : goal.returns
-returns c = left _ _ _ (omega arith) (omega arith)
+returns c = elim c.match-checked_sub.branch [ in-Some w ↦ left _ _ _ (grind (arith, common_steps)) (omega arith) | in-None w ↦ left _ _ _ (grind (arith, common_steps)) (omega arith) ]

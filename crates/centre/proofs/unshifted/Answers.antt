@@ -7,5 +7,5 @@ use Rattle.centre.proofs.unshifted.Goals as goal
 pub returns-then-hz-tuned : goal.returns-then-hz-tuned
 returns-then-hz-tuned c = c.less_both.ensures ∙ same _ _ _ _ (omega arith)
 
-pub returns : goal.returns
-returns c = c.less_one.ensures ∙ same _ _ _ _ (omega arith)
+pub returns-else-hz-tuned : goal.returns-else-hz-tuned
+returns-else-hz-tuned c = c.less_one.ensures ∙ same _ _ _ _ (omega arith)

@@ -5,10 +5,8 @@ use Rattle.chip.specs.Steps.{run}
 use Rattle.device.specs.Accesses.{access_step, demod_write}
 use Rattle.demod.specs.Programs.{ddc_steps}
 use Rattle.chip.proofs.Laws.{by_entry}
-use borrow.Author.Rules.{rules}
 use Rattle.demod.proofs.ddc.Goals as goal
 
-pub returns : goal.returns
+pub returns-clause-room_after : goal.returns-clause-room_after
 unfolding run access_step ddc_steps
-returns c =
-    record { room_after = by_entry in_room _ _ _ _ _ (ap (demod_write 1 0x15) c.ddc_byte-byte.ensures) c.one_access.ensures.room_after; bounds = search rules }
+returns-clause-room_after c = by_entry in_room _ _ _ _ _ (ap (demod_write 1 0x15) c.ddc_byte.ensures) c.one_access.ensures.room_after

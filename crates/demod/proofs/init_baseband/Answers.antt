@@ -5,7 +5,6 @@ use Rattle.device.proofs.Free.{performs, refuses, suffices}
 use Rattle.chip.specs.Courses.{left_by}
 use Rattle.device.specs.Calls.{free_result}
 use Rattle.demod.proofs.Baseband.{init_eight}
-use borrow.Author.Rules.{rules}
 use Rattle.demod.proofs.init_baseband.Goals as goal
 
 pub returns-then-number-ne0 : goal.returns-then-number-ne0
@@ -18,14 +17,14 @@ init_steps-f-requires c =
     let too_short = c.too_short-number in
     (omega (arith, suffices _ _ _ _ _ _ too_short.ensures if1.false), omega (arith, suffices _ _ _ _ _ _ too_short.ensures if1.false))
 
-pub finish-answer-requires : goal.finish-answer-requires
-finish-answer-requires c =
-    (search rules, omega (arith, c.init_steps-f.ensures.bounds, suffices _ _ _ _ _ _ c.too_short-number.ensures c.if-number-ne0.false))
+pub finish-requires : goal.finish-requires
+finish-requires c =
+    (omega (arith, c.init_steps-f.ensures.bounds), omega (arith, c.init_steps-f.ensures.bounds, suffices _ _ _ _ _ _ c.too_short-number.ensures c.if-number-ne0.false))
 
 pub returns : goal.returns
 unfolding free_result left_by
 returns c =
-    let finish = c.finish-answer in
+    let finish = c.finish in
     let init-steps = c.init_steps-f in
     performs _ _ _ _ init-steps.result _ _ _ (sym c.too_short-number.ensures ∙ c.if-number-ne0.false) init_eight init-steps.ensures.room_after
     finish.ensures.0 finish.ensures.1

@@ -2,8 +2,7 @@
 use native.Mathlib.Omega.{arith}
 use borrow.Author.Tests.{eq-eqb, ne_eqb}
 use Rattle.demod.specs.Programs.{if_steps}
-use Rattle.device.proofs.Programs.{rows_meant}
-use Rattle.device.proofs.Free.{argument_bad, argument_good}
+use Rattle.device.proofs.Free.{accesses_good, argument_bad}
 use mathlib.Core.Path.{◌∙◌}
 use Rattle.demod.proofs.set_if_freq_xtal.Goals as goal
 
@@ -12,5 +11,4 @@ returns-then-xtal-eq0 c = c.refused.ensures _ ∙ argument_bad _ _ _ _ _ _ _ 4 (
 
 pub returns : goal.returns
 unfolding if_steps
-returns c =
-    argument_good _ _ _ _ _ _ _ _ _ (rw (ne_eqb _ 0 c.if-xtal-eq0.false)) (rows_meant 3 _ _ c.if_rows-rows.ensures) c.perform.ensures
+returns c = accesses_good _ _ _ _ _ _ _ _ (rw (ne_eqb _ 0 c.if-xtal-eq0.false)) c.if_rows.ensures c.perform.ensures

@@ -2,18 +2,15 @@
 use mathlib.Core.Path.{sym, ◌∙◌}
 use Rattle.demod.specs.Programs.{rate_steps}
 use Rattle.registers.proofs.Ratios.{taken}
-use Rattle.device.proofs.Programs.{rows_meant}
-use Rattle.device.proofs.Free.{argument_bad, argument_good}
+use Rattle.device.proofs.Free.{accesses_good, argument_bad}
 use Rattle.demod.proofs.set_sample_rate_xtal.Goals as goal
 
 pub returns-then-number-ne0 : goal.returns-then-number-ne0
 returns-then-number-ne0 c = c.refused.ensures _ ∙ argument_bad _ _ _ _ _ _ _ _ (sym c.rate_number-number.ensures) c.if-number-ne0.true
 
-pub rate_rows-rows-requires : goal.rate_rows-rows-requires
-rate_rows-rows-requires c = (taken _ _ (sym c.rate_number-number.ensures ∙ c.if-number-ne0.false)).some
+pub rate_rows-requires : goal.rate_rows-requires
+rate_rows-requires c = (taken _ _ (sym c.rate_number-number.ensures ∙ c.if-number-ne0.false)).some
 
 pub returns : goal.returns
 unfolding rate_steps
-returns c =
-    argument_good _ _ _ _ _ _ _ _ _ (sym c.rate_number-number.ensures ∙ c.if-number-ne0.false) (rows_meant 4 _ _ c.rate_rows-rows.ensures)
-    c.perform.ensures
+returns c = accesses_good _ _ _ _ _ _ _ _ (sym c.rate_number-number.ensures ∙ c.if-number-ne0.false) c.rate_rows.ensures c.perform.ensures

@@ -8,4 +8,4 @@ use Rattle.device.proofs.log_access.Goals as goal
 pub returns : goal.returns
 unfolding access_step
 returns c =
-    record { room_after = λ chip. by_entry in_room _ _ _ _ _ c.entry-e.ensures (c.log_plain.ensures.room_after chip); bounds = search rules }
+    record { room_after = λ chip. by_entry in_room _ _ _ _ _ c.entry.ensures (c.log_plain.ensures.room_after chip); bounds = search rules }

@@ -1,23 +1,18 @@
--- `device::log_all` meets its contract. The invariant: what is left of the list, run from where the loop stands, gives what all of it gives.
+-- `device::log_all` meets its contract. The invariant: the log is what the accesses before the index leave.
 -- Assumes nothing.
 use mathlib.Core.Path.{◌≡◌}
-use Prim.Native.Nat.{◌≤◌, ◌+◌, ◌-◌}
+use Prim.Native.Nat.{◌≤◌, ◌+◌}
 use mathlib.Core.List.{map}
-use lib.ListN.{length, take, drop}
+use lib.ListN.{take}
 use Rattle.chip.specs.declared.Chip.{Chip}
 use Rattle.chip.specs.InCode.{in_room, on_log}
 use Rattle.chip.specs.Steps.{closing_owed, run}
 use Rattle.device.specs.Accesses.{access_step}
 use Rattle.device.proofs.log_all.Given as goal
 
-abbrev pub invariant-loop-i : goal.invariant-loop-i
-invariant-loop-i l = (l.i ≤ l.n)
-    × ((length l.room ≡ length l.initial.room)
-    × ((length l.rows ≡ 10)
-    × ((l.l.count + closing_owed l.l.opened ≤ l.initial.l.count + l.i + closing_owed l.initial.l.opened)
-    × ((chip : Chip)
-    → run in_room l.outcomes (map access_step (drop l.i (take l.n l.rows))) (on_log chip l.l l.room)
-    ≡ run in_room l.outcomes (map access_step (take l.n l.rows)) (on_log chip l.initial.l l.initial.room)))))
-
-abbrev pub decreases-loop-i : goal.decreases-loop-i
-decreases-loop-i l = l.n - l.i
+abbrev pub invariant-loop-a : goal.invariant-loop-a
+invariant-loop-a l = record {
+  bound : l.l.count + closing_owed l.l.opened ≤ l.initial.l.count + l.a-index + closing_owed l.initial.l.opened;
+  reached : (chip : Chip)
+      → on_log chip l.l l.room ≡ run in_room l.outcomes (map access_step (take l.a-index l.rows)) (on_log chip l.initial.l l.initial.room);
+}

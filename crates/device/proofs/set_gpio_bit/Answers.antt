@@ -2,9 +2,8 @@
 use mathlib.Core.Path.{ap, ◌∙◌}
 use native.Mathlib.Omega.{arith}
 use borrow.Author.Tests.{lt-ltb, le-ltb}
-use Rattle.device.specs.Gpio.{bit_steps}
-use Rattle.device.proofs.Programs.{rows_meant}
-use Rattle.device.proofs.Free.{argument_bad, argument_good}
+use Rattle.device.specs.Gpio.{bit_rows, bit_steps}
+use Rattle.device.proofs.Free.{argument_bad, accesses_good}
 use Rattle.device.proofs.set_gpio_bit.Goals as goal
 
 pub returns-then-gpio-gt7 : goal.returns-then-gpio-gt7
@@ -14,5 +13,4 @@ pub returns : goal.returns
 unfolding bit_steps
 returns c =
     let args = c.args in
-    argument_good _ _ _ _ _ _ _ _ _ (rw (le-ltb 7 _ c.if-gpio-gt7.false))
-    (rows_meant 2 _ _ c.bit_rows-rows.ensures ∙ ap (bit_steps args.gpio args.value) c.reply-a.ensures) c.perform.ensures
+    accesses_good _ _ _ _ _ _ _ _ (rw (le-ltb 7 _ c.if-gpio-gt7.false)) (c.bit_rows-rows.ensures ∙ ap (bit_rows args.gpio args.value) c.reply.ensures) c.perform.ensures

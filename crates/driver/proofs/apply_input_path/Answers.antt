@@ -28,8 +28,8 @@ path_steps-f-requires c =
     (sym c.refusal-number.ensures ∙ c.if-number-ne0.false) in
     let one = z.lent.rooms in let two = z.lent.outs in (z.lent.back, omega arith, omega arith)
 
-pub finish-answered-requires : goal.finish-answered-requires
-finish-answered-requires c =
+pub finish-requires : goal.finish-requires
+finish-requires c =
     let path-steps = c.path_steps-f in
     let args = c.args in
     let z =
@@ -40,7 +40,7 @@ finish-answered-requires c =
 pub returns : goal.returns
 unfolding board_result
 returns c =
-    let finish = c.finish-answered in
+    let finish = c.finish in
     let path-steps = c.path_steps-f in
     let args = c.args in
     path_performed _ c.in-Some.by args.outcomes.now args.replies.now args.room.now args.tuner _ _

@@ -3,10 +3,10 @@ use mathlib.Core.Path.{sym, ◌∙◌}
 use Rattle.r82xx.specs.InCode.{sound_answer}
 use Rattle.r82xx.proofs.sound_answer.Goals as goal
 
-pub returns-then-not-sound : goal.returns-then-not-sound
+pub returns-then-sound : goal.returns-then-sound
 unfolding sound_answer
-returns-then-not-sound c = rw (sym c.sound.ensures ∙ c.if-not-sound.true)
+returns-then-sound c = rw (sym c.sound.ensures ∙ c.if-sound.true)
 
-pub returns : goal.returns
+pub returns-else-sound : goal.returns-else-sound
 unfolding sound_answer
-returns c = rw (sym c.sound.ensures ∙ c.if-not-sound.false)
+returns-else-sound c = rw (sym c.sound.ensures ∙ c.if-sound.false)

@@ -38,8 +38,8 @@ sample_rate_steps-f-requires c =
       omega arith,
     )
 
-pub finish-answered-requires : goal.finish-answered-requires
-finish-answered-requires c =
+pub finish-requires : goal.finish-requires
+finish-requires c =
     let sample-rate-steps = c.sample_rate_steps-f in
     let args = c.args in
     let z =
@@ -58,7 +58,7 @@ with_rate-requires c =
 
 pub returns : goal.returns
 returns c =
-    let finish = c.finish-answered in
+    let finish = c.finish in
     let sample-rate-steps = c.sample_rate_steps-f in
     let if-for = c.if_for-hz in
     let args = c.args in

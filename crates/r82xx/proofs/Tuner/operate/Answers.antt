@@ -1,13 +1,13 @@
 -- `r82xx::Tuner::operate` meets its contract. Each return is one law of the definition, with what the calls before it ensure. Assumes nothing.
-use mathlib.Core.Path.{refl, sym, ◌∙◌}
+use mathlib.Core.Path.{refl, sym, ap, ◌∙◌}
 use native.Mathlib.Omega.{arith}
 use Prim.Native.Nat.{◌+◌}
 use Rattle.r82xx.specs.Record.{ended_by, sound}
 use Rattle.chip.proofs.Refusals.{taken_by}
 use Rattle.r82xx.proofs.Whole.{bracket_eight, perform_by, refuse_by, same_ended}
 use lib.ListN.{length}
-use Rattle.chip.specs.InCode.{Logged, meant_of}
-use Rattle.chip.specs.Steps.{Line, while_open, updates}
+use Rattle.chip.specs.InCode.{Logged, in_room, meant_of}
+use Rattle.chip.specs.Steps.{Line, run, while_open, updates}
 use Rattle.r82xx.specs.Orders.{bracket}
 use Rattle.chip.specs.Courses.{left_by}
 use Rattle.r82xx.proofs.Tuner.operate.Goals as goal
@@ -31,8 +31,8 @@ with_repeater-f-requires c =
     (sym c.refusal-number.ensures ∙ c.if-number-ne0.false) in
     let one = z.lent.rooms in let two = z.lent.outs in (omega (arith, pre.0), pre.1, omega arith, omega arith)
 
-pub finish-answered-requires : goal.finish-answered-requires
-finish-answered-requires c =
+pub ended-requires : goal.ended-requires
+ended-requires c =
     let with-repeater = c.with_repeater-f in
     let args = c.args in
     let z =
@@ -44,11 +44,11 @@ finish-answered-requires c =
 pub returns : goal.returns
 unfolding left_by bracket
 returns c =
-    let finish = c.finish-answered in
     let with-repeater = c.with_repeater-f in
     let args = c.args in
     let us = meant_of args.us in
     let next = args.next in
-    perform_by _ _ _ _ (while_open (updates us)) _ _ (λ (w : Line Logged). ended_by next next w.progress w.chip) _ _ _ with-repeater.result _ _ _
-    c.refusal-number.ensures c.if-number-ne0.false (bracket_eight us) with-repeater.ensures.room_after finish.ensures.1 finish.ensures.0
+    c.ended.ensures
+    ∙ perform_by _ _ _ _ (while_open (updates us)) _ _ (λ (w : Line Logged). ended_by next next w.progress w.chip) _ _ _ with-repeater.result _ _ _
+    c.refusal-number.ensures c.if-number-ne0.false (bracket_eight us) (with-repeater.ensures.room_after ∙ ap (run in_room _ (while_open (updates us))) (c.start-start.ensures.begun _)) refl refl
     (same_ended next with-repeater.result.log.progress with-repeater.result.chip) refl

@@ -9,8 +9,8 @@ use Rattle.r82xx.specs.Orders.{result_of}
 use Rattle.refusals.specs.declared.Answer.TheVariants.{Done}
 use Rattle.r82xx.proofs.Tuner.set_bandwidth.Goals as goal
 
-pub operate-told-requires : goal.operate-told-requires
-operate-told-requires c =
+pub operate-requires : goal.operate-requires
+operate-requires c =
     let bandwidth-updates = c.bandwidth_updates-us in
     let args = c.args in
     let the-bandwidth-updates = bandwidth_updates args.hz in (
@@ -23,4 +23,4 @@ unfolding result_of
 returns c =
     let a = c.args in
     bracket_by a.self a.self (Done 0) _ (bandwidth_updates a.hz) 1 a.outcomes.now a.self a.room.now _
-    c.bandwidth_updates-us.ensures refl c.operate-told.ensures
+    c.bandwidth_updates-us.ensures refl c.operate.ensures

@@ -9,4 +9,4 @@ unfolding result_of
 returns c =
     let a = c.args in
     at_step a.outcomes.now _ (chosen_of a.db) a.self a.room.now _ (chosen_step _ _ c.choose.ensures)
-    c.set_gain_by_index-told.ensures
+    c.set_gain_by_index.ensures

@@ -11,8 +11,8 @@ unfolding result_of
 returns-in_default c =
     c.refused.ensures _ ∙ path_none _ _ _ _ _ (sym c.path_of.ensures ∙ c.in_default.is)
 
-pub operate-told-requires : goal.operate-told-requires
-operate-told-requires c =
+pub operate-requires : goal.operate-requires
+operate-requires c =
     let path-updates = c.path_updates in
     (omega (arith, path_meant_two c.in-Some.by _ path-updates.ensures), path_meant_in c.in-Some.by _ path-updates.ensures)
 
@@ -26,4 +26,4 @@ unfolding result_of
 returns-in-R828D c =
     let a = c.args in
     path_by _ _ _ _ a.outcomes.now a.self a.room.now _ (sym c.path_of.ensures ∙ c.in-Some.is)
-    c.in-R828D.is c.path_updates.ensures c.operate-told.ensures
+    c.in-R828D.is c.path_updates.ensures c.operate.ensures
