@@ -9,33 +9,24 @@ use lib.ListN.{length, take, drop}
 use lib.Seq.{sets}
 use Rattle.transcript.specs.declared.Entry.{Entry}
 use Rattle.std.specs.Prelude.{Some, None}
+use Rattle.std.proofs.lemmas.Option.{cond_some}
 use Rattle.transcript.specs.Entries.{bare}
 use Rattle.transcript.specs.Sections.{all_fit, count_of, entries_in, entries_of, is_section, section_at, section_bytes, section_entries, section_of, start_of}
 use Rattle.transcript.proofs.Exact.{entries_in-take}
-use Rattle.transcript.proofs.Reading.{found, lies, sound, unread}
+use Rattle.transcript.proofs.Reading.{cond_none, found, lies, sound, unread}
 use Rattle.refusals.specs.declared.Answer.TheVariants as answer
 use Rattle.refusals.specs.Lent.{given}
 use Rattle.refusals.proofs.Giving as giving
 use Rattle.refusals.specs.Table.{ROOM, SECTION, EXPANSION}
-use Rattle.expansion.specs.declared.Found.TheVariants as number
 use Rattle.expansion.specs.Expansion as spec
 use Rattle.expansion.specs.Expansion.{all_expand, all_heard, expand_into, expanded, heard_entries, read_into, size_of}
 use Rattle.expansion.proofs.Hearing.{section_long}
 
 -- ---- a section
 
--- a number that was found, and one that was not
-is_so : (b : Bool) (n k : ℕ) → number.Is k ≡ cond b (number.Is n) number.Refused → (b ≡ true) × (k ≡ n)
-is_so true n k h = (refl, cc)
-is_so false n k h =
-    let z : ◌≡◌ {A = ℕ} 0 1 = cc in
-    absurd (omega arith)
-
-is_not : (b : Bool) (n : ℕ) → number.Refused ≡ cond b (number.Is n) number.Refused → b ≡ false
-is_not true n h =
-    let z : ◌≡◌ {A = ℕ} 0 1 = cc in
-    absurd (omega arith)
-is_not false n h = refl
+-- a number that was found
+is_so : (b : Bool) (n k : ℕ) → Some k ≡ cond b (Some n) None → (b ≡ true) × (k ≡ n)
+is_so b n k h = let p = cond_some b n k (sym h) in (p.0, sym p.1)
 
 module _ (s out : List ℕ) where
   pub no_section : None ≡ section_of s → given (answer.Refused SECTION) out ≡ expand_into s out
@@ -59,13 +50,13 @@ module _ (s out : List ℕ) where
         let l = lies s start count h in
         (l.0, l.1, ap₂ (λ (k i : ℕ). all_fit k (drop i s)) f.1.1 f.1.0 ∙ (sound s f.0).fit)
 
-    pub cannot : number.Refused ≡ size_of (entries_in count (drop start s)) → given (answer.Refused EXPANSION) out ≡ expand_into s out
+    pub cannot : None ≡ size_of (entries_in count (drop start s)) → given (answer.Refused EXPANSION) out ≡ expand_into s out
     unfolding expand_into size_of
     cannot q =
-        let p : all_expand (section_entries s) ≡ false = ap all_expand (sym entries) ∙ is_not (all_expand (entries_in count (drop start s))) (length (expanded (entries_in count (drop start s)))) q in
+        let p : all_expand (section_entries s) ≡ false = ap all_expand (sym entries) ∙ cond_none (all_expand (entries_in count (drop start s))) (length (expanded (entries_in count (drop start s)))) q in
         rw ((found s start count h).0, p) (giving.refused EXPANSION (length (expanded (section_entries s))) (expanded (section_entries s)) out (omega arith))
 
-    module _ (k : ℕ) (q : number.Is k ≡ size_of (entries_in count (drop start s))) where
+    module _ (k : ℕ) (q : Some k ≡ size_of (entries_in count (drop start s))) where
       pub sized : (all_expand (entries_in count (drop start s)) ≡ true) × (k ≡ length (expanded (entries_in count (drop start s))))
       unfolding size_of
       sized = is_so (all_expand (entries_in count (drop start s))) (length (expanded (entries_in count (drop start s)))) k q
@@ -93,12 +84,12 @@ module _ (b out : List ℕ) where
   abbrev bytes : List ℕ
   bytes = section_bytes (map bare (heard_entries 4096 b))
 
-  pub no_packets : number.Refused ≡ spec.count_of b → given (answer.Refused EXPANSION) out ≡ read_into b out
+  pub no_packets : None ≡ spec.count_of b → given (answer.Refused EXPANSION) out ≡ read_into b out
   unfolding read_into spec.count_of
   no_packets q =
-      rw (is_not (all_heard 4096 b) (length (heard_entries 4096 b)) q) (giving.refused EXPANSION (length bytes) bytes out (omega arith))
+      rw (cond_none (all_heard 4096 b) (length (heard_entries 4096 b)) q) (giving.refused EXPANSION (length bytes) bytes out (omega arith))
 
-  module _ (k : ℕ) (q : number.Is k ≡ spec.count_of b) where
+  module _ (k : ℕ) (q : Some k ≡ spec.count_of b) where
     pub counts : (all_heard 4096 b ≡ true) × (k ≡ length (heard_entries 4096 b))
     unfolding spec.count_of
     counts = is_so (all_heard 4096 b) (length (heard_entries 4096 b)) k q

@@ -3,7 +3,7 @@
 use Prim.Native.Nat.{ℕ, zero, suc, ◌+◌, ◌-◌, ◌*◌, ◌<◌, ◌≤◌}
 use mathlib.Core.Path.{◌≡◌, refl, sym, ap, ap₂, ◌∙◌}
 use mathlib.Core.List.{List, [], ◌∷◌, map}
-use mathlib.Core.Bool.{Bool, true, false, cond, ◌&&◌}
+use mathlib.Core.Bool.{Bool, true, false, cond, ◌&&◌, true≢false}
 use native.Mathlib.Omega.{arith}
 use lib.Dec.{eqb, leb}
 use borrow.Author.Tests.{eq-eqb, ne_eqb, leb-true, leb-false}
@@ -15,46 +15,28 @@ use Rattle.transcript.specs.Entries.{bare, entry_bytes, Eights, zeros8}
 use Rattle.transcript.specs.Sections.{entries_bytes, section_bytes, trailer_bytes}
 use Rattle.transcript.specs.Table.{is_read}
 use Rattle.transcript.proofs.Laid.{length-entry_bytes, length-section_bytes, section_laid}
-use Rattle.transcript.proofs.Reading.{both}
+use Rattle.transcript.proofs.Reading.{both, cond_none}
+use Rattle.std.specs.Prelude.{Some, None}
+use Rattle.std.proofs.lemmas.Option.{cond_some}
 use Rattle.packets.specs.declared.Heard.{Heard}
 use Rattle.packets.specs.Packets.{packets, sent_by}
-use Rattle.packets.specs.Heard.{entry_in, heard_in, named, nothing, packets_stand, word}
+use Rattle.packets.specs.Heard.{entry_in, heard_in, heard_of, named, packets_stand, word}
 use Rattle.packets.proofs.Begins.{size_within}
-use Rattle.expansion.specs.declared.Found.TheVariants.{Is, Refused}
 use Rattle.expansion.specs.Expansion.{all_heard, count_of, heard_entries}
 
 map_long : (es : List Entry) → length (map bare es) ≡ length es
 map_long [] = refl
 map_long (e ∷ es) = ap suc (map_long es)
 
--- what was heard at some bytes
-some_by : (t : Bool) (h a : Heard) → h ≡ cond t a nothing → (h.size ≡ 0 → ⊥) → (t ≡ true) × (h ≡ a)
-some_by true h a e z = (refl, e)
-some_by false h a e z = absurd (z (ap (λ (u : Heard). u.size) e))
-
-none_by : (l : List ℕ) (t : Bool) → packets_stand l ≡ t → cond t (length (packets (entry_in l))) 0 ≡ 0 → t ≡ false
-none_by l true s e = absurd (omega (arith, (size_within l s).0, e))
-none_by l false s e = refl
-
-sizes : (t : Bool) (a : Heard) → (cond t a nothing).size ≡ cond t a.size 0
-sizes true a = refl
-sizes false a = refl
-
-abbrev one : List ℕ → Heard
-one l = record { entry = bare (entry_in l); size = length (packets (entry_in l)) }
-
-module _ (l : List ℕ) (h : Heard) (is : h ≡ heard_in l) where
-  pub unheard : h.size ≡ 0 → packets_stand l ≡ false
+-- what was heard at some bytes, or nothing
+module _ (l : List ℕ) where
+  pub unheard : None ≡ heard_in l → packets_stand l ≡ false
   unfolding heard_in
-  unheard z = none_by l (packets_stand l) refl (sym (sizes (packets_stand l) (one l)) ∙ sym (ap (λ (u : Heard). u.size) is) ∙ z)
+  unheard is = cond_none (packets_stand l) (heard_of (entry_in l)) is
 
-  pub heard : (h.size ≡ 0 → ⊥) → (packets_stand l ≡ true) × (h ≡ one l)
+  pub heard : (h : Heard) → Some h ≡ heard_in l → (packets_stand l ≡ true) × (h ≡ heard_of (entry_in l))
   unfolding heard_in
-  heard z = some_by (packets_stand l) h (one l) is z
-
-  pub heard_so : packets_stand l ≡ true → h ≡ one l
-  unfolding heard_in
-  heard_so s = is ∙ ap (λ (t : Bool). cond t (one l) nothing) s
+  heard h is = let p = cond_some (packets_stand l) (heard_of (entry_in l)) h (sym is) in (p.0, sym p.1)
 
 eight_by : (r : Bool) (l : List ℕ) → length (cond r zeros8 (sets zeros8 0 l)) ≡ 8
 eight_by true l = refl
@@ -63,13 +45,6 @@ eight_by false l = length-sets zeros8 0 l
 one_eight : (l : List ℕ) → length (bare (entry_in l)).bytes ≡ 8
 unfolding entry_in
 one_eight l = eight_by (is_read (named (word l)).kind) (take (sent_by (named (word l)).kind (named (word l)).n) (drop 8 l))
-
-pub below : (i : ℕ) → i ≤ 4096 → (i ≡ 4096 → ⊥) → i < 4096
-below i m z = split (leb 4096 i) refl
-  where
-    split : (p : Bool) → leb 4096 i ≡ p → i < 4096
-    split true p = absurd (z (omega (arith, leb-true 4096 i p)))
-    split false p = leb-false 4096 i p
 
 -- the bytes that are left, from a place on
 module _ (b : List ℕ) (at i : ℕ) where
@@ -143,6 +118,52 @@ module _ (b : List ℕ) (at i : ℕ) where
           let room : 16 * i + length (entry_bytes (bare (entry_in l))) ≡ 16 * (i + 1) = omega (arith, length-entry_bytes (bare (entry_in l)) (one_eight l)) in
           rw (entry_on, sets_append out (16 * i) (entry_bytes (bare (entry_in l))) (entries_bytes (map bare (heard_entries f (drop (at + k) b)))), room, q, p)
 
+  -- packets stand where bytes are left, and only there
+  pub some_left : packets_stand l ≡ true → at < length b
+  some_left s = omega (arith, (size_within l s).0, (size_within l s).1, length-drop at b)
+
+  pub none_left : i ≤ 4096 → all_heard (4096 - i) l ≡ true → packets_stand l ≡ false → length b ≤ at
+  none_left m t s = split (leb (length b) at) refl
+    where
+      split : (p : Bool) → leb (length b) at ≡ p → length b ≤ at
+      split true p = leb-true (length b) at p
+      split false p =
+          let here : at < length b = leb-false (length b) at p in
+          absurd (true≢false (sym (stands_there here (not_full here m t) t) ∙ s))
+
+-- a turn of the loops: what an entry that is heard leaves
+pub record Turn (b : List ℕ) (at i : ℕ) (h : Heard) : Type 0 where
+  pub here : at < length b
+  pub less : i < 4096
+  pub stands : packets_stand (drop at b) ≡ true
+  pub entry : h ≡ heard_of (entry_in (drop at b))
+  pub eight : 8 ≤ h.size
+  pub within : at + h.size ≤ length b
+  pub all : all_heard (4096 - (i + 1)) (drop (at + h.size) b) ≡ all_heard (4096 - i) (drop at b)
+  pub count : i + 1 + length (heard_entries (4096 - (i + 1)) (drop (at + h.size) b)) ≡ i + length (heard_entries (4096 - i) (drop at b))
+
+module _ (b : List ℕ) (at i : ℕ) (h : Heard) (is : Some h ≡ heard_in (drop at b)) where
+  pub turn : i < 4096 → Turn b at i h
+  turn less =
+      let g = heard (drop at b) h is in
+      let here = some_left b at i g.0 in
+      let size : h.size ≡ length (packets (entry_in (drop at b))) = ap (λ (u : Heard). u.size) g.1 in
+      let n = inside b at i here less g.0 h.size size in
+      record {
+        here = here;
+        less = less;
+        stands = g.0;
+        entry = g.1;
+        eight = n.0;
+        within = n.1;
+        all = heard_on b at i here less g.0 h.size size;
+        count = count_on b at i here less g.0 h.size size;
+      }
+
+  -- where all of them are packets
+  pub turn_of_all : i ≤ 4096 → all_heard (4096 - i) (drop at b) ≡ true → Turn b at i h
+  turn_of_all m all = turn (not_full b at i (some_left b at i (heard (drop at b) h is).0) m all)
+
 -- all entries heard have eight data bytes
 heard_eights : (f : ℕ) (b : List ℕ) → Eights (map bare (heard_entries f b))
 unfolding heard_entries
@@ -159,12 +180,12 @@ section_long b = length-section_bytes (map bare (heard_entries 4096 b)) (heard_e
 
 -- the loops' ends
 module _ (b : List ℕ) (at i : ℕ) where
-  pub refused : all_heard (4096 - i) (drop at b) ≡ all_heard 4096 b → all_heard (4096 - i) (drop at b) ≡ false → Refused ≡ count_of b
+  pub refused : all_heard (4096 - i) (drop at b) ≡ all_heard 4096 b → all_heard (4096 - i) (drop at b) ≡ false → None ≡ count_of b
   unfolding count_of
   refused p q = rw (← p, q)
 
   pub ended : length b ≤ at → all_heard (4096 - i) (drop at b) ≡ all_heard 4096 b → i + length (heard_entries (4096 - i) (drop at b)) ≡ length (heard_entries 4096 b)
-      → Is i ≡ count_of b
+      → Some i ≡ count_of b
   unfolding count_of
   ended h p q =
       let e = heard_end b at i (4096 - i) h in

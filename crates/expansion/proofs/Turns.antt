@@ -16,7 +16,7 @@ use Rattle.transcript.proofs.Reading.{both}
 use Rattle.transcript.proofs.Rows.{row_of}
 use Rattle.packets.specs.Packets.{expands, packets_of}
 use Rattle.packets.proofs.Begins.{most_bytes}
-use Rattle.expansion.specs.declared.Found.TheVariants.{Is, Refused}
+use Rattle.std.specs.Prelude.{Some, None}
 use Rattle.expansion.specs.Expansion.{all_expand, expanded, size_of}
 
 -- each of entries that fit does
@@ -89,12 +89,12 @@ module _ (s : List ℕ) (start count : ℕ) where
 
   -- the loops' ends
   pub refused : (i : ℕ) → all_expand (left s start count i) ≡ all_expand (entries_in count (drop start s)) → all_expand (left s start count i) ≡ false
-      → Refused ≡ size_of (entries_in count (drop start s))
+      → None ≡ size_of (entries_in count (drop start s))
   unfolding size_of
   refused i p q = rw (← p, q)
 
   pub ended : (i size : ℕ) → count ≤ i → all_expand (left s start count i) ≡ all_expand (entries_in count (drop start s))
-      → size + length (expanded (left s start count i)) ≡ length (expanded (entries_in count (drop start s))) → Is size ≡ size_of (entries_in count (drop start s))
+      → size + length (expanded (left s start count i)) ≡ length (expanded (entries_in count (drop start s))) → Some size ≡ size_of (entries_in count (drop start s))
   unfolding size_of all_expand expanded
   ended i size h p q =
       let none : left s start count i ≡ [] = left_none i h in

@@ -1,6 +1,6 @@
 -- A section as setup packets, and packets as a section. Document 02, #107: "Expand a section into 8-byte setup packets of USB 2.0 with their data bytes."
 -- Assumes nothing.
-use Rattle.std.specs.Prelude.{ℕ, zero, suc, List, [], ◌∷◌, ◌++◌, map, Bool, true, cond, ◌&&◌, eqb, length, drop}
+use Rattle.std.specs.Prelude.{ℕ, zero, suc, List, [], ◌∷◌, ◌++◌, map, Bool, true, cond, ◌&&◌, eqb, length, drop, Option, Some, None}
 use Rattle.transcript.specs.declared.Entry.{Entry}
 use Rattle.transcript.specs.Entries.{bare}
 use Rattle.transcript.specs.Sections.{is_section, section_bytes, section_entries}
@@ -8,8 +8,6 @@ use Rattle.packets.specs.Packets.{became, expands, packets, packets_of}
 use Rattle.packets.specs.Heard.{entry_in, packets_stand}
 use Rattle.refusals.specs.Lent.{Given, lent_to}
 use Rattle.refusals.specs.Table.{SECTION, EXPANSION}
-use Rattle.expansion.specs.declared.Found.{Found}
-use Rattle.expansion.specs.declared.Found.TheVariants.{Is, Refused}
 
 unfoldable pub expanded : List Entry → List ℕ
 expanded [] = []
@@ -20,8 +18,8 @@ all_expand [] = true
 all_expand (e ∷ es) = expands e && all_expand es
 
 -- how many bytes entries become
-unfoldable pub size_of : List Entry → Found
-size_of es = cond (all_expand es) (Is (length (expanded es))) Refused
+unfoldable pub size_of : List Entry → Option ℕ
+size_of es = cond (all_expand es) (Some (length (expanded es))) None
 
 -- "Refusals: 12 first, then new 15 expansion .., then 8; all leave the output unchanged." The value is how many bytes were written.
 unfoldable pub expand_into : List ℕ → List ℕ → Given
@@ -40,8 +38,8 @@ heard_entries zero b = []
 heard_entries (suc f) b = cond (eqb (length b) 0) [] (entry_in b ∷ heard_entries f (drop (length (packets (entry_in b))) b))
 
 -- how many there are: "At most 4,096 entries" of a section (document 01)
-unfoldable pub count_of : List ℕ → Found
-count_of b = cond (all_heard 4096 b) (Is (length (heard_entries 4096 b))) Refused
+unfoldable pub count_of : List ℕ → Option ℕ
+count_of b = cond (all_heard 4096 b) (Some (length (heard_entries 4096 b))) None
 
 -- "Reading the packets back gives the entries again, without waits, outcomes and read data": the section of them; 15 for "bytes that no section expands to", then 8
 unfoldable pub read_into : List ℕ → List ℕ → Given

@@ -13,29 +13,20 @@ ghost use Rattle.expansion.specs.Expansion.{all_expand, all_heard, count_of, exp
 use refusals::Answer;
 use transcript::{Entry, Section};
 
-// A number that was found, or refusal 15.
-#[derive(Clone, Copy)]
-pub enum Found {
-    Is(usize),
-    Refused,
-}
-
-// How many bytes the entries from `start` become.
-fn measured(s: &[u8], start: usize, count: usize) -> Found
+// How many bytes the entries from `start` become; none where one of them has no packets.
+fn measured(s: &[u8], start: usize, count: usize) -> Option<usize>
     requires { (count ≤ 4096) × (start + 16 * count ≤ length s.now) × (all_fit count (drop start s.now) ≡ true) }
     ensures { result ≡ size_of (entries_in count (drop start s.now)) }
 {
     let mut size: usize = 0;
-    let mut i: usize = 0;
-    while i < count {
+    for i in 0..count {
         let e = Entry::get(s, start + 16 * i);
         if !packets::expands(e) {
-            return Found::Refused;
+            return None;
         }
         size += packets::size(e);
-        i += 1;
     }
-    Found::Is(size)
+    Some(size)
 }
 
 // Their packets, from the start of `out`.
@@ -45,12 +36,10 @@ fn write_packets(s: &[u8], start: usize, count: usize, out: &mut [u8])
     ensures { out.new ≡ sets out.old 0 (expanded (entries_in count (drop start s.now))) }
 {
     let mut at: usize = 0;
-    let mut i: usize = 0;
-    while i < count {
+    for i in 0..count {
         let e = Entry::get(s, start + 16 * i);
         packets::put(e, out, at);
         at += packets::size(e);
-        i += 1;
     }
 }
 
@@ -61,7 +50,7 @@ pub fn expand(section: &[u8], out: &mut [u8]) -> Answer
     let Some(Section { start, count }) = transcript::read_section(section) else {
         return Answer::Refused(refusals::SECTION);
     };
-    let Found::Is(size) = measured(section, start, count) else {
+    let Some(size) = measured(section, start, count) else {
         return Answer::Refused(refusals::EXPANSION);
     };
     if out.len() < size {
@@ -71,24 +60,21 @@ pub fn expand(section: &[u8], out: &mut [u8]) -> Answer
     Answer::Done(size as u64)
 }
 
-// How many entries the packets are of.
-fn counted(b: &[u8]) -> Found
+// How many entries the packets are of; none where they are of no section. Each entry's packets have their own size, so the loop goes by bytes.
+fn counted(b: &[u8]) -> Option<usize>
     ensures { result ≡ count_of b.now }
 {
     let mut at: usize = 0;
     let mut i: usize = 0;
     while at < b.len() {
         if i == 4096 {
-            return Found::Refused;
+            return None;
         }
-        let h = packets::hear(b, at);
-        if h.size == 0 {
-            return Found::Refused;
-        }
+        let h = packets::hear(b, at)?;
         at += h.size;
         i += 1;
     }
-    Found::Is(i)
+    Some(i)
 }
 
 // Their section, from the start of `out`.
@@ -98,8 +84,7 @@ fn write_section(b: &[u8], out: &mut [u8])
 {
     let mut at: usize = 0;
     let mut i: usize = 0;
-    while at < b.len() {
-        let h = packets::hear(b, at);
+    while let Some(h) = packets::hear(b, at) {
         h.entry.put(out, 16 * i);
         at += h.size;
         i += 1;
@@ -111,7 +96,7 @@ fn write_section(b: &[u8], out: &mut [u8])
 pub fn read_packets(packets: &[u8], out: &mut [u8]) -> Answer
     ensures { given result out.new ≡ read_into packets.now out.old }
 {
-    let Found::Is(count) = counted(packets) else {
+    let Some(count) = counted(packets) else {
         return Answer::Refused(refusals::EXPANSION);
     };
     let size = 16 * count + 8;

@@ -1,7 +1,7 @@
 -- The entry that bytes begin with, as the code finds it: what a setup packet names, one law for each way in which the code stops, one for what it finds.
 -- Assumes nothing.
 use Prim.Native.Nat.{ℕ, zero, suc, ◌+◌, ◌-◌, ◌/◌, ◌%◌, ◌<◌, ◌≤◌}
-use mathlib.Core.Path.{◌≡◌, refl, sym, ap, ap₂, ◌∙◌, subst}
+use mathlib.Core.Path.{◌≡◌, refl, sym, ap, ap₂, ◌∙◌}
 use mathlib.Core.List.{List}
 use mathlib.Core.Bool.{Bool, true, false, cond, not, ◌&&◌, and-false}
 use native.Mathlib.Omega.{arith}
@@ -14,9 +14,10 @@ use Rattle.transcript.specs.declared.Entry.{Entry}
 use Rattle.transcript.specs.Entries.{zeros8}
 use Rattle.transcript.specs.Table.{is_read, n_low, n_high}
 use Rattle.transcript.proofs.Reading.{both}
+use Rattle.std.specs.Prelude.{Some, None}
 use Rattle.packets.specs.declared.Heard.{Heard}
 use Rattle.packets.specs.Packets.{is_demod, packets, sent_by, setup}
-use Rattle.packets.specs.Heard.{entry_in, heard_in, high_in, in_table, length_in, low_in, named, nothing, packets_stand, entry_named, sync_in, heard_with, type_in, value_in, word}
+use Rattle.packets.specs.Heard.{entry_in, heard_in, high_in, in_table, length_in, low_in, named, packets_stand, entry_named, sync_in, heard_with, type_in, value_in, word}
 use Rattle.packets.proofs.Written.{packets_long, sent_most}
 
 module _ (w : ℕ) where
@@ -108,7 +109,7 @@ behind_as true false = refl
 behind_as false y = refl
 
 module _ (b : List ℕ) where
-  pub heard_short : length b < 8 → nothing ≡ heard_in b
+  pub heard_short : length b < 8 → None ≡ heard_in b
   unfolding heard_in packets_stand
   heard_short h = rw (lt-leb 8 (length b) h)
 
@@ -123,7 +124,7 @@ module _ (b : List ℕ) where
       ∙ ap (λ (k : ℕ). 8 + sent + k) (behind_as (is_demod (named (word b)).kind) (sync_in (drop (8 + sent) b)))
 
   whole : 8 ≤ length b → in_table (named (word b)).kind (named (word b)).n && eqb (le_value (setup (named (word b)))) (word b) ≡ true → 8 + sent ≤ length b
-      → heard_with (named (word b)) sent b ≡ heard_in b
+      → Some (heard_with (named (word b)) sent b) ≡ heard_in b
   unfolding heard_in packets_stand heard_with entry_in
   whole l f h =
       let t = (both (in_table (named (word b)).kind (named (word b)).n) (eqb (le_value (setup (named (word b)))) (word b)) f).0 in
@@ -141,21 +142,18 @@ module _ (b : List ℕ) where
     sent_same : sent ≡ k
     sent_same = ap (λ (u : Entry). sent_by u.kind u.n) same ∙ sym sends
 
-    pub heard_other : (x : Bool) (v : ℕ) → x ≡ in_table e.kind e.n → v ≡ le_value (setup e) → x && eqb v w ≡ false → nothing ≡ heard_in b
+    pub heard_other : (x : Bool) (v : ℕ) → x ≡ in_table e.kind e.n → v ≡ le_value (setup e) → x && eqb v w ≡ false → None ≡ heard_in b
     unfolding heard_in packets_stand
     heard_other x v p q h = rw (tested false x v p q h, and-false)
 
-    pub heard_cut : length b < 8 + k → nothing ≡ heard_in b
+    pub heard_cut : length b < 8 + k → None ≡ heard_in b
     unfolding heard_in packets_stand
     heard_cut h = rw (lt-leb (8 + sent) (length b) (omega (arith, sent_same)), and-false)
 
     pub heard_told : (x : Bool) (v : ℕ) → x ≡ in_table e.kind e.n → v ≡ le_value (setup e) → x && eqb v w ≡ true → 8 ≤ length b → 8 + k ≤ length b
-        → heard_with e k b ≡ heard_in b
+        → Some (heard_with e k b) ≡ heard_in b
     heard_told x v p q h l r =
-        ap₂ (λ (u : Entry) (i : ℕ). heard_with u i b) (sym same) (sym sent_same) ∙ whole l (tested true x v p q h) (omega (arith, sent_same))
+        ap₂ (λ (u : Entry) (i : ℕ). Some (heard_with u i b)) (sym same) (sym sent_same) ∙ whole l (tested true x v p q h) (omega (arith, sent_same))
 
     pub few : (x : Bool) (v : ℕ) → x ≡ in_table e.kind e.n → x && eqb v w ≡ true → k ≤ 8
     few x v p h = omega (arith, table_most e.kind e.n (sym p ∙ (both x (eqb v w) h).0), sent_most e.kind e.n, sends)
-
-    pub row : e.kind < 10
-    row = subst (λ (u : Entry). u.kind < 10) (sym names) (omega (arith, (named_kind w).1))

@@ -2,12 +2,12 @@
 -- Assumes nothing.
 use Prim.Native.Nat.{ℕ, zero, suc, ◌+◌, ◌-◌, ◌*◌, ◌/◌, ◌%◌, ◌<◌, ◌≤◌}
 use mathlib.Core.Path.{◌≡◌, refl, sym, ap, ap₂, ◌∙◌, subst}
-use mathlib.Core.List.{List, [], ◌∷◌, ◌++◌}
+use mathlib.Core.List.{List, [], ◌++◌}
 use mathlib.Core.Bool.{Bool, true, false, cond, ◌&&◌}
 use native.Mathlib.Omega.{arith}
 use lib.Dec.{eqb}
 use borrow.Author.Tests.{eq-eqb, ne_eqb}
-use lib.ListN.{length, get_or, take, length-append, length-take}
+use lib.ListN.{length, take, length-append, length-take}
 use lib.Seq.{sets}
 use Rattle.wire.specs.Bytes.{le_bytes, le_value, Bytes}
 use Rattle.wire.proofs.Stores.{sets_append}
@@ -41,15 +41,10 @@ module _ (e : Entry) where
   unfolding w_index_of
   index_block h k = rw (h, k)
 
-  -- a repeater entry, and any other
+  -- what is no repeater entry
   pub stays : (e.kind ≡ 1 → ⊥) → e ≡ became e
   unfolding became
   stays h = rw (ne_eqb e.kind 1 h)
-
-  pub turns : (p : ℕ) → e.kind ≡ 1 → p ≡ cond (eqb (get_or e.bytes 0 0) 0) 0x10 0x18
-      → ◌≡◌ {A = Entry} (record { kind = 4; outcome = e.outcome; target = 1; n = 1; address = 1; bytes = p ∷ 0 ∷ 0 ∷ 0 ∷ 0 ∷ 0 ∷ 0 ∷ 0 ∷ [] }) (became e)
-  unfolding became
-  turns p h q = rw (eq-eqb e.kind 1 h, q)
 
 -- the setup packet as a number
 

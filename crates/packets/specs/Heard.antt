@@ -1,6 +1,6 @@
 -- The entry that some bytes begin with, as its packets. Document 02, #107: "Reading the packets back gives the entries again".
 -- Assumes nothing.
-use Rattle.std.specs.Prelude.{ℕ, ◌+◌, ◌/◌, ◌%◌, List, Bool, cond, not, ◌&&◌, eqb, leb, length, get_or, take, drop}
+use Rattle.std.specs.Prelude.{ℕ, ◌+◌, ◌/◌, ◌%◌, List, Bool, cond, not, ◌&&◌, eqb, leb, length, get_or, take, drop, Option, Some, None}
 use Rattle.std.proofs.lemmas.List.Edits.{sets}
 use Rattle.wire.specs.Bytes.{le_value}
 use Rattle.transcript.specs.declared.Entry.{Entry}
@@ -85,11 +85,9 @@ heard_with e sent b =
       size = 8 + sent + cond (is_demod e.kind && sync_in (drop (8 + sent) b)) 8 0;
     }
 
-abbrev pub nothing : Heard
-nothing = record { entry = entry_named 0 0 0 0; size = 0 }
+-- "without waits, outcomes and read data (both zero)", and how many bytes its packets have
+abbrev pub heard_of : Entry → Heard
+heard_of e = record { entry = bare e; size = length (packets e) }
 
--- "without waits, outcomes and read data (both zero)", and how many bytes its packets have; 0 where none stand there
-unfoldable pub heard_in : List ℕ → Heard
-heard_in b =
-    cond (packets_stand b) (record { entry = bare (entry_in b); size = length (packets (entry_in b)) })
-    nothing
+unfoldable pub heard_in : List ℕ → Option Heard
+heard_in b = cond (packets_stand b) (Some (heard_of (entry_in b))) None

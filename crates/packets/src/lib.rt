@@ -15,10 +15,10 @@ use transcript::Entry;
 // The read of page 0x0a, register 0x01, as a number of eight bytes, low byte first.
 const SYNC: u64 = 0x0001_000a_0120_00c0;
 
-fn wide(x: u8) -> u64
-    ensures { (result ≡ x) × (result < 256) }
+fn is_read(k: u8) -> bool
+    ensures { result ≡ is_read k }
 {
-    x as u64
+    (k == transcript::I2C_READ) | (k == transcript::READ)
 }
 
 fn is_demod(k: u8) -> bool
@@ -30,10 +30,7 @@ fn is_demod(k: u8) -> bool
 fn type_of(k: u8) -> u64
     ensures { (result ≡ type_of k) × (result < 256) }
 {
-    if (k == transcript::I2C_READ) | (k == transcript::READ) {
-        return 0xc0;
-    }
-    0x40
+    if is_read(k) { 0xc0 } else { 0x40 }
 }
 
 fn value_of(e: Entry) -> u64
@@ -43,7 +40,7 @@ fn value_of(e: Entry) -> u64
         return (e.address as u64) * 256 + 0x20;
     }
     if (e.kind == transcript::I2C_WRITE) | (e.kind == transcript::I2C_READ) {
-        return wide(e.target);
+        return e.target as u64;
     }
     e.address as u64
 }
@@ -52,10 +49,7 @@ fn value_of(e: Entry) -> u64
 fn write_bit(k: u8) -> u64
     ensures { (result ≡ cond (is_read k) 0 0x10) × (result ≤ 16) }
 {
-    if (k == transcript::I2C_READ) | (k == transcript::READ) {
-        return 0;
-    }
-    0x10
+    if is_read(k) { 0 } else { 0x10 }
 }
 
 fn index_of(e: Entry) -> u64
@@ -63,12 +57,12 @@ fn index_of(e: Entry) -> u64
 {
     let write = write_bit(e.kind);
     if is_demod(e.kind) {
-        return wide(e.target) + write;
+        return (e.target as u64) + write;
     }
     if (e.kind == transcript::I2C_WRITE) | (e.kind == transcript::I2C_READ) {
         return 0x600 + write;
     }
-    wide(e.target) * 256 + write
+    (e.target as u64) * 256 + write
 }
 
 // The setup packet's eight bytes as a number.
@@ -78,33 +72,21 @@ fn setup_of(e: Entry) -> u64
     type_of(e.kind)
         + value_of(e) % 0x1_0000 * 0x1_0000
         + index_of(e) * 0x1_0000_0000
-        + wide(e.n) * 0x1_0000_0000_0000
+        + (e.n as u64) * 0x1_0000_0000_0000
 }
 
 // How many data bytes stand after the setup packet: a read has none.
 fn sent_by(k: u8, n: u8) -> usize
     ensures { (result ≡ sent_by k n) × (result ≤ n) }
 {
-    if (k == transcript::I2C_READ) | (k == transcript::READ) {
-        return 0;
-    }
-    n as usize
+    if is_read(k) { 0 } else { n as usize }
 }
 
 // How many bytes the read of page 0x0a has after a transfer.
 fn followed_by(k: u8, outcome: u8) -> usize
     ensures { (result ≡ cond (is_demod k && eqb outcome 0) 8 0) × (result ≤ 8) }
 {
-    if is_demod(k) & (outcome == 0) {
-        return 8;
-    }
-    0
-}
-
-fn picked(first: bool, a: u8, b: u8) -> u8
-    ensures { result ≡ cond first a b }
-{
-    if first { a } else { b }
+    if is_demod(k) & (outcome == 0) { 8 } else { 0 }
 }
 
 // A repeater entry as the demod write that src/device.rs makes of it; any other as it is.
@@ -114,15 +96,14 @@ fn became(e: Entry) -> Entry
     if e.kind != transcript::REPEATER {
         return e;
     }
-    let mut image = [0u8; 8];
-    image[0] = picked(e.bytes[0] == 0, 0x10, 0x18);
+    let value = if e.bytes[0] == 0 { 0x10 } else { 0x18 };
     Entry {
         kind: transcript::DEMOD,
-        outcome: e.outcome,
         target: 1,
         n: 1,
         address: 1,
-        bytes: image,
+        bytes: [value, 0, 0, 0, 0, 0, 0, 0],
+        ..e
     }
 }
 
@@ -199,39 +180,45 @@ fn named(w: u64) -> Entry
     let high = (w / 0x100_0000_0000 % 256) as u8;
     let n = (w / 0x1_0000_0000_0000 % 256) as u8;
     if high == 0 {
-        return step(
-            picked(n == 1, transcript::DEMOD, transcript::DEMOD16),
-            (w / 0x1_0000_0000 % 256 % 16) as u8,
-            n,
-            value / 256,
-        );
+        let kind = if n == 1 {
+            transcript::DEMOD
+        } else {
+            transcript::DEMOD16
+        };
+        let page = (w / 0x1_0000_0000 % 256 % 16) as u8;
+        return step(kind, page, n, value / 256);
     }
     if high == 6 {
-        return step(
-            picked(write, transcript::I2C_WRITE, transcript::I2C_READ),
-            (value % 256) as u8,
-            n,
-            0,
-        );
+        let kind = if write {
+            transcript::I2C_WRITE
+        } else {
+            transcript::I2C_READ
+        };
+        return step(kind, (value % 256) as u8, n, 0);
     }
-    let sized = picked(n == 1, transcript::BLOCK, transcript::BLOCK16);
-    step(picked(write, sized, transcript::READ), high, n, value)
+    let kind = if !write {
+        transcript::READ
+    } else if n == 1 {
+        transcript::BLOCK
+    } else {
+        transcript::BLOCK16
+    };
+    step(kind, high, n, value)
 }
 
 // Document 01's table: how many bytes a kind has.
 fn in_table(k: u8, n: u8) -> bool
-    requires { k < 10 }
     ensures { result ≡ in_table k n }
 {
     match k {
-        1 => (1 <= n) & (n <= 1),
-        2 => (1 <= n) & (n <= 8),
-        3 => (1 <= n) & (n <= 5),
-        4 => (1 <= n) & (n <= 1),
-        5 => (2 <= n) & (n <= 2),
-        6 => (1 <= n) & (n <= 1),
-        7 => (2 <= n) & (n <= 2),
-        8 => (1 <= n) & (n <= 1),
+        transcript::REPEATER => (1 <= n) & (n <= 1),
+        transcript::I2C_WRITE => (1 <= n) & (n <= 8),
+        transcript::I2C_READ => (1 <= n) & (n <= 5),
+        transcript::DEMOD => (1 <= n) & (n <= 1),
+        transcript::DEMOD16 => (2 <= n) & (n <= 2),
+        transcript::BLOCK => (1 <= n) & (n <= 1),
+        transcript::BLOCK16 => (2 <= n) & (n <= 2),
+        transcript::READ => (1 <= n) & (n <= 1),
         _ => (0 <= n) & (n <= 0),
     }
 }
@@ -252,26 +239,14 @@ fn sync_len(k: u8, s: &[u8], at: usize) -> usize
     requires { at ≤ length s.now }
     ensures { (result ≡ cond (is_demod k && sync_in (drop at s.now)) 8 0) × (result ≤ 8) }
 {
-    if is_demod(k) & sync_at(s, at) {
-        return 8;
-    }
-    0
+    if is_demod(k) & sync_at(s, at) { 8 } else { 0 }
 }
 
-// An entry that packets begin with, and how many bytes its packets have; 0 where there are none.
+// An entry that packets begin with, and how many bytes its packets have.
 #[derive(Clone, Copy)]
 pub struct Heard {
     pub entry: Entry,
     pub size: usize,
-}
-
-fn nothing() -> Heard
-    ensures { result ≡ Rattle.packets.specs.Heard.nothing }
-{
-    Heard {
-        entry: step(0, 0, 0, 0),
-        size: 0,
-    }
 }
 
 // The entry with its data, which stand after its setup packet from `at`.
@@ -279,40 +254,37 @@ fn with_data(e: Entry, s: &[u8], at: usize, sent: usize) -> Heard
     requires { (sent ≤ 8) × (at + 8 + sent ≤ length s.now) }
     ensures { result ≡ heard_with e sent (drop at s.now) }
 {
-    let mut image = [0u8; 8];
+    let mut bytes = [0u8; 8];
     let end = at + 8 + sent;
-    wire::copy(&mut image, 0, &s[at + 8..end]);
+    wire::copy(&mut bytes, 0, &s[at + 8..end]);
     let behind = sync_len(e.kind, s, end);
     Heard {
         entry: Entry {
-            kind: e.kind,
             outcome: 0,
-            target: e.target,
-            n: e.n,
-            address: e.address,
-            bytes: image,
+            bytes,
+            ..e
         },
         size: 8 + sent + behind,
     }
 }
 
 // The entry that the bytes from `at` begin with.
-pub fn hear(s: &[u8], at: usize) -> Heard
+pub fn hear(s: &[u8], at: usize) -> Option<Heard>
     requires { at ≤ length s.now }
     ensures { result ≡ heard_in (drop at s.now) }
 {
     let left = s.len() - at;
     if left < 8 {
-        return nothing();
+        return None;
     }
     let w = wire::eight(s, at);
     let e = named(w);
     let sent = sent_by(e.kind, e.n);
     if !(in_table(e.kind, e.n) & (setup_of(e) == w)) {
-        return nothing();
+        return None;
     }
     if left < 8 + sent {
-        return nothing();
+        return None;
     }
-    with_data(e, s, at, sent)
+    Some(with_data(e, s, at, sent))
 }

@@ -138,13 +138,14 @@ lies s a k h =
     let g = sound s f.0 in
     (omega (arith, f.1.1, g.most), omega (arith, f.1.0, f.1.1, g.long, g.room))
 
-dropped : (b : Bool) (t : Section) → None ≡ cond b (Some t) None → b ≡ false
-dropped true t h = absurd cc
-dropped false t h = refl
+-- std's cond_some of the other case
+pub cond_none : {A : Type 0} (b : Bool) (x : A) → None ≡ cond b (Some x) None → b ≡ false
+cond_none true x h = absurd cc
+cond_none false x h = refl
 
 pub unread : (s : List ℕ) → None ≡ section_of s → is_section s ≡ false
 unfolding section_of
-unread s h = dropped (is_section s) (section_at (start_of s) (count_of s)) h
+unread s h = cond_none (is_section s) (section_at (start_of s) (count_of s)) h
 
 pub no_entries : (s : List ℕ) → None ≡ section_of s → [] ≡ entries_of s
 unfolding entries_of

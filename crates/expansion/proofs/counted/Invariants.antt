@@ -8,8 +8,9 @@ use Rattle.expansion.proofs.counted.Given as goal
 
 abbrev pub invariant-loop-at : goal.invariant-loop-at
 invariant-loop-at l = (l.i ≤ 4096)
-    × ((l.at ≤ length l.b)
-    × ((all_heard (4096 - l.i) (drop l.at l.b) ≡ all_heard 4096 l.b) × (l.i + length (heard_entries (4096 - l.i) (drop l.at l.b)) ≡ length (heard_entries 4096 l.b))))
+    × (l.at ≤ length l.b)
+    × (all_heard (4096 - l.i) (drop l.at l.b) ≡ all_heard 4096 l.b)
+    × (l.i + length (heard_entries (4096 - l.i) (drop l.at l.b)) ≡ length (heard_entries 4096 l.b))
 
 abbrev pub decreases-loop-at : goal.decreases-loop-at
 decreases-loop-at l = length l.b - l.at

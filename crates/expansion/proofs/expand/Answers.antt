@@ -25,7 +25,7 @@ pub returns-then-out-size : goal.returns-then-out-size
 returns-then-out-size c =
     let args = c.args in
     too_short args.section.now args.out.now _ _ (sym c.in-Some.is ∙ c.read_section.ensures) _
-    (sym c.in-Is.is ∙ c.measured.ensures) (omega arith)
+    (sym c.in-Some-measured.is ∙ c.measured.ensures) (omega arith)
 
 pub write_packets-requires : goal.write_packets-requires
 write_packets-requires c =
@@ -35,11 +35,11 @@ write_packets-requires c =
     let out = args.out.now in
     let r = ready section out _ _ (sym c.in-Some.is ∙ read-section.ensures) in
     let k =
-    sized section out _ _ (sym c.in-Some.is ∙ read-section.ensures) _ (sym c.in-Is.is ∙ c.measured.ensures) in
+    sized section out _ _ (sym c.in-Some.is ∙ read-section.ensures) _ (sym c.in-Some-measured.is ∙ c.measured.ensures) in
     (r.0, r.1, r.2, omega (arith, k.1))
 
 pub returns : goal.returns
 returns c =
     let args = c.args in
     written args.section.now args.out.now _ _ (sym c.in-Some.is ∙ c.read_section.ensures) _
-    (sym c.in-Is.is ∙ c.measured.ensures) _ (omega arith) c.write_packets.ensures
+    (sym c.in-Some-measured.is ∙ c.measured.ensures) _ (omega arith) c.write_packets.ensures

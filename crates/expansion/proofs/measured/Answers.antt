@@ -15,7 +15,7 @@ pub loop-i-init : goal.loop-i-init
 loop-i-init c =
     let args = c.args in
     let the-left-all = left_all args.s.now args.start args.count in
-    (omega arith, (omega arith, (ap all_expand the-left-all, ap (λ (es : List Entry). 0 + length (expanded es)) the-left-all ∙ omega arith)))
+    (omega arith, ap all_expand the-left-all, ap (λ (es : List Entry). 0 + length (expanded es)) the-left-all ∙ omega arith)
 
 pub returns-then-not-expands : goal.returns-then-not-expands
 returns-then-not-expands c =
@@ -23,7 +23,7 @@ returns-then-not-expands c =
     let get = c.get-e in
     let l = c.loop-i in
     let args = c.args in
-    refused args.s.now args.start args.count l.i l.invariant.1.1.0
+    refused args.s.now args.start args.count l.i l.invariant.1
     (stops args.s.now args.start args.count l.i (omega arith) get.result get.ensures expands.result expands.ensures
     (c.if-not-expands.true))
 
@@ -42,7 +42,7 @@ overflow_add-size c =
     let w =
     within args.s.now args.start args.count loop.i (omega arith) get.result get.ensures expands.result c.size-size.result (search rules)
     expands.ensures (c.if-not-expands.false) c.size-size.ensures in
-    record { fits = omega (arith, w, loop.invariant.1.0) }
+    record { fits = omega (arith, w, loop.invariant.0) }
 
 pub loop-i-preserved : goal.loop-i-preserved
 loop-i-preserved c =
@@ -55,19 +55,13 @@ loop-i-preserved c =
     within args.s.now args.start args.count l.i (omega arith) e.result e.ensures expands.result c.size-size.result (search rules)
     expands.ensures yes c.size-size.ensures in
     let g = grows args.s.now args.start args.count l.i (omega arith) e.result e.ensures c.size-size.result c.size-size.ensures in (
-      omega arith,
-      (
-        omega (arith, w, l.invariant.1.0),
-        (
-          goes args.s.now args.start args.count l.i (omega arith) e.result e.ensures expands.result expands.ensures yes
-              ∙ l.invariant.1.1.0,
-          omega (arith, g, l.invariant.1.1.1),
-        ),
-      ),
+      omega (arith, w, l.invariant.0),
+      goes args.s.now args.start args.count l.i (omega arith) e.result e.ensures expands.result expands.ensures yes ∙ l.invariant.1,
+      omega (arith, g, l.invariant.2),
     )
 
 pub returns : goal.returns
 returns c =
     let l = c.loop-i in
     let args = c.args in
-    ended args.s.now args.start args.count l.i l.size (omega arith) l.invariant.1.1.0 l.invariant.1.1.1
+    ended args.s.now args.start args.count l.i l.size (omega arith) l.invariant.1 l.invariant.2

@@ -17,14 +17,9 @@ pub loop-i-init : goal.loop-i-init
 loop-i-init c =
     let args = c.args in
     let the-left-all = left_all args.s.now args.start args.count in (
-      omega arith,
-      (
-        refl,
-        (
-          ap (λ (es : List Entry). 0 + length (expanded es)) the-left-all ∙ omega arith,
-          ap (λ (es : List Entry). sets args.out.now 0 (expanded es)) the-left-all,
-        ),
-      ),
+      refl,
+      ap (λ (es : List Entry). 0 + length (expanded es)) the-left-all ∙ omega arith,
+      ap (λ (es : List Entry). sets args.out.now 0 (expanded es)) the-left-all,
     )
 
 pub put-requires : goal.put-requires
@@ -36,8 +31,8 @@ put-requires c =
       omega (
         arith,
         grows args.s.now args.start args.count l.i (omega arith) e.result e.ensures (length (packets_of e.result)) refl,
-        l.invariant.1.0,
-        l.invariant.1.1.0,
+        l.invariant.0,
+        l.invariant.1,
       ),
     )
 
@@ -56,8 +51,8 @@ overflow_add-at c =
       fits = omega (
         arith,
         grows args.s.now args.start args.count l.i (omega arith) e.result e.ensures c.size-at.result c.size-at.ensures,
-        l.invariant.1.0,
-        l.invariant.1.1.0,
+        l.invariant.0,
+        l.invariant.1,
       );
     }
 
@@ -67,24 +62,19 @@ loop-i-preserved c =
     let e = c.get-e in
     let l = c.loop-i in
     let args = c.args in (
-      omega arith,
-      (
-        ap length put.ensures ∙ length-sets l.out l.at (packets_of e.result) ∙ l.invariant.1.0,
-        (
-          omega (
-            arith,
-            grows args.s.now args.start args.count l.i (omega arith) e.result e.ensures c.size-at.result c.size-at.ensures,
-            l.invariant.1.1.0,
-          ),
-          stores args.s.now args.start args.count l.i (omega arith) e.result e.ensures l.out _ l.at c.size-at.result put.ensures
-              c.size-at.ensures
-              ∙ l.invariant.1.1.1,
-        ),
+      ap length put.ensures ∙ length-sets l.out l.at (packets_of e.result) ∙ l.invariant.0,
+      omega (
+        arith,
+        grows args.s.now args.start args.count l.i (omega arith) e.result e.ensures c.size-at.result c.size-at.ensures,
+        l.invariant.1,
       ),
+      stores args.s.now args.start args.count l.i (omega arith) e.result e.ensures l.out _ l.at c.size-at.result put.ensures
+          c.size-at.ensures
+          ∙ l.invariant.2,
     )
 
 pub returns : goal.returns
 returns c =
     let l = c.loop-i in
     let args = c.args in
-    stored args.s.now args.start args.count l.i l.at l.out (omega arith) ∙ l.invariant.1.1.1
+    stored args.s.now args.start args.count l.i l.at l.out (omega arith) ∙ l.invariant.2

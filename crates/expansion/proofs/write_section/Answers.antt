@@ -1,116 +1,51 @@
 -- `expansion::write_section` meets its contract. The loop's invariant: the entries of the bytes left, stored after what was stored, leave what all entries leave; then the trailer.
 -- Assumes nothing.
 use Prim.Native.Nat.{◌*◌}
-use mathlib.Core.Path.{refl, ap, ◌∙◌}
+use mathlib.Core.Path.{sym, ap, ◌∙◌}
 use native.Mathlib.Omega.{arith}
 use lib.ListN.{length, drop}
 use lib.Seq.{length-sets}
 use Rattle.transcript.specs.Entries.{entry_bytes}
 use Rattle.packets.specs.declared.Heard.{Heard}
-use Rattle.expansion.proofs.Hearing.{heard_so, not_full, stands_there, inside, heard_on, count_on, entry_stored, sealed}
-use borrow.Author.Rules.{rules}
+use Rattle.expansion.proofs.Hearing.{entry_stored, none_left, sealed, turn_of_all, unheard}
 use Rattle.expansion.proofs.write_section.Goals as goal
-
-pub loop-at-init : goal.loop-at-init
-loop-at-init c = (omega arith, (omega arith, (refl, (search rules, (omega arith, refl)))))
-
-pub overflow_mul-i : goal.overflow_mul-i
-overflow_mul-i c =
-    let h = c.hear-h in
-    let l = c.loop-at in
-    let all = l.invariant.1.1.1.0 in
-    let args = c.args in
-    let less = not_full args.b.now l.at l.i (omega arith) l.invariant.0 all in
-    let s = stands_there args.b.now l.at l.i (omega arith) less all in
-    let g = heard_so (drop l.at args.b.now) h.result h.ensures s in
-    let z = ap (λ (u : Heard). u.size) g in
-    let n = inside args.b.now l.at l.i (omega arith) less s h.result.size z in
-    let more = count_on args.b.now l.at l.i (omega arith) less s h.result.size z in
-    record { fits = omega (arith, less) }
 
 pub put-requires : goal.put-requires
 put-requires c =
-    let h = c.hear-h in
-    let l = c.loop-at in
-    let all = l.invariant.1.1.1.0 in
-    let args = c.args in
-    let less = not_full args.b.now l.at l.i (omega arith) l.invariant.0 all in
-    let s = stands_there args.b.now l.at l.i (omega arith) less all in
-    let g = heard_so (drop l.at args.b.now) h.result h.ensures s in
-    let z = ap (λ (u : Heard). u.size) g in
-    let n = inside args.b.now l.at l.i (omega arith) less s h.result.size z in
-    let more = count_on args.b.now l.at l.i (omega arith) less s h.result.size z in
-    omega (arith, more, l.invariant.1.1.0, l.invariant.1.1.1.1.0)
+    let l = c.loop-h in
+    let t = turn_of_all c.args.b.now l.at l.i c.in-Some.h (sym c.in-Some.is ∙ c.hear.ensures) (omega arith) l.invariant.3 in
+    omega (arith, t.count, l.invariant.2, l.invariant.4)
 
 pub overflow_add-at : goal.overflow_add-at
 overflow_add-at c =
-    let h = c.hear-h in
-    let l = c.loop-at in
-    let all = l.invariant.1.1.1.0 in
-    let args = c.args in
-    let less = not_full args.b.now l.at l.i (omega arith) l.invariant.0 all in
-    let s = stands_there args.b.now l.at l.i (omega arith) less all in
-    let g = heard_so (drop l.at args.b.now) h.result h.ensures s in
-    let z = ap (λ (u : Heard). u.size) g in
-    let n = inside args.b.now l.at l.i (omega arith) less s h.result.size z in
-    let more = count_on args.b.now l.at l.i (omega arith) less s h.result.size z in
-    record { fits = omega (arith, n.1) }
+    let l = c.loop-h in
+    let t = turn_of_all c.args.b.now l.at l.i c.in-Some.h (sym c.in-Some.is ∙ c.hear.ensures) (omega arith) l.invariant.3 in
+    record { fits = omega (arith, t.within) }
 
-pub overflow_add-i : goal.overflow_add-i
-overflow_add-i c =
-    record { fits = omega (arith, c.loop-at.invariant.0) }
+pub loop-h-smaller : goal.loop-h-smaller
+loop-h-smaller c =
+    let l = c.loop-h in
+    let t = turn_of_all c.args.b.now l.at l.i c.in-Some.h (sym c.in-Some.is ∙ c.hear.ensures) (omega arith) l.invariant.3 in
+    omega (arith, t.eight, t.within)
 
-pub loop-at-smaller : goal.loop-at-smaller
-loop-at-smaller c =
-    let h = c.hear-h in
-    let l = c.loop-at in
-    let all = l.invariant.1.1.1.0 in
-    let args = c.args in
-    let less = not_full args.b.now l.at l.i (omega arith) l.invariant.0 all in
-    let s = stands_there args.b.now l.at l.i (omega arith) less all in
-    let g = heard_so (drop l.at args.b.now) h.result h.ensures s in
-    let z = ap (λ (u : Heard). u.size) g in
-    let n = inside args.b.now l.at l.i (omega arith) less s h.result.size z in
-    let more = count_on args.b.now l.at l.i (omega arith) less s h.result.size z in
-    omega (arith, n.0, n.1)
-
-pub loop-at-preserved : goal.loop-at-preserved
-loop-at-preserved c =
-    let put = c.put in
-    let h = c.hear-h in
-    let size = h.result.size in
-    let l = c.loop-at in
-    let all = l.invariant.1.1.1.0 in
-    let args = c.args in
-    let less = not_full args.b.now l.at l.i (omega arith) l.invariant.0 all in
-    let s = stands_there args.b.now l.at l.i (omega arith) less all in
-    let g = heard_so (drop l.at args.b.now) h.result h.ensures s in
-    let z = ap (λ (u : Heard). u.size) g in
-    let n = inside args.b.now l.at l.i (omega arith) less s size z in
-    let more = count_on args.b.now l.at l.i (omega arith) less s size z in (
-      omega (arith, less),
-      (
-        n.1,
-        (
-          ap length put.ensures ∙ length-sets l.out (16 * l.i) (entry_bytes h.result.entry) ∙ l.invariant.1.1.0,
-          (
-            heard_on args.b.now l.at l.i (omega arith) less s size z ∙ all,
-            (
-              omega (arith, more, l.invariant.1.1.1.1.0),
-              entry_stored args.b.now l.at l.i (omega arith) less s size z l.out _ h.result.entry (ap (λ (u : Heard). u.entry) g)
-                  put.ensures
-                  ∙ l.invariant.1.1.1.1.1,
-            ),
-          ),
-        ),
-      ),
+pub loop-h-preserved : goal.loop-h-preserved
+loop-h-preserved c =
+    let l = c.loop-h in
+    let h = c.in-Some.h in
+    let b = c.args.b.now in
+    let t = turn_of_all b l.at l.i h (sym c.in-Some.is ∙ c.hear.ensures) (omega arith) l.invariant.3 in (
+      omega (arith, t.less),
+      t.within,
+      ap length c.put.ensures ∙ length-sets l.out (16 * l.i) (entry_bytes h.entry) ∙ l.invariant.2,
+      t.all ∙ l.invariant.3,
+      t.count ∙ l.invariant.4,
+      entry_stored b l.at l.i t.here t.less t.stands h.size (ap (λ (u : Heard). u.size) t.entry) l.out _ h.entry (ap (λ (u : Heard). u.entry) t.entry) c.put.ensures
+          ∙ l.invariant.5,
     )
-
-pub seal-requires : goal.seal-requires
-seal-requires c = let l = c.loop-at in (l.invariant.0, omega (arith, l.invariant.1.1.0, l.invariant.1.1.1.1.0))
 
 pub returns : goal.returns
 returns c =
-    let l = c.loop-at in
-    let args = c.args in
-    sealed args.b.now l.at l.i args.out.now l.out _ (omega arith) l.invariant.1.1.1.1.0 l.invariant.1.1.1.1.1 c.seal.ensures
+    let l = c.loop-h in
+    let b = c.args.b.now in
+    let end = none_left b l.at l.i (omega arith) l.invariant.3 (unheard (drop l.at b) (sym c.in_default.is ∙ c.hear.ensures)) in
+    sealed b l.at l.i c.args.out.now l.out _ end l.invariant.4 l.invariant.5 c.seal.ensures

@@ -11,13 +11,13 @@ use Rattle.transcript.specs.Sections.{entries_bytes}
 use Rattle.expansion.specs.Expansion.{all_heard, heard_entries}
 use Rattle.expansion.proofs.write_section.Given as goal
 
-abbrev pub invariant-loop-at : goal.invariant-loop-at
-invariant-loop-at l = (l.i ≤ 4096)
-    × ((l.at ≤ length l.b)
-    × ((length l.out ≡ length l.initial.out)
-    × ((all_heard (4096 - l.i) (drop l.at l.b) ≡ true)
-    × ((l.i + length (heard_entries (4096 - l.i) (drop l.at l.b)) ≡ length (heard_entries 4096 l.b))
-    × (sets l.out (16 * l.i) (entries_bytes (map bare (heard_entries (4096 - l.i) (drop l.at l.b)))) ≡ sets l.initial.out 0 (entries_bytes (map bare (heard_entries 4096 l.b))))))))
+abbrev pub invariant-loop-h : goal.invariant-loop-h
+invariant-loop-h l = (l.i ≤ 4096)
+    × (l.at ≤ length l.b)
+    × (length l.out ≡ length l.initial.out)
+    × (all_heard (4096 - l.i) (drop l.at l.b) ≡ true)
+    × (l.i + length (heard_entries (4096 - l.i) (drop l.at l.b)) ≡ length (heard_entries 4096 l.b))
+    × (sets l.out (16 * l.i) (entries_bytes (map bare (heard_entries (4096 - l.i) (drop l.at l.b)))) ≡ sets l.initial.out 0 (entries_bytes (map bare (heard_entries 4096 l.b))))
 
-abbrev pub decreases-loop-at : goal.decreases-loop-at
-decreases-loop-at l = length l.b - l.at
+abbrev pub decreases-loop-h : goal.decreases-loop-h
+decreases-loop-h l = length l.b - l.at

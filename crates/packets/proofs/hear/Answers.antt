@@ -1,22 +1,17 @@
 -- `packets::hear` meets its contract: each return is one case of `heard_in`.
 -- Assumes nothing.
-use mathlib.Core.Path.{◌∙◌}
+use mathlib.Core.Path.{ap, ◌∙◌}
+use Rattle.std.specs.Prelude.{Some}
+use Rattle.packets.specs.declared.Heard.{Heard}
 use native.Mathlib.Omega.{arith}
 use lib.ListN.{drop, length-drop}
-use Rattle.packets.proofs.Reading.{heard_short, heard_other, heard_cut, heard_told, few, row}
+use Rattle.packets.proofs.Reading.{heard_short, heard_other, heard_cut, heard_told, few}
 use Rattle.packets.proofs.hear.Goals as goal
 
 pub returns-then-left-lt8 : goal.returns-then-left-lt8
 returns-then-left-lt8 c =
     let args = c.args in
-    c.nothing.ensures ∙ heard_short (drop args.at args.s.now) (omega (arith, length-drop args.at args.s.now))
-
-pub in_table-requires : goal.in_table-requires
-in_table-requires c =
-    let named = c.named-e in
-    let eight = c.eight-w in
-    let args = c.args in
-    row (drop args.at args.s.now) eight.result named.result eight.ensures named.ensures c.sent_by-sent.result c.sent_by-sent.ensures.0
+    heard_short (drop args.at args.s.now) (omega (arith, length-drop args.at args.s.now))
 
 pub returns-then-not-in_table-setup_of : goal.returns-then-not-in_table-setup_of
 returns-then-not-in_table-setup_of c =
@@ -26,8 +21,7 @@ returns-then-not-in_table-setup_of c =
     let named = c.named-e in
     let eight = c.eight-w in
     let args = c.args in
-    c.nothing-then-not-in_table-setup_of.ensures
-    ∙ heard_other (drop args.at args.s.now) eight.result named.result eight.ensures named.ensures sent-by.result sent-by.ensures.0
+    heard_other (drop args.at args.s.now) eight.result named.result eight.ensures named.ensures sent-by.result sent-by.ensures.0
     in_table.result setup-of.result in_table.ensures setup-of.ensures (c.if-not-in_table-setup_of.true)
 
 pub returns-then-left-sent : goal.returns-then-left-sent
@@ -36,8 +30,7 @@ returns-then-left-sent c =
     let named = c.named-e in
     let eight = c.eight-w in
     let args = c.args in
-    c.nothing-then-left-sent.ensures
-    ∙ heard_cut (drop args.at args.s.now) eight.result named.result eight.ensures named.ensures sent-by.result sent-by.ensures.0
+    heard_cut (drop args.at args.s.now) eight.result named.result eight.ensures named.ensures sent-by.result sent-by.ensures.0
     (omega (arith, length-drop args.at args.s.now))
 
 pub with_data-requires : goal.with_data-requires
@@ -60,7 +53,7 @@ returns c =
     let named = c.named-e in
     let eight = c.eight-w in
     let args = c.args in
-    c.with_data.ensures
+    ap (λ (h : Heard). Some h) c.with_data.ensures
     ∙ heard_told (drop args.at args.s.now) eight.result named.result eight.ensures named.ensures sent-by.result sent-by.ensures.0
     in_table.result setup-of.result in_table.ensures setup-of.ensures (c.if-not-in_table-setup_of.false)
     (omega (arith, length-drop args.at args.s.now)) (omega (arith, length-drop args.at args.s.now))

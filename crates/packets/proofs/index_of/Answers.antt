@@ -9,8 +9,8 @@ pub returns-then-is_demod : goal.returns-then-is_demod
 returns-then-is_demod c =
     let write-bit = c.write_bit-write in
     let e = c.args.e in (
-      rw (c.wide.ensures.0, write-bit.ensures.0) (index_demod e (sym c.is_demod.ensures ∙ c.if-is_demod.true)),
-      omega (arith, c.wide.ensures.1, write-bit.ensures.1),
+      rw write-bit.ensures.0 (index_demod e (sym c.is_demod.ensures ∙ c.if-is_demod.true)),
+      omega (arith, write-bit.ensures.1),
     )
 
 pub returns-then-e : goal.returns-then-e
@@ -23,6 +23,6 @@ pub returns : goal.returns
 returns c =
     let write-bit = c.write_bit-write in
     let e = c.args.e in (
-      rw (c.wide-2.ensures.0, write-bit.ensures.0) (index_block e (sym c.is_demod.ensures ∙ c.if-is_demod.false) c.if-e.false),
-      omega (arith, c.wide-2.ensures.1, write-bit.ensures.1),
+      rw write-bit.ensures.0 (index_block e (sym c.is_demod.ensures ∙ c.if-is_demod.false) c.if-e.false),
+      omega (arith, write-bit.ensures.1),
     )

@@ -1,7 +1,6 @@
 -- `packets::value_of` meets its contract: each return is one case of the value.
 -- Assumes nothing.
 use mathlib.Core.Path.{sym, ◌∙◌}
-use native.Mathlib.Omega.{arith}
 use Rattle.packets.proofs.Written.{value_demod, value_i2c, value_block}
 use borrow.Author.Rules.{rules}
 use Rattle.packets.proofs.value_of.Goals as goal
@@ -12,8 +11,8 @@ returns-then-is_demod c =
 
 pub returns-then-e : goal.returns-then-e
 returns-then-e c = (
-  c.wide.ensures.0 ∙ value_i2c c.args.e (sym c.is_demod.ensures ∙ c.if-is_demod.false) c.if-e.true,
-  omega (arith, c.wide.ensures.1),
+  value_i2c c.args.e (sym c.is_demod.ensures ∙ c.if-is_demod.false) c.if-e.true,
+  search rules,
 )
 
 pub returns : goal.returns
