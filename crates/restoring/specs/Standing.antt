@@ -1,7 +1,7 @@
 -- Where sections left a chip's registers, as the walk from their end gathers it, and the call. Document 02, #110: "all we keep is where the chip ended".
 -- What the list is stands in crates/restore/specs/Restore.antt.
 -- Assumes nothing.
-use Rattle.std.specs.Prelude.{ℕ, zero, suc, Bool, cond, ◌&&◌, List, [], ◌∷◌, eqb, leb, ltb, length, get_or}
+use Rattle.std.specs.Prelude.{ℕ, zero, suc, Bool, cond, ◌&&◌, List, [], ◌∷◌, eqb, leb, ltb, length, get_or, Option, None, Some}
 use Rattle.transcript.specs.declared.Entry.{Entry}
 use Rattle.attempts.specs.Attempts.{Last, last_in}
 use Rattle.attempts.specs.Namings.Last.{Never, Tried}
@@ -62,9 +62,9 @@ unfoldable pub held_of : List ℕ → List ℕ → ℕ → ℕ
 held_of marks sent r = cond (sure_of marks r) (get_or sent r 0) 0
 
 -- the first sure register from i on, in at most n steps
-unfoldable pub next_sure : (ℕ → Bool) → ℕ → ℕ → ℕ
-next_sure sure zero i = i
-next_sure sure (suc n) i = cond (sure i) i (next_sure sure n (suc i))
+unfoldable pub next_sure : (ℕ → Bool) → ℕ → ℕ → Option ℕ
+next_sure sure zero i = None
+next_sure sure (suc n) i = cond (sure i) (Some i) (next_sure sure n (suc i))
 
 -- "Refusals: 12 for any section, then 8 for the list itself, output unchanged." The value is how many bytes were written.
 unfoldable pub restore_into : List ℕ → ℕ → List ℕ → Given

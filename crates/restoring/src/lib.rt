@@ -18,24 +18,10 @@ use transcript::{Entry, Section};
 // What is told of registers 0x00 to 0x1f stands in two arrays that the walk lends on. A mark: the last attempt was in vain (1) or done (2), 0 where
 // nothing is told yet. And the byte that was sent.
 
-fn wide(x: u8) -> usize
-    ensures { (result ≡ x) × (result < 256) }
-{
-    x as usize
-}
-
 pub fn mark_of(ok: bool) -> u8
     ensures { result ≡ mark_of ok }
 {
     if ok { 2 } else { 1 }
-}
-
-// The register that the j-th byte after the first is for. Numbers past 0xff do not wrap: they are registers that no chip has.
-fn upward(first: usize, j: usize) -> usize
-    requires { (first < 256) × (j < 8) }
-    ensures { result ≡ first + j }
-{
-    first + j
 }
 
 // One register more that a write named. What is told already is newer.
@@ -68,13 +54,11 @@ pub fn noted(e: Entry, address: u8, marks: &mut [u8], sent: &mut [u8])
         return;
     }
     let mark = mark_of(e.outcome == 0);
-    let n = wide(e.n);
     let bytes = e.bytes;
-    let first = wide(bytes[0]);
-    let mut j: usize = 0;
-    while j + 1 < n {
-        marked(upward(first, j), mark, bytes[j + 1], marks, sent);
-        j += 1;
+    let first = bytes[0] as usize;
+    // Numbers past 0xff do not wrap: they are registers that no chip has.
+    for j in 1..e.n as usize {
+        marked(first + j - 1, mark, bytes[j], marks, sent);
     }
 }
 
@@ -85,9 +69,7 @@ fn noted_all(s: &[u8], start: usize, count: usize, address: u8, marks: &mut [u8]
     ensures { known_all marks.new sent.new
         ≡ over (known_in address (entries_in count (drop start s.now))) 0 (known_all marks.old sent.old) }
 {
-    let mut i = count;
-    while 0 < i {
-        i -= 1;
+    for i in (0..count).rev() {
         let e = Entry::get(s, start + 16 * i);
         noted(e, address, marks, sent);
     }
@@ -121,19 +103,16 @@ fn sure(marks: &[u8], r: usize) -> bool
     marks[r] == 2
 }
 
-// The next register that is sure, from i on; 32 or more where there is none.
-fn next_sure(marks: &[u8], i: usize) -> usize
-    requires { i ≤ 64 }
+// The next register that is sure, from i on.
+fn next_sure(marks: &[u8], i: usize) -> Option<usize>
     ensures { result ≡ next_sure (sure_of marks.now) (32 - i) i }
 {
-    let mut r = i;
-    while r < 32 {
+    for r in i..32 {
         if sure(marks, r) {
-            return r;
+            return Some(r);
         }
-        r += 1;
     }
-    r
+    None
 }
 
 // How many registers a run from i on has: seven at most.
@@ -141,18 +120,16 @@ fn run_len(marks: &[u8], i: usize) -> usize
     requires { i < 32 }
     ensures { result ≡ run_len (sure_of marks.now) 7 i }
 {
-    let mut k: usize = 0;
-    while k < 7 {
+    for k in 0..7 {
         if !sure(marks, i + k) {
             return k;
         }
-        k += 1;
     }
-    k
+    7
 }
 
 // The byte that a sure register was left with; else 0.
-fn byte_held<'a>(marks: &'a [u8], sent: &'a [u8], r: usize) -> u8
+fn byte_held(marks: &[u8], sent: &[u8], r: usize) -> u8
     ensures { result ≡ held_of marks.now sent.now r }
 {
     if sent.len() <= r {
@@ -165,7 +142,7 @@ fn byte_held<'a>(marks: &'a [u8], sent: &'a [u8], r: usize) -> u8
 }
 
 // The byte at place j of a run of m from i on, and zeros after the run.
-fn byte_at<'a>(marks: &'a [u8], sent: &'a [u8], i: usize, m: usize, j: usize) -> u8
+fn byte_at(marks: &[u8], sent: &[u8], i: usize, m: usize, j: usize) -> u8
     requires { (i < 32) × (j < 7) }
     ensures { result ≡ slot (held_of marks.now sent.now) i m j }
 {
@@ -176,7 +153,7 @@ fn byte_at<'a>(marks: &'a [u8], sent: &'a [u8], i: usize, m: usize, j: usize) ->
 }
 
 // The write of a run: its first register, the run's bytes and zeros.
-fn write_of<'a>(address: u8, marks: &'a [u8], sent: &'a [u8], i: usize, m: usize) -> Entry
+fn write_of(address: u8, marks: &[u8], sent: &[u8], i: usize, m: usize) -> Entry
     requires { (i < 32) × (m ≤ 7) }
     ensures { result ≡ write_of address (held_of marks.now sent.now) (run_of i m) }
 {
@@ -200,18 +177,18 @@ fn write_of<'a>(address: u8, marks: &'a [u8], sent: &'a [u8], i: usize, m: usize
 }
 
 // The list's section at the start of the room, and how long it is.
-fn write_list<'a>(address: u8, marks: &'a [u8], sent: &'a [u8], room: &mut [u8]) -> usize
+fn write_list(address: u8, marks: &[u8], sent: &[u8], room: &mut [u8]) -> usize
     requires { (length marks.now ≡ 32) × (16 * length (runs (sure_of marks.now) 32 0) + 8 ≤ length room.old) }
     ensures { (result ≡ 16 * length (runs (sure_of marks.now) 32 0) + 8)
         × (room.new ≡ sets room.old 0 (section_bytes (list_by address (sure_of marks.now) (held_of marks.now sent.now)))) }
 {
     let mut k: usize = 0;
-    let mut i = next_sure(marks, 0);
-    while i < 32 {
-        let m = run_len(marks, i);
-        write_of(address, marks, sent, i, m).put(room, 16 * k);
+    let mut i: usize = 0;
+    while let Some(first) = next_sure(marks, i) {
+        let m = run_len(marks, first);
+        write_of(address, marks, sent, first, m).put(room, 16 * k);
         k += 1;
-        i = next_sure(marks, i + m);
+        i = first + m;
     }
     transcript::seal(room, k);
     16 * k + 8

@@ -7,6 +7,3 @@ use Rattle.restoring.proofs.next_sure.Given as goal
 
 abbrev pub invariant-loop-r : goal.invariant-loop-r
 invariant-loop-r l = next_sure (sure_of l.marks) (32 - l.r) l.r ≡ next_sure (sure_of l.marks) (32 - l.i) l.i
-
-abbrev pub decreases-loop-r : goal.decreases-loop-r
-decreases-loop-r l = 32 - l.r

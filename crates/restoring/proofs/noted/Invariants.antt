@@ -9,7 +9,4 @@ use Rattle.restoring.proofs.noted.Given as goal
 
 abbrev pub invariant-loop-j : goal.invariant-loop-j
 invariant-loop-j l = (length l.marks ≡ 32)
-    × ((length l.sent ≡ 32) × ((l.j ≤ l.n) × (over (rest l.first l.n l.mark l.bytes l.j) 0 (known_all l.marks l.sent) ≡ over (rest l.first l.n l.mark l.bytes 0) 0 (known_all l.initial.marks l.initial.sent))))
-
-abbrev pub decreases-loop-j : goal.decreases-loop-j
-decreases-loop-j l = l.n - l.j
+    × ((length l.sent ≡ 32) × (over (rest l.first l.fn.e.n l.mark l.bytes (l.j - 1)) 0 (known_all l.marks l.sent) ≡ over (rest l.first l.fn.e.n l.mark l.bytes 0) 0 (known_all l.initial.marks l.initial.sent)))

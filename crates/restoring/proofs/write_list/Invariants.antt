@@ -12,12 +12,11 @@ use Rattle.restoring.specs.Standing.{held_of, sure_of}
 use Rattle.restoring.proofs.Laying.{left}
 use Rattle.restoring.proofs.write_list.Given as goal
 
-abbrev pub invariant-loop-i : goal.invariant-loop-i
-invariant-loop-i l = (length l.room ≡ length l.initial.room)
-    × ((l.i < 32 → sure_of l.marks l.i ≡ true)
+abbrev pub invariant-loop-first : goal.invariant-loop-first
+invariant-loop-first l = (length l.room ≡ length l.initial.room)
     × ((l.k + length (left (sure_of l.marks) l.i) ≡ length (runs (sure_of l.marks) 32 0))
     × (sets l.room (16 * l.k) (entries_bytes (map (write_of l.address (held_of l.marks l.sent)) (left (sure_of l.marks) l.i)))
-    ≡ sets l.initial.room 0 (entries_bytes (map (write_of l.address (held_of l.marks l.sent)) (runs (sure_of l.marks) 32 0))))))
+    ≡ sets l.initial.room 0 (entries_bytes (map (write_of l.address (held_of l.marks l.sent)) (runs (sure_of l.marks) 32 0)))))
 
-abbrev pub decreases-loop-i : goal.decreases-loop-i
-decreases-loop-i l = 32 - l.i
+abbrev pub decreases-loop-first : goal.decreases-loop-first
+decreases-loop-first l = 32 - l.i
