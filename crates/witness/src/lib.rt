@@ -100,10 +100,8 @@ fn noted_demod(e: Entry, states: &mut [u8], values: &mut [u8])
     }
     let shaken = shakes(e);
     let mark = restoring::mark_of((e.outcome == 0) & !shaken & !(e.kind == transcript::REPEATER));
-    let mut k: usize = 8;
-    while k < 16 {
+    for k in 8..16 {
         noted_at(e, k, shaken, mark, states, values);
-        k += 1;
     }
 }
 
@@ -255,9 +253,7 @@ fn heard_all(
         (seen (known_all marks.old sent.old) (known_all states.old values.old) old) }
 {
     let mut w = old;
-    let mut i = count;
-    while 0 < i {
-        i -= 1;
+    for i in (0..count).rev() {
         let e = Entry::get(s, start + 16 * i);
         w = heard(e, address, w, marks, sent, states, values);
     }
@@ -353,7 +349,7 @@ fn of_five(a: u8, b: u8, c: u8, d: u8, e: u8) -> u8
     )
 }
 
-fn marks_in<'a>(marks: &'a [u8], states: &'a [u8], lock: u8) -> Marks
+fn marks_in(marks: &[u8], states: &[u8], lock: u8) -> Marks
     requires { (length marks.now ≡ 32) × (length states.now ≡ 32) }
     ensures { result ≡ marks_in marks.now states.now lock }
 {
@@ -423,7 +419,7 @@ fn rate_of(xtal: u32, ratio: u32) -> u64
     (xtal as u64) * 4_194_304 / (ratio as u64)
 }
 
-fn numbers_in<'a>(sent: &'a [u8], values: &'a [u8], tries: u32, r: u32, xtal: u32) -> Numbers
+fn numbers_in(sent: &[u8], values: &[u8], tries: u32, r: u32, xtal: u32) -> Numbers
     requires { (length sent.now ≡ 32) × (length values.now ≡ 32) }
     ensures { result ≡ numbers_in sent.now values.now tries r xtal }
 {

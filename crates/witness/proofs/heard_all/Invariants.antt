@@ -14,6 +14,3 @@ invariant-loop-i l = (l.i ≤ l.count)
     × (((length l.states ≡ 32) × (length l.values ≡ 32))
     × (seen_all l.address (entries_in l.i (drop l.start l.s)) (seen (known_all l.marks l.sent) (known_all l.states l.values) l.w)
     ≡ seen_all l.address (entries_in l.count (drop l.start l.s)) (seen (known_all l.initial.marks l.initial.sent) (known_all l.initial.states l.initial.values) l.initial.w))))
-
-abbrev pub decreases-loop-i : goal.decreases-loop-i
-decreases-loop-i l = l.i

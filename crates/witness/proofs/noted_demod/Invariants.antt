@@ -12,6 +12,3 @@ abbrev pub invariant-loop-k : goal.invariant-loop-k
 invariant-loop-k l = (length l.states ≡ 32)
     × ((length l.values ≡ 32)
     × ((8 ≤ l.k) × ((l.k ≤ 16) × (over (from (l.e ∷ []) l.k) 0 (known_all l.states l.values) ≡ over (from (l.e ∷ []) 8) 0 (known_all l.initial.states l.initial.values)))))
-
-abbrev pub decreases-loop-k : goal.decreases-loop-k
-decreases-loop-k l = 16 - l.k
