@@ -16,27 +16,12 @@ use Rattle.transcript.specs.Sections.{entries_bytes, section_bytes, trailer_byte
 use Rattle.transcript.proofs.Laid.{length-entry_bytes, section_laid}
 use Rattle.restore.specs.Restore.{Run, run_of, run_len, runs, slot, write_of}
 use Rattle.restore.proofs.Runs.{at_doubt, at_sure, run_most, run_some}
-use Rattle.restoring.specs.Standing.{held_of, next_sure, sure_of}
+use Rattle.restoring.specs.Standing.{Known, next_sure, sure_of}
 
 -- past the last register nothing is told
-pub none_past : (ms : List ℕ) (r : ℕ) → length ms ≤ r → false ≡ sure_of ms r
+pub none_past : (known : List Known) (r : ℕ) → length known ≤ r → false ≡ sure_of known r
 unfolding sure_of
-none_past ms r h = rw (get_or-eq_default ms 0 h)
-
-pub held_not : (ms bs : List ℕ) (r : ℕ) → sure_of ms r ≡ false → 0 ≡ held_of ms bs r
-unfolding held_of
-held_not ms bs r h = rw h
-
-pub held_there : (ms bs : List ℕ) (r : ℕ) → sure_of ms r ≡ true → get_or bs r 0 ≡ held_of ms bs r
-unfolding held_of
-held_there ms bs r h = rw h
-
-pub nil_past : (ms bs : List ℕ) (r : ℕ) → length bs ≤ r → 0 ≡ held_of ms bs r
-nil_past ms bs r h = go (sure_of ms r) refl
-  where
-    go : (b : Bool) → sure_of ms r ≡ b → 0 ≡ held_of ms bs r
-    go true e = sym (get_or-eq_default bs 0 h) ∙ held_there ms bs r e
-    go false e = held_not ms bs r e
+none_past known r h = rw (get_or-eq_default known None h)
 
 -- ---- the next sure register, and a run, by a loop
 
@@ -219,5 +204,5 @@ module _ (address : ℕ) (held : ℕ → ℕ) where
       ∙ ap₂ (λ (l : List ℕ) (m : ℕ). sets l (16 * m) (trailer_bytes m)) was size
       ∙ section_laid room₀ (map (write_of address held) ws) (eights ws)
 
-pub none_above : (ms : List ℕ) → length ms ≡ 32 → (r : ℕ) → 32 ≤ r → sure_of ms r ≡ false
-none_above ms h r k = sym (none_past ms r (omega arith))
+pub none_above : (known : List Known) → length known ≡ 32 → (r : ℕ) → 32 ≤ r → sure_of known r ≡ false
+none_above known h r k = sym (none_past known r (omega arith))

@@ -14,9 +14,9 @@ use Rattle.restoring.proofs.write_list.Given as goal
 
 abbrev pub invariant-loop-first : goal.invariant-loop-first
 invariant-loop-first l = (length l.room ≡ length l.initial.room)
-    × ((l.k + length (left (sure_of l.marks) l.i) ≡ length (runs (sure_of l.marks) 32 0))
-    × (sets l.room (16 * l.k) (entries_bytes (map (write_of l.address (held_of l.marks l.sent)) (left (sure_of l.marks) l.i)))
-    ≡ sets l.initial.room 0 (entries_bytes (map (write_of l.address (held_of l.marks l.sent)) (runs (sure_of l.marks) 32 0)))))
+    × ((l.k + length (left (sure_of l.known) l.i) ≡ length (runs (sure_of l.known) 32 0))
+    × (sets l.room (16 * l.k) (entries_bytes (map (write_of l.address (held_of l.known)) (left (sure_of l.known) l.i)))
+    ≡ sets l.initial.room 0 (entries_bytes (map (write_of l.address (held_of l.known)) (runs (sure_of l.known) 32 0)))))
 
 abbrev pub decreases-loop-first : goal.decreases-loop-first
 decreases-loop-first l = 32 - l.i
