@@ -6,7 +6,7 @@ use mathlib.Core.Bool.{Bool, true, false, cond, not, ◌&&◌, and-false, false�
 use mathlib.Core.List.{List}
 use native.Mathlib.Omega.{arith}
 use borrow.Author.Tests.{ltb-true, ltb-false, le-ltb}
-use lib.Dec.{eqb, leb, ltb}
+use lib.Dec.{leb, ltb}
 use lib.ListN.{length, get_or, take, drop, replicate, length-map, get_or-replicate, get_or-eq_default}
 use lib.Seq.{sets, sets-eq, take_at}
 use Rattle.transcript.specs.declared.Entry.{Entry}

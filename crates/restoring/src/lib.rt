@@ -97,7 +97,7 @@ fn walked(s: &[u8], address: u8, known: &mut [Option<Sent>; 32]) -> u8
 fn sure(known: &[Option<Sent>; 32], r: usize) -> bool
     ensures { result ≡ sure_of known.now r }
 {
-    if 31 < r {
+    if r > 31 {
         return false;
     }
     match known[r] {
@@ -135,7 +135,7 @@ fn run_len(known: &[Option<Sent>; 32], i: usize) -> usize
 fn byte_held(known: &[Option<Sent>; 32], r: usize) -> u8
     ensures { result ≡ held_of known.now r }
 {
-    if 31 < r {
+    if r > 31 {
         return 0;
     }
     match known[r] {

@@ -22,6 +22,7 @@ use Rattle.attempts.specs.Namings.Last.{Never, Tried}
 use Rattle.sections.specs.Chain.{chain, chain_entries}
 use Rattle.restore.specs.Restore.{refused_by}
 use Rattle.restoring.specs.Standing.{Known, byte_of, counts, known_in, known_of, over}
+use Rattle.restoring.proofs.Overs.{over_long}
 use Rattle.restoring.proofs.Settled.{blank, stands, stands_by}
 use Rattle.evidence.specs.Demodulator.{last_at}
 use Rattle.registers.specs.Rates.{negated_of}
@@ -156,7 +157,7 @@ module _ (es : List Entry) (demod : List Known) (long : length demod ≡ 32) (af
 abbrev pub nothing : Seen
 nothing = seen blank blank (waiting 0 0 0)
 
-module _ (address : ℕ) (es : List Entry) (all : Seen) (lc : length all.chip ≡ 32) (ld : length all.demod ≡ 32) (after : all ≡ seen_all address es nothing) where
+module _ (address : ℕ) (es : List Entry) (all : Seen) (after : all ≡ seen_all address es nothing) where
   chip_after_lem : all.chip ≡ over (known_in address es) 0 blank
   unfolding seen_all
   chip_after_lem = ap (λ (s : Seen). s.chip) after
@@ -164,6 +165,12 @@ module _ (address : ℕ) (es : List Entry) (all : Seen) (lc : length all.chip �
   demod_after : all.demod ≡ over (demod_in es) 0 blank
   unfolding seen_all
   demod_after = ap (λ (s : Seen). s.demod) after
+
+  lc : length all.chip ≡ 32
+  lc = ap length chip_after_lem ∙ over_long (known_in address es) 0 blank
+
+  ld : length all.demod ≡ 32
+  ld = ap length demod_after ∙ over_long (demod_in es) 0 blank
 
   waiting_after : all.waiting ≡ waited_all address es (waiting 0 0 0)
   unfolding seen_all

@@ -1,7 +1,6 @@
 -- `restoring::byte_held` meets its contract.
 -- Assumes nothing.
 use native.Mathlib.Omega.{arith}
-use mathlib.Core.Path.{sym}
 use Rattle.restoring.specs.Standing.{held_of, sure_of}
 use Rattle.restoring.proofs.Laying.{none_past}
 use Rattle.restoring.proofs.byte_held.Goals as goal

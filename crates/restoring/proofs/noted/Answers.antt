@@ -1,7 +1,7 @@
 -- `restoring::noted` meets its contract. The loop's invariant: the registers from the j-th on, over what is told by then, are all registers of the write over what was told.
 -- Assumes nothing.
 use Prim.Native.Nat.{ℕ, ◌+◌, ◌-◌}
-use mathlib.Core.Path.{◌≡◌, refl, ap, ◌∙◌}
+use mathlib.Core.Path.{◌≡◌, ap, ◌∙◌}
 use native.Mathlib.Omega.{arith}
 use lib.ListN.{get_or}
 use Rattle.attempts.specs.Attempts.{done, first_of}

@@ -1,7 +1,6 @@
 -- `restoring::sure` meets its contract.
 -- Assumes nothing.
 use native.Mathlib.Omega.{arith}
-use mathlib.Core.Path.{sym}
 use Rattle.restoring.specs.Standing.{sure_of}
 use Rattle.restoring.proofs.Laying.{none_past}
 use Rattle.restoring.proofs.sure.Goals as goal

@@ -1,6 +1,5 @@
 -- `witness::evidence` meets its contract: refused by a reference or by the walk, or the answer that is laid out is lent.
 -- Assumes nothing.
-use native.Mathlib.Omega.{arith}
 use mathlib.Core.Path.{◌∙◌}
 use Rattle.sections.specs.Chain.{chain_entries}
 use Rattle.restoring.proofs.Settled.{all_good}
@@ -25,7 +24,7 @@ returns c =
     let good = all_good s w.result w.ensures.0 c.if-refusal-ne0.false in
     c.lend.ensures
     ∙ lends s a.address a.r a.xtal a.out.now c.answer_image-image.result c.if-r-xtal.false good
-    (answer_same a.address (chain_entries s) w.new.seen (omega arith) (omega arith) (w.ensures.1 good) a.r a.xtal c.marks_in-m.result c.numbers_in-n.result
+    (answer_same a.address (chain_entries s) w.new.seen (w.ensures.1 good) a.r a.xtal c.marks_in-m.result c.numbers_in-n.result
     c.answer_image-image.result
     c.marks_in-m.ensures
     c.numbers_in-n.ensures

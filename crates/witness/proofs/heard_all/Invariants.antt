@@ -1,8 +1,7 @@
 -- `witness::heard_all` meets its contract. The loop's invariant: the first i entries, over what is gathered by then, are all entries over what was.
 -- Assumes nothing.
-use Prim.Native.Nat.{◌≤◌}
 use mathlib.Core.Path.{◌≡◌}
-use lib.ListN.{length, drop}
+use lib.ListN.{drop}
 use Rattle.transcript.specs.Sections.{entries_in}
 use Rattle.witness.specs.Walk.{seen_all}
 use Rattle.witness.proofs.heard_all.Given as goal

@@ -8,7 +8,7 @@ use lib.ListN.{length, take, drop}
 use lib.Seq.{drop-cons}
 use Rattle.restoring.specs.Standing.{Known}
 use Rattle.std.specs.Prelude.{None}
-use Rattle.witness.specs.InCode.{at, mark_from, marks_in}
+use Rattle.witness.specs.InCode.{at, marks_in}
 use Rattle.witness.proofs.marks_in.Goals as goal
 
 -- n slots from the i-th on, one by one

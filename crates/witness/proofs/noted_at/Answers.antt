@@ -1,9 +1,8 @@
 -- `witness::noted_at` meets its contract: what the entry says of the slot is marked, and where it says nothing nothing is.
 -- Assumes nothing.
-use borrow.Author.Rules.{rules}
 use Prim.Native.Nat.{ℕ}
 use mathlib.Core.Path.{ap, ◌∙◌}
-use Rattle.evidence.specs.Demodulator.{covers, demod_sent, demod_settles, place}
+use Rattle.evidence.specs.Demodulator.{covers, demod_sent, place}
 use Rattle.witness.proofs.Slots.{said, unsaid}
 use Rattle.witness.proofs.noted_at.Goals as goal
 

@@ -1,10 +1,9 @@
 -- `witness::noted_demod` meets its contract. The loop's invariant: the slots from k on, over what is told by then, are all slots over what was told.
 -- Assumes nothing.
-use mathlib.Core.Path.{refl, ap, ◌∙◌}
+use mathlib.Core.Path.{ap, ◌∙◌}
 use mathlib.Core.Bool.{Bool, not, ◌&&◌}
 use mathlib.Core.List.{[], ◌∷◌}
 use native.Mathlib.Omega.{arith}
-use borrow.Author.Rules.{rules}
 use lib.Dec.{eqb}
 use Rattle.evidence.specs.Demodulator.{demod_settles}
 use Rattle.witness.proofs.Slots.{from_end, from_start, from_turn, high_kind, low_kind}

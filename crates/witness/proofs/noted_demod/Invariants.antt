@@ -1,9 +1,7 @@
 -- `witness::noted_demod` meets its contract. The loop's invariant: the slots from k on, over what is told by then, are all slots over what was told.
 -- Assumes nothing.
-use Prim.Native.Nat.{◌≤◌, ◌-◌}
 use mathlib.Core.Path.{◌≡◌}
 use mathlib.Core.List.{[], ◌∷◌}
-use lib.ListN.{length}
 use Rattle.restoring.specs.Standing.{over}
 use Rattle.witness.proofs.Slots.{from}
 use Rattle.witness.proofs.noted_demod.Given as goal

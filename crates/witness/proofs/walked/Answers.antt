@@ -4,7 +4,6 @@ use Prim.Native.Nat.{ℕ, ◌-◌}
 use mathlib.Core.Path.{refl, sym, ap, ◌∙◌}
 use mathlib.Core.List.{List}
 use native.Mathlib.Omega.{arith}
-use borrow.Author.Rules.{rules}
 use lib.ListN.{take}
 use Rattle.sections.specs.Chain.{chain, chain_entries}
 use Rattle.restoring.proofs.Backward.{all_sections, all_turned, begin, chain_on, few, fit, lower, not_both, refused, stopped, turned, within}
