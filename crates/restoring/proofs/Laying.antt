@@ -2,11 +2,12 @@
 -- Assumes nothing.
 use Prim.Native.Nat.{ℕ, zero, suc, ◌+◌, ◌-◌, ◌*◌, ◌≤◌, ◌<◌}
 use mathlib.Core.Path.{◌≡◌, refl, sym, ap, ap₂, ◌∙◌}
-use mathlib.Core.Bool.{Bool, true, false, cond}
+use mathlib.Core.Bool.{Bool, true, false}
 use mathlib.Core.List.{List, [], ◌∷◌, map}
+use Rattle.std.specs.Prelude.{None, Some}
 use native.Mathlib.Omega.{arith}
 use borrow.Author.Tests.{le-leb, lt-leb}
-use lib.ListN.{length, get_or, length-map, get_or-eq_default}
+use lib.ListN.{length, length-map, get_or-eq_default}
 use lib.Seq.{sets}
 use Rattle.wire.proofs.Stores.{sets_append}
 use Rattle.transcript.specs.declared.Entry.{Entry}
@@ -15,32 +16,17 @@ use Rattle.transcript.specs.Sections.{entries_bytes, section_bytes, trailer_byte
 use Rattle.transcript.proofs.Laid.{length-entry_bytes, section_laid}
 use Rattle.restore.specs.Restore.{Run, run_of, run_len, runs, slot, write_of}
 use Rattle.restore.proofs.Runs.{at_doubt, at_sure, run_most, run_some}
-use Rattle.restoring.specs.Standing.{held_of, next_sure, sure_of}
+use Rattle.restoring.specs.Standing.{Known, next_sure, sure_of}
 
 -- past the last register nothing is told
-pub none_past : (ms : List ℕ) (r : ℕ) → length ms ≤ r → false ≡ sure_of ms r
+pub none_past : (known : List Known) (r : ℕ) → length known ≤ r → false ≡ sure_of known r
 unfolding sure_of
-none_past ms r h = rw (get_or-eq_default ms 0 h)
-
-pub held_not : (ms bs : List ℕ) (r : ℕ) → sure_of ms r ≡ false → 0 ≡ held_of ms bs r
-unfolding held_of
-held_not ms bs r h = rw h
-
-pub held_there : (ms bs : List ℕ) (r : ℕ) → sure_of ms r ≡ true → get_or bs r 0 ≡ held_of ms bs r
-unfolding held_of
-held_there ms bs r h = rw h
-
-pub nil_past : (ms bs : List ℕ) (r : ℕ) → length bs ≤ r → 0 ≡ held_of ms bs r
-nil_past ms bs r h = go (sure_of ms r) refl
-  where
-    go : (b : Bool) → sure_of ms r ≡ b → 0 ≡ held_of ms bs r
-    go true e = sym (get_or-eq_default bs 0 h) ∙ held_there ms bs r e
-    go false e = held_not ms bs r e
+none_past known r h = rw (get_or-eq_default known None h)
 
 -- ---- the next sure register, and a run, by a loop
 
 module _ (sure : ℕ → Bool) where
-  pub sure_found : (n i : ℕ) → 0 < n → sure i ≡ true → i ≡ next_sure sure n i
+  pub sure_found : (n i : ℕ) → 0 < n → sure i ≡ true → Some i ≡ next_sure sure n i
   unfolding next_sure
   sure_found zero i h t = absurd (omega arith)
   sure_found (suc n) i h t = rw t
@@ -52,7 +38,7 @@ module _ (sure : ℕ → Bool) where
       let next : i + 1 ≡ suc i = omega arith in
       rw (more, t, next)
 
-  pub sure_none : (n i : ℕ) → n ≤ i → i ≡ next_sure sure (n - i) i
+  pub sure_none : (n i : ℕ) → n ≤ i → None ≡ next_sure sure (n - i) i
   unfolding next_sure
   sure_none n i h =
       let none_left : n - i ≡ 0 = omega arith in
@@ -117,45 +103,50 @@ module _ (sure : ℕ → Bool) where
       go true t h k = rw t (omega arith)
       go false t h k = rw t (omega arith)
 
-  skip : (n i : ℕ) → n ≡ 32 - i → left sure (next_sure sure n i) ≡ left sure i
+  -- a register that is not sure begins no run
+  past : (i : ℕ) → i < 32 → sure i ≡ false → left sure i ≡ left sure (suc i)
+  past i h t =
+      let more : 32 - i ≡ suc (32 - suc i) = omega arith in
+      ap (λ (k : ℕ). runs sure k i) more ∙ at_doubt sure (32 - suc i) i t
+
+  -- what the search from i on finds
+  pub record Found (i j : ℕ) : Type 0 where
+    pub from : i ≤ j
+    pub below : j < 32
+    pub sure_there : sure j ≡ true
+    pub same : left sure j ≡ left sure i
+
+  found_in : (n i j : ℕ) → n ≡ 32 - i → Some j ≡ next_sure sure n i → Found i j
   unfolding next_sure
-  skip zero i h = refl
-  skip (suc n) i h = go (sure i) refl (skip n (suc i) (omega arith))
+  found_in zero i j h l = absurd (cc)
+  found_in (suc n) i j h l = go (sure i) refl (λ on. found_in n (suc i) j (omega arith) on)
     where
-      go : (b : Bool) → sure i ≡ b → left sure (next_sure sure n (suc i)) ≡ left sure (suc i) → left sure (cond (sure i) i (next_sure sure n (suc i))) ≡ left sure i
-      go true t rest = rw t
+      go : (b : Bool) → sure i ≡ b → (Some j ≡ next_sure sure n (suc i) → Found (suc i) j) → Found i j
+      go true t rest =
+          let here : Some j ≡ Some i = l ∙ rw t in
+          let at : j ≡ i = cc in
+          record { from = omega arith; below = omega arith; sure_there = ap sure at ∙ t; same = ap (left sure) at }
       go false t rest =
-          let more : 32 - i ≡ suc (32 - suc i) = omega arith in
-          rw t (rest ∙ sym (ap (λ (k : ℕ). runs sure k i) more ∙ at_doubt sure (32 - suc i) i t))
+          let on : Some j ≡ next_sure sure n (suc i) = l ∙ rw t in
+          let further = rest on in
+          record { from = omega (arith, further.from); below = further.below; sure_there = further.sure_there; same = further.same ∙ sym (past i (omega arith) t) }
 
-  pub skipped : (i j : ℕ) → j ≡ next_sure sure (32 - i) i → left sure j ≡ left sure i
-  skipped i j h = ap (left sure) h ∙ skip (32 - i) i refl
+  pub found : (i j : ℕ) → Some j ≡ next_sure sure (32 - i) i → Found i j
+  found i j h = found_in (32 - i) i j refl h
 
-  found_sure : (n i : ℕ) → n ≡ 32 - i → next_sure sure n i < 32 → sure (next_sure sure n i) ≡ true
-  unfolding next_sure
-  found_sure zero i h l = absurd (omega arith)
-  found_sure (suc n) i h l = go (sure i) refl (found_sure n (suc i) (omega arith))
+  none_in : (n i : ℕ) → n ≡ 32 - i → None ≡ next_sure sure n i → left sure i ≡ []
+  unfolding next_sure runs
+  none_in zero i h l = ap (λ (k : ℕ). runs sure k i) (sym h)
+  none_in (suc n) i h l = go (sure i) refl (λ on. none_in n (suc i) (omega arith) on)
     where
-      go : (b : Bool) → sure i ≡ b → (next_sure sure n (suc i) < 32 → sure (next_sure sure n (suc i)) ≡ true) → sure (cond (sure i) i (next_sure sure n (suc i))) ≡ true
-      go true t rest = rw t t
-      go false t rest = rw t (rest (rw t at l))
+      go : (b : Bool) → sure i ≡ b → (None ≡ next_sure sure n (suc i) → left sure (suc i) ≡ []) → left sure i ≡ []
+      go true t rest =
+          let here : Some i ≡ None = sym (l ∙ rw t) in
+          absurd (cc)
+      go false t rest = past i (omega arith) t ∙ rest (l ∙ rw t)
 
-  pub stands_sure : (i j : ℕ) → j ≡ next_sure sure (32 - i) i → j < 32 → sure j ≡ true
-  stands_sure i j h l =
-      let low : next_sure sure (32 - i) i < 32 = omega arith in
-      ap sure h ∙ found_sure (32 - i) i refl low
-
-  not_below : (n i : ℕ) → i ≤ next_sure sure n i
-  unfolding next_sure
-  not_below zero i = omega arith
-  not_below (suc n) i = go (sure i) refl (not_below n (suc i))
-    where
-      go : (b : Bool) → sure i ≡ b → suc i ≤ next_sure sure n (suc i) → i ≤ cond (sure i) i (next_sure sure n (suc i))
-      go true t h = rw t (omega arith)
-      go false t h = rw t (omega arith)
-
-  pub later : (i j : ℕ) → j ≡ next_sure sure (32 - i) i → i ≤ j
-  later i j h = omega (arith, not_below (32 - i) i)
+  pub no_more : (i : ℕ) → None ≡ next_sure sure (32 - i) i → left sure i ≡ []
+  no_more i h = none_in (32 - i) i refl h
 
   module _ (none_above : (r : ℕ) → 32 ≤ r → sure r ≡ false) where
     enough : (n m i : ℕ) → 32 ≤ i + n → 32 ≤ i + m → runs sure n i ≡ runs sure m i
@@ -173,14 +164,14 @@ module _ (sure : ℕ → Bool) where
         go false t first second = at_doubt sure n i t ∙ second ∙ sym (at_doubt sure m i t)
 
     -- the first of the runs that are left
-    pub one_run : (i m j : ℕ) → i < 32 → sure i ≡ true → m ≡ run_len sure 7 i → j ≡ next_sure sure (32 - (i + m)) (i + m) → left sure i ≡ run_of i m ∷ left sure j
-    one_run i m j h t size next =
+    pub one_run : (i m : ℕ) → i < 32 → sure i ≡ true → m ≡ run_len sure 7 i → left sure i ≡ run_of i m ∷ left sure (i + m)
+    one_run i m h t size =
         let more : 32 - i ≡ suc (31 - i) = omega arith in
         let some = run_some sure 6 i t in
         ap (λ (k : ℕ). runs sure k i) more
         ∙ at_sure sure (31 - i) i t
         ∙ ap (λ (k : ℕ). run_of i k ∷ runs sure (31 - i) (i + k)) (sym size)
-        ∙ ap (λ (ws : List Run). run_of i m ∷ ws) (enough (31 - i) (32 - (i + m)) (i + m) (omega arith) (omega arith) ∙ sym (skipped (i + m) j next))
+        ∙ ap (λ (ws : List Run). run_of i m ∷ ws) (enough (31 - i) (32 - (i + m)) (i + m) (omega arith) (omega arith))
 
     pub run_size : (i m : ℕ) → sure i ≡ true → m ≡ run_len sure 7 i → (0 < m) × (m ≤ 7)
     run_size i m t size = (omega (arith, run_some sure 6 i t), omega (arith, run_most sure 7 i))
@@ -213,11 +204,5 @@ module _ (address : ℕ) (held : ℕ → ℕ) where
       ∙ ap₂ (λ (l : List ℕ) (m : ℕ). sets l (16 * m) (trailer_bytes m)) was size
       ∙ section_laid room₀ (map (write_of address held) ws) (eights ws)
 
-pub none_left : (sure : ℕ → Bool) (i : ℕ) → 32 ≤ i → left sure i ≡ []
-unfolding runs
-none_left sure i h =
-    let zero_left : 32 - i ≡ 0 = omega arith in
-    rw zero_left
-
-pub none_above : (ms : List ℕ) → length ms ≡ 32 → (r : ℕ) → 32 ≤ r → sure_of ms r ≡ false
-none_above ms h r k = sym (none_past ms r (omega arith))
+pub none_above : (known : List Known) → length known ≡ 32 → (r : ℕ) → 32 ≤ r → sure_of known r ≡ false
+none_above known h r k = sym (none_past known r (omega arith))

@@ -1,13 +1,13 @@
 -- What an entry, entries and sections tell of registers, from the newest to the oldest.
 -- Assumes nothing.
 use Prim.Native.Nat.{ℕ, zero, suc, ◌+◌, ◌-◌, ◌*◌, ◌≤◌, ◌<◌}
-use mathlib.Core.Path.{◌≡◌, refl, sym, ap, ap₂, ◌∙◌}
-use mathlib.Core.Bool.{Bool, true, false, cond, ◌&&◌, and-false}
+use mathlib.Core.Path.{◌≡◌, refl, sym, ap, ◌∙◌}
+use mathlib.Core.Bool.{Bool, true, false, cond, ◌&&◌, and-false, false≢true, true≢false}
 use mathlib.Core.List.{List, [], ◌∷◌, ◌++◌}
 use native.Mathlib.Omega.{arith}
 use borrow.Author.Tests.{eq-eqb, ne_eqb, eqb-true, eqb-false, leb-true, leb-false, le-leb, lt-leb, lt-ltb, le-ltb}
 use lib.Dec.{eqb, leb, ltb}
-use lib.ListN.{length, get_or, set, take, drop}
+use lib.ListN.{get_or, set, take, drop}
 use lib.Seq.{set-get_or, drop-drop}
 use Rattle.transcript.specs.declared.Entry.{Entry}
 use Rattle.transcript.specs.Entries.{entry_fits, entry_of, fits}
@@ -18,63 +18,73 @@ use Rattle.attempts.specs.Attempts.{Last, done, first_of, last_from, last_in, na
 use Rattle.attempts.specs.Namings as any
 use Rattle.attempts.specs.Namings.Last.{Never, Tried}
 use Rattle.attempts.proofs.Lasts.{known, last_append, last_known}
-use Rattle.restoring.specs.Standing.{Known, counts, mark_of, newer, none, only, over, known_as, known_in, known_all, known_of}
-use Rattle.restoring.proofs.Overs.{fresh, over_one, over_over, over_quiet, over_same, quiet, stays, told_at, told_set}
+use Rattle.restoring.specs.Standing.{Known, counts, newer, only, over, known_in, known_of, told}
+use Rattle.std.specs.Option.{is_some}
+use Rattle.std.specs.Prelude.{None, Some}
+use Rattle.restoring.proofs.Overs.{over_one, over_over, over_quiet, over_same, quiet}
 
 -- ---- one register
 
-module _ (ms bs : List ℕ) (r mark byte : ℕ) where
-  outside : counts r ≡ false → known_all ms bs ≡ over (only r (known_as mark byte)) 0 (known_all ms bs)
+stays : (t u : Known) → is_some t ≡ true → newer t u ≡ t
+unfolding newer
+stays None u h = absurd (false≢true h)
+stays (Some s) u h = refl
+
+fresh : (t u : Known) → is_some t ≡ false → newer t u ≡ u
+unfolding newer
+fresh None u h = refl
+fresh (Some s) u h = absurd (true≢false h)
+
+module _ (l : List Known) (r : ℕ) (u : Known) where
+  outside : counts r ≡ false → l ≡ over (only r u) 0 l
   unfolding only
-  outside h = sym (over_quiet (only r (known_as mark byte)) 0 (known_all ms bs) (λ q a b. go q (eqb q r) refl))
+  outside h = sym (over_quiet (only r u) 0 l (λ q a b. go q (eqb q r) refl))
     where
-      go : (q : ℕ) (x : Bool) → eqb q r ≡ x → (only r (known_as mark byte) q).mark ≡ 0
+      go : (q : ℕ) (x : Bool) → eqb q r ≡ x → only r u q ≡ None
       go q true e = rw (ap counts (eqb-true q r e) ∙ h)
       go q false e = rw (e, and-false (counts q))
 
   -- "bytes for registers outside 0x05..0x1f count for nothing"
-  pub under : r < 5 → known_all ms bs ≡ over (only r (known_as mark byte)) 0 (known_all ms bs)
+  pub under : r < 5 → l ≡ over (only r u) 0 l
   unfolding counts
   under h = outside (rw (lt-leb 5 r h))
 
-  pub past : 31 < r → known_all ms bs ≡ over (only r (known_as mark byte)) 0 (known_all ms bs)
+  pub past : 31 < r → l ≡ over (only r u) 0 l
   unfolding counts
   past h = outside (rw (le-ltb r 32 (omega arith), and-false (leb 5 r)))
 
-  module _ (low : 5 ≤ r) (high : r ≤ 31) (same : length ms ≡ length bs) where
-    here : over (only r (known_as mark byte)) 0 (known_all ms bs) ≡ set (known_all ms bs) r (newer (known_as (get_or ms r 0) (get_or bs r 0)) (known_as mark byte))
+  module _ (low : 5 ≤ r) (high : r ≤ 31) where
+    here : over (only r u) 0 l ≡ set l r (newer (get_or l r None) u)
     unfolding only counts
     here =
         let at : 0 + r ≡ r = omega arith in
-        let said : only r (known_as mark byte) (0 + r) ≡ known_as mark byte = rw (at, le-leb 5 r low, lt-ltb r 32 (omega arith), eq-eqb r r refl) in
-        over_one (only r (known_as mark byte)) 0 r (known_all ms bs) (λ q a. rw (ne_eqb q r (λ z. a (omega arith)), and-false (counts q)))
-        ∙ ap₂ (λ (t u : Known). set (known_all ms bs) r (newer t u)) (told_at ms bs r same) said
+        let said : only r u (0 + r) ≡ u = rw (at, le-leb 5 r low, lt-ltb r 32 (omega arith), eq-eqb r r refl) in
+        over_one (only r u) 0 r l (λ q a. rw (ne_eqb q r (λ z. a (omega arith)), and-false (counts q)))
+        ∙ ap (λ (t : Known). set l r (newer (get_or l r None) t)) said
 
     -- what is told already stays
-    pub told_before : 0 < get_or ms r 0 → known_all ms bs ≡ over (only r (known_as mark byte)) 0 (known_all ms bs)
-    told_before some =
-        sym (here ∙ ap (set (known_all ms bs) r) (stays (known_as (get_or ms r 0) (get_or bs r 0)) (known_as mark byte) some ∙ sym (told_at ms bs r same)) ∙ set-get_or (known_all ms bs) r none)
+    pub told_before : is_some (get_or l r None) ≡ true → l ≡ over (only r u) 0 l
+    told_before some = sym (here ∙ ap (set l r) (stays (get_or l r None) u some) ∙ set-get_or l r None)
 
-    pub told_now : get_or ms r 0 ≡ 0 → 0 < mark → known_all (set ms r mark) (set bs r byte) ≡ over (only r (known_as mark byte)) 0 (known_all ms bs)
-    told_now h some =
-        sym (here ∙ ap (set (known_all ms bs) r) (fresh (known_as (get_or ms r 0) (get_or bs r 0)) (known_as mark byte) h some) ∙ told_set ms bs r mark byte same)
+    pub told_now : is_some (get_or l r None) ≡ false → set l r u ≡ over (only r u) 0 l
+    told_now blank = sym (here ∙ ap (set l r) (fresh (get_or l r None) u blank))
 
 -- ---- one entry
 
-tells_one : (address : ℕ) (e : Entry) (q : ℕ) → known_in address (e ∷ []) q ≡ cond (counts q && names address e q) (known_as (mark_of (done e)) (sent_to e q)) none
+tells_one : (address : ℕ) (e : Entry) (q : ℕ) → known_in address (e ∷ []) q ≡ cond (counts q && names address e q) (told (sent_to e q) (done e)) None
 unfolding known_in any.last_from
 tells_one address e q = go (counts q) (names address e q) refl refl
   where
     go : (a b : Bool) → counts q ≡ a → names address e q ≡ b
-        → cond (counts q) (known_of (last_from address Never (e ∷ []) q)) none ≡ cond (counts q && names address e q) (known_as (mark_of (done e)) (sent_to e q)) none
+        → cond (counts q) (known_of (last_from address Never (e ∷ []) q)) None ≡ cond (counts q && names address e q) (told (sent_to e q) (done e)) None
     go false b s t = rw s
     go true true s t = rw (s, t)
     go true false s t = rw (s, t)
 
 unnamed : (address : ℕ) (e : Entry) (l : List Known) → ((q : ℕ) → names address e q ≡ false) → l ≡ over (known_in address (e ∷ [])) 0 l
-unnamed address e l h = sym (over_quiet (known_in address (e ∷ [])) 0 l (λ q a b. ap (λ (t : Known). t.mark) (nothing q)))
+unnamed address e l h = sym (over_quiet (known_in address (e ∷ [])) 0 l (λ q a b. nothing q))
   where
-    nothing : (q : ℕ) → known_in address (e ∷ []) q ≡ none
+    nothing : (q : ℕ) → known_in address (e ∷ []) q ≡ None
     nothing q = tells_one address e q ∙ rw (h q, and-false (counts q))
 
 -- "Writes to other chips .. count for nothing"
@@ -86,47 +96,40 @@ pub other_chip : (address : ℕ) (e : Entry) (l : List Known) → (e.target ≡ 
 unfolding names
 other_chip address e l h = unnamed address e l (λ q. rw (ne_eqb e.target address h, and-false (eqb e.kind 2)))
 
-pub mark_some : (mark : ℕ) (ok : Bool) → mark ≡ mark_of ok → 0 < mark
-mark_some mark true h = omega arith
-mark_some mark false h = omega arith
-
 -- the registers of a write from the j-th on
-unfoldable pub rest : ℕ → ℕ → ℕ → List ℕ → ℕ → ℕ → Known
-rest first n mark bytes j q = cond (counts q && (leb (first + j) q && ltb q (first + (n - 1)))) (known_as mark (get_or bytes (q - first + 1) 0)) none
+unfoldable pub rest : ℕ → ℕ → Bool → List ℕ → ℕ → ℕ → Known
+rest first n ok bytes j q = cond (counts q && (leb (first + j) q && ltb q (first + (n - 1)))) (told (get_or bytes (q - first + 1) 0) ok) None
 
-pub rest_start : (address : ℕ) (e : Entry) (l : List Known) (first n mark : ℕ) → e.kind ≡ 2 → e.target ≡ address → first ≡ first_of e → n ≡ e.n → mark ≡ mark_of (done e)
-    → over (rest first n mark e.bytes 0) 0 l ≡ over (known_in address (e ∷ [])) 0 l
+pub rest_start : (address : ℕ) (e : Entry) (l : List Known) → e.kind ≡ 2 → e.target ≡ address
+    → over (rest (first_of e) e.n (done e) e.bytes 0) 0 l ≡ over (known_in address (e ∷ [])) 0 l
 unfolding rest names
-rest_start address e l first n mark k c f m o =
-    over_same (rest first n mark e.bytes 0) (known_in address (e ∷ [])) (λ q. same q) 0 l
+rest_start address e l k c =
+    over_same (rest (first_of e) e.n (done e) e.bytes 0) (known_in address (e ∷ [])) (λ q. same q) 0 l
   where
-    same : (q : ℕ) → rest first n mark e.bytes 0 q ≡ known_in address (e ∷ []) q
+    same : (q : ℕ) → rest (first_of e) e.n (done e) e.bytes 0 q ≡ known_in address (e ∷ []) q
     same q =
         let none_yet : first_of e + 0 ≡ first_of e = omega arith in
-        rw (f, m, o, none_yet) (sym (tells_one address e q ∙ rw (eq-eqb e.kind 2 k, eq-eqb e.target address c)))
+        rw none_yet (sym (tells_one address e q ∙ rw (eq-eqb e.kind 2 k, eq-eqb e.target address c)))
 
-module _ (first n mark : ℕ) (bytes : List ℕ) (l : List Known) (j : ℕ) where
-  pub rest_end : n ≤ j + 1 → l ≡ over (rest first n mark bytes j) 0 l
+module _ (first n : ℕ) (ok : Bool) (bytes : List ℕ) (l : List Known) (j : ℕ) where
+  pub rest_end : n ≤ j + 1 → l ≡ over (rest first n ok bytes j) 0 l
   unfolding rest
-  rest_end h = sym (over_quiet (rest first n mark bytes j) 0 l (λ q a b. go q (leb (first + j) q) refl))
+  rest_end h = sym (over_quiet (rest first n ok bytes j) 0 l (λ q a b. go q (leb (first + j) q) refl))
     where
-      go : (q : ℕ) (x : Bool) → leb (first + j) q ≡ x → (rest first n mark bytes j q).mark ≡ 0
+      go : (q : ℕ) (x : Bool) → leb (first + j) q ≡ x → rest first n ok bytes j q ≡ None
       go q true e = rw (e, le-ltb q (first + (n - 1)) (omega (arith, leb-true (first + j) q e)), and-false (counts q))
       go q false e = rw (e, and-false (counts q))
 
-  pub rest_turn : (next : List Known) (byte : ℕ) → j + 1 < n → 0 < mark → byte ≡ get_or bytes (j + 1) 0 → next ≡ over (only (first + j) (known_as mark byte)) 0 l
-      → over (rest first n mark bytes (j + 1)) 0 next ≡ over (rest first n mark bytes j) 0 l
-  unfolding rest only
-  rest_turn next byte h some is was =
-      ap (over (rest first n mark bytes (j + 1)) 0) was
-      ∙ over_over (only (first + j) (known_as mark byte)) (rest first n mark bytes (j + 1)) 0 l
-      ∙ over_same (λ q. newer (only (first + j) (known_as mark byte) q) (rest first n mark bytes (j + 1) q)) (rest first n mark bytes j) (λ q. go q (counts q) (eqb q (first + j)) refl refl) 0 l
+  pub rest_turn : (next : List Known) → j + 1 < n → next ≡ over (only (first + j) (told (get_or bytes (j + 1) 0) ok)) 0 l
+      → over (rest first n ok bytes (j + 1)) 0 next ≡ over (rest first n ok bytes j) 0 l
+  unfolding rest only newer
+  rest_turn next h was =
+      ap (over (rest first n ok bytes (j + 1)) 0) was
+      ∙ over_over (only (first + j) now) (rest first n ok bytes (j + 1)) 0 l
+      ∙ over_same (λ q. newer (only (first + j) now q) (rest first n ok bytes (j + 1) q)) (rest first n ok bytes j) (λ q. go q (counts q) (eqb q (first + j)) refl refl) 0 l
     where
-      later : (q : ℕ) (b : Bool)
-          → leb (first + j) q && ltb q (first + (n - 1)) ≡ b
-          → newer none (cond b (known_as mark (get_or bytes (q - first + 1) 0)) none) ≡ cond b (known_as mark (get_or bytes (q - first + 1) 0)) none
-      later q true e = fresh none (known_as mark (get_or bytes (q - first + 1) 0)) refl some
-      later q false e = quiet none none refl
+      now : Known
+      now = told (get_or bytes (j + 1) 0) ok
 
       step : (q : ℕ) → (q ≡ first + j → ⊥) → (x : Bool) → leb (first + j) q ≡ x → leb (first + (j + 1)) q ≡ leb (first + j) q
       step q a true e = rw e (le-leb (first + (j + 1)) q (above (leb-true (first + j) q e)))
@@ -135,24 +138,21 @@ module _ (first n mark : ℕ) (bytes : List ℕ) (l : List Known) (j : ℕ) wher
           above z = omega (arith, a)
       step q a false e = rw e (lt-leb (first + (j + 1)) q (omega (arith, leb-false (first + j) q e)))
 
-      go : (q : ℕ) (x y : Bool) → counts q ≡ x → eqb q (first + j) ≡ y → newer (only (first + j) (known_as mark byte) q) (rest first n mark bytes (j + 1) q) ≡ rest first n mark bytes j q
-      go q false y s t = rw s (quiet none none refl)
+      go : (q : ℕ) (x y : Bool) → counts q ≡ x → eqb q (first + j) ≡ y → newer (only (first + j) now q) (rest first n ok bytes (j + 1) q) ≡ rest first n ok bytes j q
+      go q false y s t = rw s
       go q true true s t =
           let at : q ≡ first + j = eqb-true q (first + j) t in
           let place : q - first + 1 ≡ j + 1 = omega arith in
-          rw (s, t, lt-leb (first + (j + 1)) q (omega arith), le-leb (first + j) q (omega arith), lt-ltb q (first + (n - 1)) (omega arith), place, is)
-          (quiet (known_as mark (get_or bytes (j + 1) 0)) none refl)
+          rw (s, t, le-leb (first + j) q (omega arith), lt-ltb q (first + (n - 1)) (omega arith), place)
       go q true false s t =
-          rw (s, t, step q (eqb-false q (first + j) t) (leb (first + j) q) refl) (later q (leb (first + j) q && ltb q (first + (n - 1))) refl)
+          rw (s, t, step q (eqb-false q (first + j) t) (leb (first + j) q) refl)
 
 -- ---- entries
 
 pub told_known : (a b : Last) → known_of (known a b) ≡ newer (known_of a) (known_of b)
-told_known Never Never = sym (quiet none none refl)
-told_known Never (Tried byte true) = sym (fresh none (known_as 2 byte) refl (omega arith))
-told_known Never (Tried byte false) = sym (fresh none (known_as 1 byte) refl (omega arith))
-told_known (Tried byte true) b = sym (stays (known_as 2 byte) (known_of b) (omega arith))
-told_known (Tried byte false) b = sym (stays (known_as 1 byte) (known_of b) (omega arith))
+unfolding newer
+told_known Never b = refl
+told_known (Tried byte ok) b = refl
 
 tells_both : (address : ℕ) (xs ys : List Entry) (r : ℕ) → newer (known_in address ys r) (known_in address xs r) ≡ known_in address (xs ++ ys) r
 unfolding known_in
@@ -162,9 +162,9 @@ tells_both address xs ys r = go (counts r) refl
     last = last_append (tuner_at address) Never xs ys r ∙ last_known (tuner_at address) (last_in address xs r) ys r
 
     go : (b : Bool) → counts r ≡ b
-        → newer (cond (counts r) (known_of (last_in address ys r)) none) (cond (counts r) (known_of (last_in address xs r)) none) ≡ cond (counts r) (known_of (last_in address (xs ++ ys) r)) none
+        → newer (cond (counts r) (known_of (last_in address ys r)) None) (cond (counts r) (known_of (last_in address xs r)) None) ≡ cond (counts r) (known_of (last_in address (xs ++ ys) r)) None
     go true e = rw e (sym (ap known_of last ∙ told_known (last_in address ys r) (last_in address xs r)))
-    go false e = rw e (quiet none none refl)
+    go false e = rw e (quiet None)
 
 -- older entries after newer ones
 pub over_both_lem : (address : ℕ) (xs ys : List Entry) (l : List Known) → over (known_in address xs) 0 (over (known_in address ys) 0 l) ≡ over (known_in address (xs ++ ys)) 0 l
@@ -176,7 +176,7 @@ pub over_empty : (address : ℕ) (l : List Known) → l ≡ over (known_in addre
 unfolding known_in any.last_from
 over_empty address l = sym (over_quiet (known_in address []) 0 l (λ r a b. go r (counts r) refl))
   where
-    go : (r : ℕ) (b : Bool) → counts r ≡ b → (cond (counts r) (known_of (last_from address Never [] r)) none).mark ≡ 0
+    go : (r : ℕ) (b : Bool) → counts r ≡ b → cond (counts r) (known_of (last_from address Never [] r)) None ≡ None
     go r true e = rw e
     go r false e = rw e
 

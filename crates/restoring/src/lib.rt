@@ -4,44 +4,31 @@
 
 #![tactic(auto)]
 
-ghost use Rattle.std.specs.Prelude.{◌≡◌, true, [], ◌∷◌, ◌+◌, ◌-◌, ◌*◌, ◌≤◌, ◌<◌, length, drop};
+ghost use Rattle.std.specs.Prelude.{◌≡◌, true, Some, [], ◌∷◌, ◌+◌, ◌-◌, ◌*◌, ◌≤◌, ◌<◌, length, drop};
 ghost use Rattle.std.proofs.lemmas.List.Edits.{sets};
 ghost use Rattle.transcript.specs.Sections.{all_fit, entries_in, section_bytes};
 ghost use Rattle.sections.specs.Chain.{chain, chain_entries};
 ghost use Rattle.refusals.specs.Lent.{given};
 ghost use Rattle.restore.specs.Restore.{list_by, refused_by, run_of, run_len, runs, slot, write_of};
-ghost use Rattle.restoring.specs.Standing.{held_of, mark_of, next_sure, only, over, restore_into, sure_of, known_as, known_in, known_all};
+ghost use Rattle.restoring.specs.Standing.{held_of, next_sure, only, over, restore_into, sure_of, known_in};
 
 use refusals::Answer;
 use transcript::{Entry, Section};
 
-// What is told of registers 0x00 to 0x1f stands in two arrays that the walk lends on. A mark: the last attempt was in vain (1) or done (2), 0 where
-// nothing is told yet. And the byte that was sent.
-
-fn wide(x: u8) -> usize
-    ensures { (result ≡ x) × (result < 256) }
-{
-    x as usize
+// The last attempt at a register: the byte that was sent, and whether it was done or in vain. What is told of registers 0x00 to 0x1f stands in an array
+// that the walk lends on, `None` where nothing is told yet.
+#[derive(Clone, Copy)]
+pub struct Sent {
+    pub byte: u8,
+    pub done: bool,
 }
 
-pub fn mark_of(ok: bool) -> u8
-    ensures { result ≡ mark_of ok }
-{
-    if ok { 2 } else { 1 }
-}
-
-// The register that the j-th byte after the first is for. Numbers past 0xff do not wrap: they are registers that no chip has.
-fn upward(first: usize, j: usize) -> usize
-    requires { (first < 256) × (j < 8) }
-    ensures { result ≡ first + j }
-{
-    first + j
-}
+// How many registers one write of a list names at most.
+const LONGEST: usize = 7;
 
 // One register more that a write named. What is told already is newer.
-pub fn marked(r: usize, mark: u8, byte: u8, marks: &mut [u8], sent: &mut [u8])
-    requires { (0 < mark) × (length marks.old ≡ 32) × (length sent.old ≡ 32) }
-    ensures { known_all marks.new sent.new ≡ over (only r (known_as mark byte)) 0 (known_all marks.old sent.old) }
+pub fn marked(r: usize, sent: Sent, known: &mut [Option<Sent>; 32])
+    ensures { known.new ≡ over (only r (Some sent)) 0 known.old }
 {
     if r < 5 {
         return;
@@ -49,17 +36,15 @@ pub fn marked(r: usize, mark: u8, byte: u8, marks: &mut [u8], sent: &mut [u8])
     if 31 < r {
         return;
     }
-    if 0 < marks[r] {
-        return;
+    if known[r].is_none() {
+        known[r] = Some(sent);
     }
-    marks[r] = mark;
-    sent[r] = byte;
 }
 
 // One entry more, older than those before it: the registers that it names upward from its first byte.
-pub fn noted(e: Entry, address: u8, marks: &mut [u8], sent: &mut [u8])
-    requires { (e.n ≤ 8) × (length marks.old ≡ 32) × (length sent.old ≡ 32) }
-    ensures { known_all marks.new sent.new ≡ over (known_in address (e ∷ [])) 0 (known_all marks.old sent.old) }
+pub fn noted(e: Entry, address: u8, known: &mut [Option<Sent>; 32])
+    requires { e.n ≤ 8 }
+    ensures { known.new ≡ over (known_in address (e ∷ [])) 0 known.old }
 {
     if e.kind != transcript::I2C_WRITE {
         return;
@@ -67,38 +52,35 @@ pub fn noted(e: Entry, address: u8, marks: &mut [u8], sent: &mut [u8])
     if e.target != address {
         return;
     }
-    let mark = mark_of(e.outcome == 0);
-    let n = wide(e.n);
+    let done = e.outcome == 0;
     let bytes = e.bytes;
-    let first = wide(bytes[0]);
-    let mut j: usize = 0;
-    while j + 1 < n {
-        marked(upward(first, j), mark, bytes[j + 1], marks, sent);
-        j += 1;
+    let first = bytes[0] as usize;
+    // Numbers past 0xff do not wrap: they are registers that no chip has.
+    for j in 1..e.n as usize {
+        let sent = Sent {
+            byte: bytes[j],
+            done,
+        };
+        marked(first + j - 1, sent, known);
     }
 }
 
 // The entries of a section, from the last to the first.
-fn noted_all(s: &[u8], start: usize, count: usize, address: u8, marks: &mut [u8], sent: &mut [u8])
-    requires { (count ≤ 4096) × (start + 16 * count ≤ length s.now) × (all_fit count (drop start s.now) ≡ true)
-        × ((length marks.old ≡ 32) × (length sent.old ≡ 32)) }
-    ensures { known_all marks.new sent.new
-        ≡ over (known_in address (entries_in count (drop start s.now))) 0 (known_all marks.old sent.old) }
+fn noted_all(s: &[u8], start: usize, count: usize, address: u8, known: &mut [Option<Sent>; 32])
+    requires { (count ≤ 4096) × (start + 16 * count ≤ length s.now) × (all_fit count (drop start s.now) ≡ true) }
+    ensures { known.new ≡ over (known_in address (entries_in count (drop start s.now))) 0 known.old }
 {
-    let mut i = count;
-    while 0 < i {
-        i -= 1;
+    for i in (0..count).rev() {
         let e = Entry::get(s, start + 16 * i);
-        noted(e, address, marks, sent);
+        noted(e, address, known);
     }
 }
 
 // "From sections end to end in one slice, oldest first": the last section, then what stands before it, to the start of the slice. 12, or 0 and what they
 // tell.
-fn walked(s: &[u8], address: u8, marks: &mut [u8], sent: &mut [u8]) -> u8
-    requires { (length marks.old ≡ 32) × (length sent.old ≡ 32) }
-    ensures { (result ≡ refused_by s.now) × (chain s.now ≡ true → known_all marks.new sent.new
-        ≡ over (known_in address (chain_entries s.now)) 0 (known_all marks.old sent.old)) }
+fn walked(s: &[u8], address: u8, known: &mut [Option<Sent>; 32]) -> u8
+    ensures { (result ≡ refused_by s.now) × (chain s.now ≡ true → known.new
+        ≡ over (known_in address (chain_entries s.now)) 0 known.old) }
 {
     let mut end = s.len();
     while 0 < end {
@@ -106,79 +88,77 @@ fn walked(s: &[u8], address: u8, marks: &mut [u8], sent: &mut [u8]) -> u8
         let Some(Section { start, count }) = transcript::read_section(part) else {
             return refusals::SECTION;
         };
-        noted_all(part, start, count, address, marks, sent);
+        noted_all(part, start, count, address, known);
         end = start;
     }
     0
 }
 
-fn sure(marks: &[u8], r: usize) -> bool
-    ensures { result ≡ sure_of marks.now r }
+fn sure(known: &[Option<Sent>; 32], r: usize) -> bool
+    ensures { result ≡ sure_of known.now r }
 {
-    if marks.len() <= r {
+    if r > 31 {
         return false;
     }
-    marks[r] == 2
-}
-
-// The next register that is sure, from i on; 32 or more where there is none.
-fn next_sure(marks: &[u8], i: usize) -> usize
-    requires { i ≤ 64 }
-    ensures { result ≡ next_sure (sure_of marks.now) (32 - i) i }
-{
-    let mut r = i;
-    while r < 32 {
-        if sure(marks, r) {
-            return r;
-        }
-        r += 1;
+    match known[r] {
+        Some(sent) => sent.done,
+        None => false,
     }
-    r
 }
 
-// How many registers a run from i on has: seven at most.
-fn run_len(marks: &[u8], i: usize) -> usize
-    requires { i < 32 }
-    ensures { result ≡ run_len (sure_of marks.now) 7 i }
+// The next register that is sure, from i on.
+fn next_sure(known: &[Option<Sent>; 32], i: usize) -> Option<usize>
+    ensures { result ≡ next_sure (sure_of known.now) (32 - i) i }
 {
-    let mut k: usize = 0;
-    while k < 7 {
-        if !sure(marks, i + k) {
+    for r in i..32 {
+        if sure(known, r) {
+            return Some(r);
+        }
+    }
+    None
+}
+
+// How many registers a run from i on has.
+fn run_len(known: &[Option<Sent>; 32], i: usize) -> usize
+    requires { i < 32 }
+    ensures { result ≡ run_len (sure_of known.now) 7 i }
+{
+    for k in 0..LONGEST {
+        if !sure(known, i + k) {
             return k;
         }
-        k += 1;
     }
-    k
+    LONGEST
 }
 
 // The byte that a sure register was left with; else 0.
-fn byte_held<'a>(marks: &'a [u8], sent: &'a [u8], r: usize) -> u8
-    ensures { result ≡ held_of marks.now sent.now r }
+fn byte_held(known: &[Option<Sent>; 32], r: usize) -> u8
+    ensures { result ≡ held_of known.now r }
 {
-    if sent.len() <= r {
+    if r > 31 {
         return 0;
     }
-    if sure(marks, r) {
-        return sent[r];
+    match known[r] {
+        Some(sent) if sent.done => sent.byte,
+        _ => 0,
     }
-    0
 }
 
 // The byte at place j of a run of m from i on, and zeros after the run.
-fn byte_at<'a>(marks: &'a [u8], sent: &'a [u8], i: usize, m: usize, j: usize) -> u8
+fn byte_at(known: &[Option<Sent>; 32], i: usize, m: usize, j: usize) -> u8
     requires { (i < 32) × (j < 7) }
-    ensures { result ≡ slot (held_of marks.now sent.now) i m j }
+    ensures { result ≡ slot (held_of known.now) i m j }
 {
     if m <= j {
         return 0;
     }
-    byte_held(marks, sent, i + j)
+    byte_held(known, i + j)
 }
 
 // The write of a run: its first register, the run's bytes and zeros.
-fn write_of<'a>(address: u8, marks: &'a [u8], sent: &'a [u8], i: usize, m: usize) -> Entry
+fn write_of(address: u8, known: &[Option<Sent>; 32], i: usize, m: usize) -> Entry
     requires { (i < 32) × (m ≤ 7) }
-    ensures { result ≡ write_of address (held_of marks.now sent.now) (run_of i m) }
+    ensures { result ≡ write_of address (held_of known.now) (run_of i m) }
 {
     Entry {
         kind: transcript::I2C_WRITE,
@@ -188,30 +168,30 @@ fn write_of<'a>(address: u8, marks: &'a [u8], sent: &'a [u8], i: usize, m: usize
         address: 0,
         bytes: [
             i as u8,
-            byte_at(marks, sent, i, m, 0),
-            byte_at(marks, sent, i, m, 1),
-            byte_at(marks, sent, i, m, 2),
-            byte_at(marks, sent, i, m, 3),
-            byte_at(marks, sent, i, m, 4),
-            byte_at(marks, sent, i, m, 5),
-            byte_at(marks, sent, i, m, 6),
+            byte_at(known, i, m, 0),
+            byte_at(known, i, m, 1),
+            byte_at(known, i, m, 2),
+            byte_at(known, i, m, 3),
+            byte_at(known, i, m, 4),
+            byte_at(known, i, m, 5),
+            byte_at(known, i, m, 6),
         ],
     }
 }
 
 // The list's section at the start of the room, and how long it is.
-fn write_list<'a>(address: u8, marks: &'a [u8], sent: &'a [u8], room: &mut [u8]) -> usize
-    requires { (length marks.now ≡ 32) × (16 * length (runs (sure_of marks.now) 32 0) + 8 ≤ length room.old) }
-    ensures { (result ≡ 16 * length (runs (sure_of marks.now) 32 0) + 8)
-        × (room.new ≡ sets room.old 0 (section_bytes (list_by address (sure_of marks.now) (held_of marks.now sent.now)))) }
+fn write_list(address: u8, known: &[Option<Sent>; 32], room: &mut [u8]) -> usize
+    requires { 16 * length (runs (sure_of known.now) 32 0) + 8 ≤ length room.old }
+    ensures { (result ≡ 16 * length (runs (sure_of known.now) 32 0) + 8)
+        × (room.new ≡ sets room.old 0 (section_bytes (list_by address (sure_of known.now) (held_of known.now)))) }
 {
     let mut k: usize = 0;
-    let mut i = next_sure(marks, 0);
-    while i < 32 {
-        let m = run_len(marks, i);
-        write_of(address, marks, sent, i, m).put(room, 16 * k);
+    let mut i: usize = 0;
+    while let Some(first) = next_sure(known, i) {
+        let m = run_len(known, first);
+        write_of(address, known, first, m).put(room, 16 * k);
         k += 1;
-        i = next_sure(marks, i + m);
+        i = first + m;
     }
     transcript::seal(room, k);
     16 * k + 8
@@ -221,13 +201,12 @@ fn write_list<'a>(address: u8, marks: &'a [u8], sent: &'a [u8], room: &mut [u8])
 pub fn restore(sections: &[u8], address: u8, out: &mut [u8]) -> Answer
     ensures { given result out.new ≡ restore_into sections.now address out.old }
 {
-    let mut marks = [0u8; 32];
-    let mut sent = [0u8; 32];
-    let refusal = walked(sections, address, &mut marks, &mut sent);
+    let mut known = [None; 32];
+    let refusal = walked(sections, address, &mut known);
     if refusal != 0 {
         return Answer::Refused(refusal);
     }
     let mut image = [0u8; 232];
-    let size = write_list(address, &marks, &sent, &mut image);
+    let size = write_list(address, &known, &mut image);
     refusals::lend(0, size as u64, &image[0..size], out)
 }

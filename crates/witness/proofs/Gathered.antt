@@ -6,7 +6,8 @@ use Rattle.transcript.specs.declared.Entry.{Entry}
 use Rattle.restoring.specs.Standing.{Known, known_in, over}
 use Rattle.restoring.proofs.Telling.{over_both_lem, over_empty}
 use Rattle.witness.specs.declared.Waiting.{Waiting}
-use Rattle.witness.specs.Walk.{Seen, demod_in, seen, seen_all, waited_all, waited_by}
+use Rattle.witness.specs.declared.Seen.{Seen}
+use Rattle.witness.specs.Walk.{demod_in, seen, seen_all, waited_all, waited_by}
 use Rattle.witness.proofs.Slots.{slots_both, slots_empty}
 use Rattle.witness.proofs.Waits.{waits_both}
 

@@ -1,13 +1,14 @@
 -- What the walk from the end of sections gathers, newest first: of the chip's registers as crate restoring's walk, of the demodulator's beside it, and how
 -- the waiting for the lock ended. What the entries tell stands in crate evidence.
 -- Assumes nothing.
-use Rattle.std.specs.Prelude.{ℕ, ◌+◌, cond, ◌&&◌, ◌||◌, List, [], ◌∷◌, eqb, leb, ltb, get_or}
+use Rattle.std.specs.Prelude.{ℕ, ◌+◌, cond, ◌&&◌, ◌||◌, List, [], ◌∷◌, eqb, leb, ltb, get_or, None}
 use Rattle.transcript.specs.declared.Entry.{Entry}
 use Rattle.attempts.specs.Attempts.{names}
 use Rattle.chip.specs.Entries.{lock_bit}
-use Rattle.restoring.specs.Standing.{Known, known_in, known_of, none, over}
+use Rattle.restoring.specs.Standing.{Known, known_in, known_of, over}
 use Rattle.evidence.specs.Demodulator.{last_at}
 use Rattle.evidence.specs.Evidence.{planned, touches, try_of}
+use Rattle.witness.specs.declared.Seen.{Seen}
 use Rattle.witness.specs.declared.Waiting.{Waiting}
 
 -- ---- the demodulator's registers, in slots 8 to 15
@@ -19,7 +20,7 @@ abbrev pub place_of : ℕ → ℕ
 place_of k = get_or places k 0
 
 unfoldable pub demod_in : List Entry → ℕ → Known
-demod_in es k = cond (leb 8 k && ltb k 16) (known_of (last_at es (place_of k))) none
+demod_in es k = cond (leb 8 k && ltb k 16) (known_of (last_at es (place_of k))) None
 
 -- ---- the waiting
 
@@ -47,11 +48,6 @@ waited_all address [] w = w
 waited_all address (e ∷ es) w = waited_by address e (waited_all address es w)
 
 -- ---- all of it
-
-pub record Seen : Type 0 where
-  pub chip : List Known
-  pub demod : List Known
-  pub waiting : Waiting
 
 abbrev pub seen : List Known → List Known → Waiting → Seen
 seen chip demod w = record { chip = chip; demod = demod; waiting = w }

@@ -16,17 +16,18 @@ ghost use Rattle.restore.specs.Restore.{refused_by};
 ghost use Rattle.registers.specs.Rates.{negated_of};
 ghost use Rattle.oscillator.specs.Registers.{five};
 ghost use Rattle.status.specs.Reversal.{locked_by};
-ghost use Rattle.restoring.specs.Standing.{known_all, mark_of, only, over};
+ghost use Rattle.restoring.specs.Standing.{byte_of, only, over};
 ghost use Rattle.evidence.specs.Demodulator as demod;
 ghost use Rattle.evidence.specs.Evidence.{centre_of, lo_units, planned, touches, try_of};
-ghost use Rattle.witness.specs.Walk.{demod_in, most, place_of, seen, seen_all, waited_by, waiting};
+ghost use Rattle.witness.specs.Walk.{demod_in, most, place_of, seen_all, waited_by};
 ghost use Rattle.witness.specs.Answer.{answer_bytes, centre_mark, evidence_into, if_sure};
-ghost use Rattle.witness.specs.InCode.{mark_from, marks_in, numbers_in};
+ghost use Rattle.witness.specs.InCode.{all_are, mark_from, mark_known, marks_in, numbers_in};
 
 use refusals::Answer;
+use restoring::Sent;
 use transcript::{Entry, Section};
 
-// What is told of the chip's registers stands in two arrays, as restoring's walk has them; of the demodulator's in two more, in their slots 8 to 15.
+// What is told of the chip's registers stands in an array, as restoring's walk has it; of the demodulator's in another, in its slots 8 to 15.
 const PLACES: [u16; 16] = [
     0, 0, 0, 0, 0, 0, 0, 0, 0x15, 0x19, 0x1a, 0x1b, 0x9f, 0xa0, 0xa1, 0xa2,
 ];
@@ -74,23 +75,22 @@ fn byte_for(e: Entry, register: u16, named: bool) -> u8
 }
 
 // What an entry tells of one slot of the demodulator's. What is told already is newer.
-fn noted_at(e: Entry, k: usize, shaken: bool, mark: u8, states: &mut [u8], values: &mut [u8])
-    requires { ((e.n ≤ 8) × ((8 ≤ k) × (k < 16))) × ((shaken ≡ demod.shakes e) × (mark ≡ mark_of (demod.demod_settles e)))
-        × ((length states.old ≡ 32) × (length values.old ≡ 32)) }
-    ensures { known_all states.new values.new
-        ≡ over (only k (demod_in (e ∷ []) k)) 0 (known_all states.old values.old) }
+fn noted_at(e: Entry, k: usize, shaken: bool, done: bool, known: &mut [Option<Sent>; 32])
+    requires { ((e.n ≤ 8) × ((8 ≤ k) × (k < 16))) × ((shaken ≡ demod.shakes e) × (done ≡ demod.demod_settles e)) }
+    ensures { known.new ≡ over (only k (demod_in (e ∷ []) k)) 0 known.old }
 {
     let register = place_of(k);
     let named = covers(e, transcript::DEMOD, 1, register);
     if named | shaken {
-        restoring::marked(k, mark, byte_for(e, register, named), states, values);
+        let byte = byte_for(e, register, named);
+        restoring::marked(k, Sent { byte, done }, known);
     }
 }
 
 // One entry more, older than those before it: what it tells of the demodulator's registers. Only writes of kinds 4 to 7 do.
-fn noted_demod(e: Entry, states: &mut [u8], values: &mut [u8])
-    requires { (e.n ≤ 8) × (length states.old ≡ 32) × (length values.old ≡ 32) }
-    ensures { known_all states.new values.new ≡ over (demod_in (e ∷ [])) 0 (known_all states.old values.old) }
+fn noted_demod(e: Entry, known: &mut [Option<Sent>; 32])
+    requires { e.n ≤ 8 }
+    ensures { known.new ≡ over (demod_in (e ∷ [])) 0 known.old }
 {
     if e.kind < transcript::DEMOD {
         return;
@@ -99,11 +99,9 @@ fn noted_demod(e: Entry, states: &mut [u8], values: &mut [u8])
         return;
     }
     let shaken = shakes(e);
-    let mark = restoring::mark_of((e.outcome == 0) & !shaken & !(e.kind == transcript::REPEATER));
-    let mut k: usize = 8;
-    while k < 16 {
-        noted_at(e, k, shaken, mark, states, values);
-        k += 1;
+    let done = (e.outcome == 0) & !shaken & !(e.kind == transcript::REPEATER);
+    for k in 8..16 {
+        noted_at(e, k, shaken, done, known);
     }
 }
 
@@ -113,6 +111,14 @@ pub struct Waiting {
     pub stage: u8,
     pub lock: u8,
     pub tries: u32,
+}
+
+// All that the walk gathers.
+#[derive(Clone, Copy)]
+pub struct Seen {
+    pub chip: [Option<Sent>; 32],
+    pub demod: [Option<Sent>; 32],
+    pub waiting: Waiting,
 }
 
 // The first register past those that an I2C write names.
@@ -163,11 +169,10 @@ fn stage_after(stage: u8, plan: bool, told: bool) -> u8
 fn lock_told(write: bool, read: bool, bit: bool) -> u8
     ensures { result ≡ cond write 0 (cond read (cond bit 2 1) 0) }
 {
-    let told = restoring::mark_of(bit);
-    if write {
+    if write | !read {
         return 0;
     }
-    if read { told } else { 0 }
+    if bit { 2 } else { 1 }
 }
 
 // One try more. A count past u32 stays there.
@@ -218,94 +223,40 @@ fn waited(w: Waiting, e: Entry, address: u8) -> Waiting
 }
 
 // One entry more of all that is gathered.
-fn heard(
-    e: Entry,
-    address: u8,
-    w: Waiting,
-    marks: &mut [u8],
-    sent: &mut [u8],
-    states: &mut [u8],
-    values: &mut [u8],
-) -> Waiting
-    requires { (e.n ≤ 8) × ((length marks.old ≡ 32) × (length sent.old ≡ 32)) × ((length states.old ≡ 32) × (length values.old ≡ 32)) }
-    ensures { seen (known_all marks.new sent.new) (known_all states.new values.new) result
-        ≡ seen_all address (e ∷ []) (seen (known_all marks.old sent.old) (known_all states.old values.old) w) }
+fn heard(e: Entry, address: u8, seen: &mut Seen)
+    requires { e.n ≤ 8 }
+    ensures { seen.new ≡ seen_all address (e ∷ []) seen.old }
 {
-    restoring::noted(e, address, marks, sent);
-    noted_demod(e, states, values);
-    waited(w, e, address)
+    restoring::noted(e, address, &mut seen.chip);
+    noted_demod(e, &mut seen.demod);
+    seen.waiting = waited(seen.waiting, e, address);
 }
 
 // The entries of a section, from the last to the first.
-fn heard_all(
-    s: &[u8],
-    start: usize,
-    count: usize,
-    address: u8,
-    old: Waiting,
-    marks: &mut [u8],
-    sent: &mut [u8],
-    states: &mut [u8],
-    values: &mut [u8],
-) -> Waiting
-    requires { ((count ≤ 4096) × (start + 16 * count ≤ length s.now) × (all_fit count (drop start s.now) ≡ true))
-        × ((length marks.old ≡ 32) × (length sent.old ≡ 32)) × ((length states.old ≡ 32) × (length values.old ≡ 32)) }
-    ensures { seen (known_all marks.new sent.new) (known_all states.new values.new) result
-        ≡ seen_all address (entries_in count (drop start s.now))
-        (seen (known_all marks.old sent.old) (known_all states.old values.old) old) }
+fn heard_all(s: &[u8], start: usize, count: usize, address: u8, seen: &mut Seen)
+    requires { (count ≤ 4096) × (start + 16 * count ≤ length s.now) × (all_fit count (drop start s.now) ≡ true) }
+    ensures { seen.new ≡ seen_all address (entries_in count (drop start s.now)) seen.old }
 {
-    let mut w = old;
-    let mut i = count;
-    while 0 < i {
-        i -= 1;
+    for i in (0..count).rev() {
         let e = Entry::get(s, start + 16 * i);
-        w = heard(e, address, w, marks, sent, states, values);
+        heard(e, address, seen);
     }
-    w
-}
-
-#[derive(Clone, Copy)]
-pub struct Ended {
-    pub refusal: u8,
-    pub waiting: Waiting,
 }
 
 // The last section, then what stands before it, to the start of the slice. 12, or 0 and what they tell.
-fn walked(
-    s: &[u8],
-    address: u8,
-    marks: &mut [u8],
-    sent: &mut [u8],
-    states: &mut [u8],
-    values: &mut [u8],
-) -> Ended
-    requires { ((length marks.old ≡ 32) × (length sent.old ≡ 32)) × ((length states.old ≡ 32) × (length values.old ≡ 32)) }
-    ensures { (result.refusal ≡ refused_by s.now) × (chain s.now ≡ true →
-        seen (known_all marks.new sent.new) (known_all states.new values.new) result.waiting
-        ≡ seen_all address (chain_entries s.now)
-        (seen (known_all marks.old sent.old) (known_all states.old values.old) (waiting 0 0 0))) }
+fn walked(s: &[u8], address: u8, seen: &mut Seen) -> u8
+    ensures { (result ≡ refused_by s.now) × (chain s.now ≡ true → seen.new ≡ seen_all address (chain_entries s.now) seen.old) }
 {
-    let mut w = Waiting {
-        stage: 0,
-        lock: 0,
-        tries: 0,
-    };
     let mut end = s.len();
     while 0 < end {
         let part = &s[0..end];
         let Some(Section { start, count }) = transcript::read_section(part) else {
-            return Ended {
-                refusal: refusals::SECTION,
-                waiting: w,
-            };
+            return refusals::SECTION;
         };
-        w = heard_all(part, start, count, address, w, marks, sent, states, values);
+        heard_all(part, start, count, address, seen);
         end = start;
     }
-    Ended {
-        refusal: 0,
-        waiting: w,
-    }
+    0
 }
 
 #[derive(Clone, Copy)]
@@ -326,49 +277,44 @@ fn mark_by(sure: bool, never: bool) -> u8
     if never { 0 } else { 1 }
 }
 
-fn of_three(a: u8, b: u8, c: u8) -> u8
-    ensures { result ≡ mark_from (a ∷ b ∷ c ∷ []) }
+fn mark_of(known: Option<Sent>) -> u8
+    ensures { result ≡ mark_known known }
 {
-    mark_by(
-        (a == 2) & ((b == 2) & (c == 2)),
-        (a == 0) & ((b == 0) & (c == 0)),
-    )
+    match known {
+        Some(sent) => { if sent.done { 2 } else { 1 } }
+        None => 0,
+    }
 }
 
-fn of_four(a: u8, b: u8, c: u8, d: u8) -> u8
-    ensures { result ≡ mark_from (a ∷ b ∷ c ∷ d ∷ []) }
+fn all_are(known: &[Option<Sent>], mark: u8) -> bool
+    ensures { result ≡ all_are mark known.now }
 {
-    mark_by(
-        (a == 2) & ((b == 2) & ((c == 2) & (d == 2))),
-        (a == 0) & ((b == 0) & ((c == 0) & (d == 0))),
-    )
+    for k in known {
+        if mark_of(*k) != mark {
+            return false;
+        }
+    }
+    true
 }
 
-fn of_five(a: u8, b: u8, c: u8, d: u8, e: u8) -> u8
-    ensures { result ≡ mark_from (a ∷ b ∷ c ∷ d ∷ e ∷ []) }
+// The mark of several registers.
+fn mark_from(known: &[Option<Sent>]) -> u8
+    ensures { result ≡ mark_from known.now }
 {
-    mark_by(
-        (a == 2) & ((b == 2) & ((c == 2) & ((d == 2) & (e == 2)))),
-        (a == 0) & ((b == 0) & ((c == 0) & ((d == 0) & (e == 0)))),
-    )
+    mark_by(all_are(known, 2), all_are(known, 0))
 }
 
-fn marks_in<'a>(marks: &'a [u8], states: &'a [u8], lock: u8) -> Marks
-    requires { (length marks.now ≡ 32) × (length states.now ≡ 32) }
-    ensures { result ≡ marks_in marks.now states.now lock }
+fn marks_in(seen: &Seen) -> Marks
+    ensures { result ≡ marks_in seen.now }
 {
+    let chip = &seen.chip;
+    let demod = &seen.demod;
     Marks {
-        oscillator: of_five(
-            marks[0x10],
-            marks[0x12],
-            marks[0x14],
-            marks[0x15],
-            marks[0x16],
-        ),
-        offset: of_three(states[9], states[10], states[11]),
-        rate: of_four(states[12], states[13], states[14], states[15]),
-        ddc: states[8],
-        lock: lock,
+        oscillator: mark_from(&[chip[0x10], chip[0x12], chip[0x14], chip[0x15], chip[0x16]]),
+        offset: mark_from(&demod[9..12]),
+        rate: mark_from(&demod[12..16]),
+        ddc: mark_of(demod[8]),
+        lock: seen.waiting.lock,
     }
 }
 
@@ -423,20 +369,41 @@ fn rate_of(xtal: u32, ratio: u32) -> u64
     (xtal as u64) * 4_194_304 / (ratio as u64)
 }
 
-fn numbers_in<'a>(sent: &'a [u8], values: &'a [u8], tries: u32, r: u32, xtal: u32) -> Numbers
-    requires { (length sent.now ≡ 32) × (length values.now ≡ 32) }
-    ensures { result ≡ numbers_in sent.now values.now tries r xtal }
+// The byte that was sent last; 0 where none was.
+fn byte_of(known: Option<Sent>) -> u8
+    ensures { result ≡ byte_of known }
 {
-    let word = word_of(values[9], values[10], values[11]);
-    let ratio = ratio_of(values[12], values[13], values[14], values[15]);
+    match known {
+        Some(sent) => sent.byte,
+        None => 0,
+    }
+}
+
+fn numbers_in(seen: &Seen, r: u32, xtal: u32) -> Numbers
+    ensures { result ≡ numbers_in seen.now r xtal }
+{
+    let chip = &seen.chip;
+    let demod = &seen.demod;
+    let word = word_of(byte_of(demod[9]), byte_of(demod[10]), byte_of(demod[11]));
+    let ratio = ratio_of(
+        byte_of(demod[12]),
+        byte_of(demod[13]),
+        byte_of(demod[14]),
+        byte_of(demod[15]),
+    );
     Numbers {
-        tries: tries,
-        ddc: values[8],
+        tries: seen.waiting.tries,
+        ddc: byte_of(demod[8]),
         word: word,
         ratio: ratio,
         rate: rate_of(xtal, ratio),
         oscillator: units(
-            r, sent[0x10], sent[0x12], sent[0x14], sent[0x15], sent[0x16],
+            r,
+            byte_of(chip[0x10]),
+            byte_of(chip[0x12]),
+            byte_of(chip[0x14]),
+            byte_of(chip[0x15]),
+            byte_of(chip[0x16]),
         ),
         offset: offset_of(xtal, word),
     }
@@ -475,33 +442,26 @@ fn centre_of(lo: u64, offset: u64) -> u64
     (lo - offset) / 8_388_608
 }
 
-fn field(image: &mut [u8; 52], at: usize, n: u64, k: usize)
-    requires { at + k ≤ 52 }
-    ensures { image.new ≡ sets image.old at (le_bytes k n) }
-{
-    wire::put(image, at, n, k);
-}
-
 fn answer_image(m: Marks, n: Numbers) -> [u8; 52]
     ensures { result ≡ answer_bytes m n }
 {
     let centre = centre_mark(m, n);
     let mut image = [0u8; 52];
-    field(&mut image, 0, m.oscillator as u64, 1);
-    field(&mut image, 1, m.offset as u64, 1);
-    field(&mut image, 2, m.rate as u64, 1);
-    field(&mut image, 3, m.ddc as u64, 1);
-    field(&mut image, 4, m.lock as u64, 1);
-    field(&mut image, 5, centre as u64, 1);
-    field(&mut image, 6, if_sure(m.ddc, n.ddc as u64), 1);
-    field(&mut image, 7, 0, 1);
-    field(&mut image, 8, n.tries as u64, 4);
-    field(&mut image, 12, if_sure(m.offset, n.word as u64), 4);
-    field(&mut image, 16, if_sure(m.rate, n.ratio as u64), 4);
-    field(&mut image, 20, if_sure(m.rate, n.rate), 8);
-    field(&mut image, 28, if_sure(m.oscillator, n.oscillator), 8);
-    field(&mut image, 36, if_sure(m.offset, n.offset), 8);
-    field(
+    wire::put(&mut image, 0, m.oscillator as u64, 1);
+    wire::put(&mut image, 1, m.offset as u64, 1);
+    wire::put(&mut image, 2, m.rate as u64, 1);
+    wire::put(&mut image, 3, m.ddc as u64, 1);
+    wire::put(&mut image, 4, m.lock as u64, 1);
+    wire::put(&mut image, 5, centre as u64, 1);
+    wire::put(&mut image, 6, if_sure(m.ddc, n.ddc as u64), 1);
+    wire::put(&mut image, 7, 0, 1);
+    wire::put(&mut image, 8, n.tries as u64, 4);
+    wire::put(&mut image, 12, if_sure(m.offset, n.word as u64), 4);
+    wire::put(&mut image, 16, if_sure(m.rate, n.ratio as u64), 4);
+    wire::put(&mut image, 20, if_sure(m.rate, n.rate), 8);
+    wire::put(&mut image, 28, if_sure(m.oscillator, n.oscillator), 8);
+    wire::put(&mut image, 36, if_sure(m.offset, n.offset), 8);
+    wire::put(
         &mut image,
         44,
         if_sure(centre, centre_of(n.oscillator, n.offset)),
@@ -517,24 +477,21 @@ pub fn evidence(sections: &[u8], address: u8, r: u32, xtal: u32, out: &mut [u8])
     if (r == 0) | (xtal == 0) {
         return Answer::Refused(refusals::CORRECTION);
     }
-    let mut marks = [0u8; 32];
-    let mut sent = [0u8; 32];
-    let mut states = [0u8; 32];
-    let mut values = [0u8; 32];
-    let end = walked(
-        sections,
-        address,
-        &mut marks,
-        &mut sent,
-        &mut states,
-        &mut values,
-    );
-    if end.refusal != 0 {
-        return Answer::Refused(end.refusal);
+    let mut seen = Seen {
+        chip: [None; 32],
+        demod: [None; 32],
+        waiting: Waiting {
+            stage: 0,
+            lock: 0,
+            tries: 0,
+        },
+    };
+    let refusal = walked(sections, address, &mut seen);
+    if refusal != 0 {
+        return Answer::Refused(refusal);
     }
-    let w = end.waiting;
-    let m = marks_in(&marks, &states, w.lock);
-    let n = numbers_in(&sent, &values, w.tries, r, xtal);
+    let m = marks_in(&seen);
+    let n = numbers_in(&seen, r, xtal);
     let image = answer_image(m, n);
     refusals::lend(0, 0, &image, out)
 }

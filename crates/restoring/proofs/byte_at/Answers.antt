@@ -9,9 +9,9 @@ use Rattle.restoring.proofs.byte_at.Goals as goal
 pub returns-then-m-j : goal.returns-then-m-j
 returns-then-m-j c =
     let a = c.args in
-    slot_past (held_of a.marks.now a.sent.now) a.i a.m a.j (omega arith)
+    slot_past (held_of a.known.now) a.i a.m a.j (omega arith)
 
 pub returns : goal.returns
 returns c =
     let a = c.args in
-    c.byte_held.ensures ∙ slot_in (held_of a.marks.now a.sent.now) a.i a.m a.j (omega arith)
+    c.byte_held.ensures ∙ slot_in (held_of a.known.now) a.i a.m a.j (omega arith)

@@ -1,21 +1,22 @@
 -- `restoring::byte_held` meets its contract.
 -- Assumes nothing.
-use mathlib.Core.Path.{sym, ◌∙◌}
 use native.Mathlib.Omega.{arith}
-use Rattle.restoring.proofs.Laying.{held_not, held_there, nil_past}
+use Rattle.restoring.specs.Standing.{held_of, sure_of}
+use Rattle.restoring.proofs.Laying.{none_past}
 use Rattle.restoring.proofs.byte_held.Goals as goal
 
-pub returns-then-sent-r : goal.returns-then-sent-r
-returns-then-sent-r c =
-    let args = c.args in
-    nil_past args.marks.now args.sent.now args.r (omega arith)
+pub returns-then-r-gt31 : goal.returns-then-r-gt31
+unfolding held_of
+returns-then-r-gt31 c = rw (← none_past c.args.known.now c.args.r (omega arith))
 
-pub returns-then-sure : goal.returns-then-sure
-returns-then-sure c =
-    let args = c.args in
-    held_there args.marks.now args.sent.now args.r (sym c.sure.ensures ∙ c.if-sure.true)
+pub returns-in-Some : goal.returns-in-Some
+unfolding held_of sure_of
+returns-in-Some c = rw (c.in-Some.is, c.if-sent.true)
 
-pub returns : goal.returns
-returns c =
-    let args = c.args in
-    held_not args.marks.now args.sent.now args.r (sym c.sure.ensures ∙ c.if-sure.false)
+pub returns-in_default : goal.returns-in_default
+unfolding held_of sure_of
+returns-in_default c = rw (c.in-Some.is, c.if-sent.false)
+
+pub returns-in_default-2 : goal.returns-in_default-2
+unfolding held_of sure_of
+returns-in_default-2 c = rw c.in_default.is

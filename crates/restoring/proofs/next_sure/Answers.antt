@@ -13,14 +13,14 @@ loop-r-init c = refl
 pub returns-then-sure : goal.returns-then-sure
 returns-then-sure c =
     let l = c.loop-r in
-    sure_found (sure_of c.args.marks.now) (32 - l.r) l.r (omega arith) (sym c.sure.ensures ∙ c.if-sure.true) ∙ l.invariant
+    sure_found (sure_of c.args.known.now) (32 - l.r) l.r (omega arith) (sym c.sure.ensures ∙ c.if-sure.true) ∙ l.invariant
 
 pub loop-r-preserved : goal.loop-r-preserved
 loop-r-preserved c =
     let l = c.loop-r in
-    sure_on (sure_of c.args.marks.now) 32 l.r (omega arith) (sym c.sure.ensures ∙ c.if-sure.false) ∙ l.invariant
+    sure_on (sure_of c.args.known.now) 32 l.r (omega arith) (sym c.sure.ensures ∙ c.if-sure.false) ∙ l.invariant
 
 pub returns : goal.returns
 returns c =
     let l = c.loop-r in
-    sure_none (sure_of c.args.marks.now) 32 l.r (omega arith) ∙ l.invariant
+    sure_none (sure_of c.args.known.now) 32 l.r (omega arith) ∙ l.invariant

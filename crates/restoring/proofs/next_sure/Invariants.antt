@@ -6,7 +6,4 @@ use Rattle.restoring.specs.Standing.{next_sure, sure_of}
 use Rattle.restoring.proofs.next_sure.Given as goal
 
 abbrev pub invariant-loop-r : goal.invariant-loop-r
-invariant-loop-r l = next_sure (sure_of l.marks) (32 - l.r) l.r ≡ next_sure (sure_of l.marks) (32 - l.i) l.i
-
-abbrev pub decreases-loop-r : goal.decreases-loop-r
-decreases-loop-r l = 32 - l.r
+invariant-loop-r l = next_sure (sure_of l.known) (32 - l.r) l.r ≡ next_sure (sure_of l.known) (32 - l.i) l.i

@@ -20,8 +20,8 @@ write_list-size-requires c =
     let a = c.args in
     let sections = a.sections.now in
     let good = all_good sections w.result w.ensures.0 c.if-refusal-ne0.false in
-    let few = fourteen a.address (chain_entries sections) w.new.marks w.new.sent (search rules) (search rules) (w.ensures.1 good) in
-    (search rules, omega (arith, few))
+    let few = fourteen a.address (chain_entries sections) w.new.known (omega arith) (w.ensures.1 good) in
+    omega (arith, few)
 
 pub slice_bounds-lend-end : goal.slice_bounds-lend-end
 slice_bounds-lend-end c =
@@ -30,7 +30,7 @@ slice_bounds-lend-end c =
     let a = c.args in
     let sections = a.sections.now in
     let good = all_good sections w.result w.ensures.0 c.if-refusal-ne0.false in
-    let few = fourteen a.address (chain_entries sections) w.new.marks w.new.sent (search rules) (search rules) (w.ensures.1 good) in
+    let few = fourteen a.address (chain_entries sections) w.new.known (omega arith) (w.ensures.1 good) in
     let long : length write-list.new.room ≡ 232 = search rules in
     omega (arith, few, long, write-list.ensures.0)
 
@@ -42,5 +42,5 @@ returns c =
     let sections = a.sections.now in
     let good = all_good sections w.result w.ensures.0 c.if-refusal-ne0.false in
     c.lend.ensures
-    ∙ lends sections a.address good w.new.marks w.new.sent (search rules) (search rules) (w.ensures.1 good) _ _ a.out.now
+    ∙ lends sections a.address good w.new.known (omega arith) (w.ensures.1 good) _ _ a.out.now
     write-list.result (search rules) write-list.ensures.0 write-list.ensures.1

@@ -7,7 +7,4 @@ use Rattle.restoring.specs.Standing.{sure_of}
 use Rattle.restoring.proofs.run_len.Given as goal
 
 abbrev pub invariant-loop-k : goal.invariant-loop-k
-invariant-loop-k l = (l.k ≤ 7) × (l.k + run_len (sure_of l.marks) (7 - l.k) (l.i + l.k) ≡ run_len (sure_of l.marks) 7 l.i)
-
-abbrev pub decreases-loop-k : goal.decreases-loop-k
-decreases-loop-k l = 7 - l.k
+invariant-loop-k l = (l.k ≤ 7) × (l.k + run_len (sure_of l.known) (7 - l.k) (l.i + l.k) ≡ run_len (sure_of l.known) 7 l.i)

@@ -4,11 +4,10 @@ use Prim.Native.Nat.{◌-◌}
 use mathlib.Core.Path.{refl, sym, ap, ◌∙◌}
 use mathlib.Core.List.{List}
 use native.Mathlib.Omega.{arith}
-use borrow.Author.Rules.{rules}
 use Prim.Native.Nat.{ℕ}
 use lib.ListN.{take}
 use Rattle.sections.specs.Chain.{chain, chain_entries}
-use Rattle.restoring.specs.Standing.{over, known_in, known_all}
+use Rattle.restoring.specs.Standing.{over, known_in}
 use Rattle.restoring.proofs.Backward.{all_sections, all_told, begin, chain_on, few, fit, lower, not_both, refused, stopped, told_on, within}
 use Rattle.restoring.proofs.walked.Goals as goal
 
@@ -17,10 +16,7 @@ loop-end-init c =
     let a = c.args in
     let all = begin a.s.now in (
       omega arith,
-      (
-        omega arith,
-        (omega arith, (ap chain all, ap (λ (l : List ℕ). over (known_in a.address (chain_entries l)) 0 (known_all a.marks.now a.sent.now)) all)),
-      ),
+      (ap chain all, ap (λ (l : List ℕ). over (known_in a.address (chain_entries l)) 0 a.known.now) all),
     )
 
 pub returns-in_default : goal.returns-in_default
@@ -28,7 +24,7 @@ returns-in_default c =
     let l = c.loop-end in
     let s = c.args.s.now in
     let bad =
-    stopped s (take (l.end - 0) s) l.end refl (omega arith) l.invariant.0 l.invariant.1.1.1.0
+    stopped s (take (l.end - 0) s) l.end refl (omega arith) l.invariant.0 l.invariant.1.0
     (sym c.in_default.is ∙ c.read_section.ensures) in
     (refused s bad, not_both s bad)
 
@@ -41,7 +37,6 @@ noted_all-requires c =
       few s p l.end refl (omega arith) l.invariant.0 _ _ read,
       within s p l.end refl (omega arith) l.invariant.0 _ _ read,
       fit s p l.end refl (omega arith) l.invariant.0 _ _ read,
-      (search rules, search rules),
     )
 
 pub loop-end-smaller : goal.loop-end-smaller
@@ -61,15 +56,8 @@ loop-end-preserved c =
     let less = lower s p l.end refl (omega arith) l.invariant.0 _ _ read in (
       omega (arith, less),
       (
-        search rules,
-        (
-          search rules,
-          (
-            chain_on s p l.end refl (omega arith) l.invariant.0 _ _ read ∙ l.invariant.1.1.1.0,
-            told_on s p l.end refl (omega arith) l.invariant.0 _ _ read a.address (known_all l.marks l.sent) _ c.noted_all.ensures
-                ∙ l.invariant.1.1.1.1,
-          ),
-        ),
+        chain_on s p l.end refl (omega arith) l.invariant.0 _ _ read ∙ l.invariant.1.0,
+        told_on s p l.end refl (omega arith) l.invariant.0 _ _ read a.address l.known _ c.noted_all.ensures ∙ l.invariant.1.1,
       ),
     )
 
@@ -78,6 +66,6 @@ returns c =
     let l = c.loop-end in
     let a = c.args in
     let s = a.s.now in (
-      all_sections s l.end (omega arith) l.invariant.1.1.1.0,
-      λ h. all_told s l.end (omega arith) l.invariant.1.1.1.0 a.address (known_all l.marks l.sent) ∙ l.invariant.1.1.1.1,
+      all_sections s l.end (omega arith) l.invariant.1.0,
+      λ h. all_told s l.end (omega arith) l.invariant.1.0 a.address l.known ∙ l.invariant.1.1,
     )

@@ -4,15 +4,13 @@ use Prim.Native.Nat.{◌≤◌}
 use mathlib.Core.Path.{◌≡◌}
 use lib.ListN.{length, take}
 use Rattle.sections.specs.Chain.{chain, chain_entries}
-use Rattle.restoring.specs.Standing.{over, known_in, known_all}
+use Rattle.restoring.specs.Standing.{over, known_in}
 use Rattle.restoring.proofs.walked.Given as goal
 
 abbrev pub invariant-loop-end : goal.invariant-loop-end
 invariant-loop-end l = (l.end ≤ length l.s)
-    × ((length l.marks ≡ 32)
-    × ((length l.sent ≡ 32)
     × ((chain (take l.end l.s) ≡ chain l.s)
-    × (over (known_in l.address (chain_entries (take l.end l.s))) 0 (known_all l.marks l.sent) ≡ over (known_in l.address (chain_entries l.s)) 0 (known_all l.initial.marks l.initial.sent)))))
+    × (over (known_in l.address (chain_entries (take l.end l.s))) 0 l.known ≡ over (known_in l.address (chain_entries l.s)) 0 l.initial.known))
 
 abbrev pub decreases-loop-end : goal.decreases-loop-end
 decreases-loop-end l = l.end

@@ -1,152 +1,99 @@
 -- `restoring::write_list` meets its contract. The loop's invariant: the writes of the runs that are left, stored after those that are stored, leave what all of them leave; then the trailer.
 -- Assumes nothing.
-use Prim.Native.Nat.{◌+◌, ◌*◌}
-use mathlib.Core.Path.{◌≡◌, refl, sym, ap, ◌∙◌}
-use mathlib.Core.List.{List, map}
+use Prim.Native.Nat.{◌+◌, ◌-◌, ◌*◌, ◌≤◌, ◌<◌, ℕ}
+use mathlib.Core.Path.{◌≡◌, sym, ap, ◌∙◌}
+use mathlib.Core.List.{List, map, ◌∷◌}
 use native.Mathlib.Omega.{arith}
 use borrow.Author.Rules.{rules}
 use lib.ListN.{length}
 use lib.Seq.{sets}
 use Rattle.transcript.specs.Sections.{entries_bytes}
-use Rattle.restore.specs.Restore.{Run, run_of, runs, write_of}
-use Rattle.restoring.specs.Standing.{held_of, sure_of}
-use Rattle.restoring.proofs.Laying.{few_runs, laid_all, laid_on, later, left, none_above, none_left, one_run, run_size, skipped, stands_sure}
+use Rattle.restore.specs.Restore.{Run, run_len, run_of, runs, write_of}
+use Rattle.restoring.specs.Standing.{Known, held_of, next_sure, sure_of}
+use Rattle.restoring.proofs.Laying.{few_runs, found, laid_all, laid_on, left, no_more, none_above, one_run, run_size}
+use Rattle.std.specs.Prelude.{Some}
 use Rattle.restoring.proofs.write_list.Goals as goal
 
-pub loop-i-init : goal.loop-i-init
-loop-i-init c =
-    let a = c.args in
-    let marks = a.marks.now in
-    let sure = sure_of marks in
-    let first = c.next_sure-i.result in
-    let all = skipped sure 0 first c.next_sure-i.ensures in (
-      refl,
-      (
-        stands_sure sure 0 first c.next_sure-i.ensures,
-        (
-          omega (arith, ap length all),
-          ap (λ (ws : List Run). sets a.room.now 0 (entries_bytes (map (write_of a.address (held_of marks a.sent.now)) ws))) all,
-        ),
-      ),
-    )
+-- the run that begins at the next sure register: where it is, how long, and what is left after it
+record Turn (known : List Known) (i first m : ℕ) : Type 0 where
+  low : i ≤ first
+  high : first < 32
+  size : (0 < m) × (m ≤ 7)
+  split : left (sure_of known) i ≡ run_of first m ∷ left (sure_of known) (first + m)
+
+turn : (known : List Known) (i first m : ℕ) → length known ≡ 32 → Some first ≡ next_sure (sure_of known) (32 - i) i → m ≡ run_len (sure_of known) 7 first → Turn known i first m
+turn known i first m long next is =
+    let sure = sure_of known in
+    let f = found sure i first next in
+    let above = none_above known long in
+    record {
+      low = f.from;
+      high = f.below;
+      size = run_size sure above first m f.sure_there is;
+      split = sym f.same ∙ one_run sure above first m f.below f.sure_there is;
+    }
+
+pub run_len-m-requires : goal.run_len-m-requires
+run_len-m-requires c =
+    let f = found (sure_of c.args.known.now) c.loop-first.i c.in-Some.first (sym c.in-Some.is ∙ c.next_sure.ensures) in
+    f.below
 
 pub write_of-requires : goal.write_of-requires
 write_of-requires c =
-    let l = c.loop-i in
-    let a = c.args in
-    let marks = a.marks.now in
-    let size = run_size (sure_of marks) (none_above marks c.requires.0) l.i c.run_len-m.result (l.invariant.1.0 (omega arith)) c.run_len-m.ensures in
-    (omega arith, size.1)
-
-pub overflow_mul-k : goal.overflow_mul-k
-overflow_mul-k c =
-    let l = c.loop-i in
-    let a = c.args in
-    let most = few_runs (sure_of a.marks.now) 32 0 in
-    record { fits = omega (arith, most, l.invariant.1.1.0) }
+    let t = turn c.args.known.now c.loop-first.i c.in-Some.first c.run_len-m.result (omega arith) (sym c.in-Some.is ∙ c.next_sure.ensures) c.run_len-m.ensures in
+    (t.high, t.size.1)
 
 pub put-requires : goal.put-requires
 put-requires c =
-    let run_len = c.run_len-m in
-    let l = c.loop-i in
-    let a = c.args in
-    let pre = c.requires in
-    let marks = a.marks.now in
-    let sure = sure_of marks in
-    let more =
-    ap length (one_run sure (none_above marks pre.0) l.i run_len.result _ (omega arith) (l.invariant.1.0 (omega arith)) run_len.ensures refl) in
-    omega (arith, more, l.invariant.0, l.invariant.1.1.0, pre.1)
-
-pub overflow_add-k : goal.overflow_add-k
-overflow_add-k c =
-    let l = c.loop-i in
-    let most = few_runs (sure_of c.args.marks.now) 32 0 in
-    record { fits = omega (arith, most, l.invariant.1.1.0) }
+    let t = turn c.args.known.now c.loop-first.i c.in-Some.first c.run_len-m.result (omega arith) (sym c.in-Some.is ∙ c.next_sure.ensures) c.run_len-m.ensures in
+    omega (arith, ap length t.split)
 
 pub overflow_add-i : goal.overflow_add-i
 overflow_add-i c =
-    let run_len = c.run_len-m in
-    let l = c.loop-i in
-    let a = c.args in
-    let marks = a.marks.now in
-    let size = run_size (sure_of marks) (none_above marks c.requires.0) l.i run_len.result (l.invariant.1.0 (omega arith)) run_len.ensures in
-    record { fits = omega (arith, size.1) }
+    let t = turn c.args.known.now c.loop-first.i c.in-Some.first c.run_len-m.result (omega arith) (sym c.in-Some.is ∙ c.next_sure.ensures) c.run_len-m.ensures in
+    record { fits = omega arith }
 
-pub next_sure-i-requires-in-loop-i : goal.next_sure-i-requires-in-loop-i
-next_sure-i-requires-in-loop-i c =
-    let run_len = c.run_len-m in
-    let l = c.loop-i in
-    let a = c.args in
-    let marks = a.marks.now in
-    let size = run_size (sure_of marks) (none_above marks c.requires.0) l.i run_len.result (l.invariant.1.0 (omega arith)) run_len.ensures in
-    omega (arith, size.1)
+pub loop-first-smaller : goal.loop-first-smaller
+loop-first-smaller c =
+    let t = turn c.args.known.now c.loop-first.i c.in-Some.first c.run_len-m.result (omega arith) (sym c.in-Some.is ∙ c.next_sure.ensures) c.run_len-m.ensures in
+    omega arith
 
-pub loop-i-smaller : goal.loop-i-smaller
-loop-i-smaller c =
-    let run_len = c.run_len-m in
-    let l = c.loop-i in
+pub loop-first-preserved : goal.loop-first-preserved
+loop-first-preserved c =
+    let l = c.loop-first in
     let a = c.args in
-    let marks = a.marks.now in
-    let sure = sure_of marks in
-    let size = run_size sure (none_above marks c.requires.0) l.i run_len.result (l.invariant.1.0 (omega arith)) run_len.ensures in
-    let up = later sure (l.i + run_len.result) c.next_sure-i-in-loop-i.result c.next_sure-i-in-loop-i.ensures in
-    omega (arith, size.0, up)
-
-pub loop-i-preserved : goal.loop-i-preserved
-loop-i-preserved c =
-    let write-of = c.write_of in
-    let run_len = c.run_len-m in
-    let l = c.loop-i in
-    let a = c.args in
-    let marks = a.marks.now in
-    let sure = sure_of marks in
-    let held = held_of marks a.sent.now in
-    let m = run_len.result in
-    let next = c.next_sure-i-in-loop-i.result in
-    let one =
-    one_run sure (none_above marks c.requires.0) l.i m next (omega arith) (l.invariant.1.0 (omega arith)) run_len.ensures c.next_sure-i-in-loop-i.ensures in (
+    let known = a.known.now in
+    let first = c.in-Some.first in
+    let m = c.run_len-m.result in
+    let held = held_of known in
+    let t = turn known l.i first m (omega arith) (sym c.in-Some.is ∙ c.next_sure.ensures) c.run_len-m.ensures in (
       search rules,
       (
-        stands_sure sure (l.i + m) next c.next_sure-i-in-loop-i.ensures,
-        (
-          omega (arith, ap length one, l.invariant.1.1.0),
-          laid_on a.address held l.room _ l.k (run_of l.i m) (left sure next) (left sure l.i) write-of.result one write-of.ensures
-              c.put.ensures
-              ∙ l.invariant.1.1.1,
-        ),
+        omega (arith, ap length t.split),
+        laid_on a.address held l.room _ l.k (run_of first m) (left (sure_of known) (first + m)) (left (sure_of known) l.i) c.write_of.result t.split
+            c.write_of.ensures
+            c.put.ensures
+            ∙ l.invariant.1.1,
       ),
     )
 
 pub seal-requires : goal.seal-requires
 seal-requires c =
-    let l = c.loop-i in
-    let a = c.args in
-    let sure = sure_of a.marks.now in
+    let l = c.loop-first in
+    let sure = sure_of c.args.known.now in
     let most = few_runs sure 32 0 in
-    let end = ap length (none_left sure l.i (omega arith)) in
-    (omega (arith, most, l.invariant.1.1.0), omega (arith, end, l.invariant.0, l.invariant.1.1.0, c.requires.1))
-
-pub overflow_mul-result : goal.overflow_mul-result
-overflow_mul-result c =
-    let l = c.loop-i in
-    let most = few_runs (sure_of c.args.marks.now) 32 0 in
-    record { fits = omega (arith, most, l.invariant.1.1.0) }
-
-pub overflow_add-result : goal.overflow_add-result
-overflow_add-result c =
-    let l = c.loop-i in
-    let most = few_runs (sure_of c.args.marks.now) 32 0 in
-    record { fits = omega (arith, most, l.invariant.1.1.0) }
+    let end = ap length (no_more sure l.i (sym c.in_default.is ∙ c.next_sure.ensures)) in
+    (omega arith, omega arith)
 
 pub returns : goal.returns
 unfolding entries_bytes
 returns c =
-    let l = c.loop-i in
+    let l = c.loop-first in
     let a = c.args in
-    let marks = a.marks.now in
-    let sure = sure_of marks in
-    let held = held_of marks a.sent.now in
-    let none = none_left sure l.i (omega arith) in
-    let count : l.k ≡ length (runs sure 32 0) = omega (arith, ap length none, l.invariant.1.1.0) in
-    let stored = sym (ap (λ (ws : List Run). sets l.room (16 * l.k) (entries_bytes (map (write_of a.address held) ws))) none) ∙ l.invariant.1.1.1 in
+    let known = a.known.now in
+    let sure = sure_of known in
+    let held = held_of known in
+    let none = no_more sure l.i (sym c.in_default.is ∙ c.next_sure.ensures) in
+    let count : l.k ≡ length (runs sure 32 0) = omega (arith, ap length none) in
+    let stored = sym (ap (λ (ws : List Run). sets l.room (16 * l.k) (entries_bytes (map (write_of a.address held) ws))) none) ∙ l.invariant.1.1 in
     (omega (arith, count), laid_all a.address held a.room.now l.room _ l.k (runs sure 32 0) stored count c.seal.ensures)

@@ -1,36 +1,29 @@
 -- `witness::noted_at` meets its contract: what the entry says of the slot is marked, and where it says nothing nothing is.
 -- Assumes nothing.
-use borrow.Author.Rules.{rules}
 use Prim.Native.Nat.{ℕ}
 use mathlib.Core.Path.{ap, ◌∙◌}
-use Rattle.restoring.specs.Standing.{known_all}
-use Rattle.restoring.proofs.Telling.{mark_some}
-use Rattle.evidence.specs.Demodulator.{covers, demod_sent, demod_settles, place}
+use Rattle.evidence.specs.Demodulator.{covers, demod_sent, place}
 use Rattle.witness.proofs.Slots.{said, unsaid}
 use Rattle.witness.proofs.noted_at.Goals as goal
-
-pub marked-requires : goal.marked-requires
-marked-requires c =
-    (mark_some c.args.mark (demod_settles c.args.e) c.requires.1.1, search rules, search rules)
 
 pub returns-then-named-shaken : goal.returns-then-named-shaken
 returns-then-named-shaken c =
     let a = c.args in
     let p = c.requires in
     let is = c.place_of-register.ensures in
-    said a.e a.k a.mark c.byte_for.result (known_all a.states.now a.values.now) _ c.covers-named.result a.shaken p.0.1.0 p.0.1.1
+    said a.e a.k c.byte_for-byte.result a.done a.known.now _ c.covers-named.result a.shaken p.0.1.0 p.0.1.1
     (c.covers-named.ensures ∙ ap (λ (r : ℕ). covers 4 a.e (place 1 r)) is)
     p.1.0
     c.if-named-shaken.true
     p.1.1
-    (c.byte_for.ensures ∙ ap (λ (r : ℕ). demod_sent a.e (place 1 r)) is)
+    (c.byte_for-byte.ensures ∙ ap (λ (r : ℕ). demod_sent a.e (place 1 r)) is)
     c.marked.ensures
 
 pub returns-else-named-shaken : goal.returns-else-named-shaken
 returns-else-named-shaken c =
     let a = c.args in
     let p = c.requires in
-    unsaid a.e a.k (known_all a.states.now a.values.now) c.covers-named.result a.shaken p.0.1.0 p.0.1.1
+    unsaid a.e a.k a.known.now c.covers-named.result a.shaken p.0.1.0 p.0.1.1
     (c.covers-named.ensures ∙ ap (λ (r : ℕ). covers 4 a.e (place 1 r)) c.place_of-register.ensures)
     p.1.0
     c.if-named-shaken.false

@@ -4,55 +4,38 @@ use Prim.Native.Nat.{ℕ, ◌-◌}
 use mathlib.Core.Path.{refl, sym, ap, ◌∙◌}
 use mathlib.Core.List.{List}
 use native.Mathlib.Omega.{arith}
-use borrow.Author.Rules.{rules}
 use lib.ListN.{take}
 use Rattle.sections.specs.Chain.{chain, chain_entries}
-use Rattle.restoring.specs.Standing.{known_all}
 use Rattle.restoring.proofs.Backward.{all_sections, all_turned, begin, chain_on, few, fit, lower, not_both, refused, stopped, turned, within}
-use Rattle.witness.specs.Walk.{seen, seen_all, waiting}
+use Rattle.witness.specs.Walk.{seen_all}
 use Rattle.witness.proofs.Gathered.{all_both, all_empty}
 use Rattle.witness.proofs.walked.Goals as goal
 
 pub loop-end-init : goal.loop-end-init
 loop-end-init c =
     let a = c.args in
-    let all = begin a.s.now in (
-      omega arith,
-      (
-        (omega arith, omega arith),
-        (
-          (omega arith, omega arith),
-          (
-            ap chain all,
-            ap (λ (l : List ℕ). seen_all a.address (chain_entries l) (seen (known_all a.marks.now a.sent.now) (known_all a.states.now a.values.now) (waiting 0 0 0))) all,
-          ),
-        ),
-      ),
-    )
+    let all = begin a.s.now in
+    (omega arith, (ap chain all, ap (λ (l : List ℕ). seen_all a.address (chain_entries l) a.seen.now) all))
 
 pub returns-in_default : goal.returns-in_default
 returns-in_default c =
     let l = c.loop-end in
     let s = c.args.s.now in
     let bad =
-    stopped s (take (l.end - 0) s) l.end refl (omega arith) l.invariant.0 l.invariant.1.1.1.0
+    stopped s (take (l.end - 0) s) l.end refl (omega arith) l.invariant.0 l.invariant.1.0
     (sym c.in_default.is ∙ c.read_section.ensures) in
     (refused s bad, not_both s bad)
 
-pub heard_all-w-requires : goal.heard_all-w-requires
-heard_all-w-requires c =
+pub heard_all-requires : goal.heard_all-requires
+heard_all-requires c =
     let l = c.loop-end in
     let a = c.args in
     let s = a.s.now in
     let p = take (l.end - 0) s in
     let read = sym c.in-Some.is ∙ c.read_section.ensures in (
-      (
-        few s p l.end refl (omega arith) l.invariant.0 _ _ read,
-        within s p l.end refl (omega arith) l.invariant.0 _ _ read,
-        fit s p l.end refl (omega arith) l.invariant.0 _ _ read,
-      ),
-      (search rules, search rules),
-      (search rules, search rules),
+      few s p l.end refl (omega arith) l.invariant.0 _ _ read,
+      within s p l.end refl (omega arith) l.invariant.0 _ _ read,
+      fit s p l.end refl (omega arith) l.invariant.0 _ _ read,
     )
 
 pub loop-end-smaller : goal.loop-end-smaller
@@ -74,17 +57,9 @@ loop-end-preserved c =
     let less = lower s p l.end refl (omega arith) l.invariant.0 _ _ read in (
       omega (arith, less),
       (
-        (omega (arith, c.marks-1.given, l.invariant.1.0.0), omega (arith, c.sent-1.given, l.invariant.1.0.1)),
-        (
-          (search rules, search rules),
-          (
-            chain_on s p l.end refl (omega arith) l.invariant.0 _ _ read ∙ l.invariant.1.1.1.0,
-            turned s p l.end refl (omega arith) l.invariant.0 _ _ read (seen_all a.address) (seen (known_all l.marks l.sent) (known_all l.states l.values) l.w) _
-                (all_both a.address)
-                c.heard_all-w.ensures
-                ∙ l.invariant.1.1.1.1,
-          ),
-        ),
+        chain_on s p l.end refl (omega arith) l.invariant.0 _ _ read ∙ l.invariant.1.0,
+        turned s p l.end refl (omega arith) l.invariant.0 _ _ read (seen_all a.address) l.seen _ (all_both a.address) c.heard_all.ensures
+            ∙ l.invariant.1.1,
       ),
     )
 
@@ -92,8 +67,7 @@ pub returns : goal.returns
 returns c =
     let l = c.loop-end in
     let a = c.args in
-    let s = a.s.now in
-    let all = seen (known_all l.marks l.sent) (known_all l.states l.values) l.w in (
-      all_sections s l.end (omega arith) l.invariant.1.1.1.0,
-      λ h. all_turned s l.end (omega arith) l.invariant.1.1.1.0 (seen_all a.address) all (all_empty a.address all) ∙ l.invariant.1.1.1.1,
+    let s = a.s.now in (
+      all_sections s l.end (omega arith) l.invariant.1.0,
+      λ h. all_turned s l.end (omega arith) l.invariant.1.0 (seen_all a.address) l.seen (all_empty a.address l.seen) ∙ l.invariant.1.1,
     )
