@@ -10,12 +10,9 @@ use borrow.Author.Tests.{eqb-true, le-leb, leb-false, leb-true, lt-leb, ltb-fals
 use lib.Dec.{eqb, leb, ltb, leb-suc-suc}
 use native.Mathlib.Nat.{add-zero}
 use lib.ListN.{length, get_or}
-use Rattle.std.specs.Prelude.{Some}
 use Rattle.wire.specs.Bytes.{le_bytes, le_value}
 use Rattle.board.specs.declared.Board.{Board}
 use Rattle.board.specs.declared.Board.TheVariants.{Generic, V4}
-use Rattle.board.specs.declared.Path.{Path}
-use Rattle.board.specs.declared.Path.TheVariants.{Hf, Vhf, Uhf}
 use Rattle.board.specs.declared.Plan.{Plan}
 use Rattle.board.specs.Numbers.{path_number, path_of}
 use Rattle.board.specs.Plans.{below_up, in_notch, path_at, board_plan, tuner_hz}

@@ -1,28 +1,21 @@
 -- One law for each way in which a test of the code goes: a band where it lies, its shift by its bits, a turn of each loop over a table's bands.
 -- Assumes nothing.
-use Prim.Native.Nat.{ℕ, zero, suc, ◌+◌, ◌-◌, ◌*◌, ◌%◌, ◌<◌, ◌≤◌}
+use Prim.Native.Nat.{ℕ, suc, ◌+◌, ◌-◌, ◌/◌, ◌<◌, ◌≤◌}
 use mathlib.Core.Path.{◌≡◌}
-use mathlib.Core.Bool.{Bool, true, false, cond, ◌&&◌, ◌||◌}
-use mathlib.Core.List.{List, [], ◌∷◌}
+use mathlib.Core.Bool.{Bool, true, false, cond, ◌&&◌}
+use mathlib.Core.List.{List, [], ◌∷◌, ◌++◌}
 use native.Mathlib.Omega.{arith}
-use native.Mathlib.Numerals.{add-one}
 use borrow.Author.Tests.{le-ltb, lt-ltb}
-use lib.Dec.{eqb, leb, ltb, leb-zero, eqb-suc-zero}
-use lib.ListN.{length, get_or, take, drop}
-use lib.Seq.{drop-drop, get_or-drop}
+use lib.Dec.{ltb, leb-zero}
+use Rattle.std.specs.Prelude.{Option, Some, None, MatchOption}
+use Rattle.std.proofs.lemmas.List.{take-append-le, drop-append-le}
+use lib.ListN.{length, drop, length-append, length-drop, get_or-append}
+use lib.Seq.{drop_at}
 use mir.Syntax.{w64}
 use mir.Facts.{to_z_pos}
-use Rattle.wire.specs.Bytes.{le_value}
-use Rattle.refusals.specs.Table.{FREQUENCY, TABLE}
+use Rattle.refusals.specs.Table.{FREQUENCY}
 use Rattle.bands.specs.declared.Band.{Band}
-use Rattle.bands.specs.declared.Planned.{Planned}
-use Rattle.bands.specs.Tables.{ascending, band, band_of, bands_in, bands_of, fits_of, holds, plan_at, plan_by, plan_in, refused, table_ok, tuned}
-
-pub band_made : (s : List ℕ) (at f l h : ℕ) → f ≡ le_value (take 8 (drop at s)) → l ≡ le_value (take 8 (drop (at + 8) s))
-    → h ≡ le_value (take 8 (drop (at + 16) s)) → band f l h (get_or s (at + 24) 0) (get_or s (at + 25) 0) (get_or s (at + 26) 0) ≡ band_of (drop at s)
-unfolding band_of
-band_made s at f l h ef el eh =
-    rw (drop-drop 8 at s, drop-drop 16 at s, get_or-drop at s 24 0, get_or-drop at s 25 0, get_or-drop at s 26 0, ef, el, eh)
+use Rattle.bands.specs.Tables.{ascending, band_of, bands_in, bands_of, fits_of, holds, plan_at, plan_in, refused, tuned}
 
 -- ---- the shift: up by bits below 2^63, else down by what they lack to 2^64
 
@@ -49,87 +42,69 @@ module _ (b : Band) (hz : ℕ) where
       let down : suc (18446744073709551616 - suc b.shift) ≡ 18446744073709551615 - b.shift + 1 = omega arith in
       rw (le-ltb b.shift 9223372036854775808 high, down, lt-ltb hz (18446744073709551615 - b.shift + 1) h)
 
--- ---- a loop over k bands, at the i-th
+-- ---- a table in chunks of 27 bytes
 
-abbrev pub left : List ℕ → ℕ → ℕ → List Band
-left s k i = bands_in (k - i) (drop (27 * i) s)
+-- a band is read from its 27 bytes, whatever stands behind them
+band_first : (x t : List ℕ) → length x ≡ 27 → band_of (x ++ t) ≡ band_of x
+unfolding band_of
+band_first x t long =
+    rw (
+      take-append-le 8 x t (omega (arith, long)),
+      drop-append-le 8 x t (omega (arith, long)),
+      take-append-le 8 (drop 8 x) t (omega (arith, long, length-drop 8 x)),
+      drop-append-le 16 x t (omega (arith, long)),
+      take-append-le 8 (drop 16 x) t (omega (arith, long, length-drop 16 x)),
+      get_or-append x t 0 24 (omega (arith, long)),
+      get_or-append x t 0 25 (omega (arith, long)),
+      get_or-append x t 0 26 (omega (arith, long)),
+    )
 
-pub bands_turn : (s : List ℕ) (k i : ℕ) → i < k → left s k i ≡ band_of (drop (27 * i) s) ∷ left s k (i + 1)
+pub bands_turn : (s x t : List ℕ) → s ≡ x ++ t → length x ≡ 27 → bands_of s ≡ band_of x ∷ bands_of t
 unfolding bands_in
-bands_turn s k i h =
-    let one : k - i ≡ suc (k - (i + 1)) = omega arith in
-    let next : 27 * (i + 1) ≡ 27 * i + 27 = omega arith in
-    rw (one, next, drop-drop)
+bands_turn s x t whole long =
+    let count : length (x ++ t) / 27 ≡ suc (length t / 27) = omega (arith, length-append x t, long) in
+    rw (whole, count, band_first x t long, drop_at x t 27 long)
 
-pub bands_start : (s : List ℕ) (k : ℕ) → left s k 0 ≡ bands_in k s
-bands_start s k =
-    let all : k - 0 ≡ k = omega arith in
-    rw all
-
-pub bands_end : (s : List ℕ) (k i : ℕ) → k ≤ i → left s k i ≡ []
+pub bands_end : (s : List ℕ) → length s < 27 → bands_of s ≡ []
 unfolding bands_in
-bands_end s k i h =
-    let none : k - i ≡ 0 = omega arith in
+bands_end s short =
+    let none : length s / 27 ≡ 0 = omega arith in
     rw none
 
--- where the i-th band may begin, behind one that ends at `last`
-abbrev pub least_at : ℕ → ℕ → ℕ
-least_at i last = cond (eqb i 0) 0 (suc last)
-
-least_test : (i last first : ℕ) → leb (least_at i last) first ≡ (eqb i 0 || ltb last first)
-least_test zero last first = leb-zero first
-least_test (suc i) last first = rw (eqb-suc-zero i)
-
-least_next : (i last : ℕ) → least_at (i + 1) last ≡ suc last
-least_next i last = rw (add-one, eqb-suc-zero i)
-
-module _ (s : List ℕ) (k i last : ℕ) (b : Band) (t : Bool) (h : i < k) (is : b ≡ band_of (drop (27 * i) s)) (fit : t ≡ fits_of b) where
-  ascending_turn : ascending (least_at i last) (left s k i) ≡ (t && (eqb i 0 || ltb last b.first)) && ascending (suc b.last) (left s k (i + 1))
-  unfolding ascending
-  ascending_turn = rw (bands_turn s k i h, ← is, ← fit, least_test i last b.first)
-
-  pub ascending_on : (t && (eqb i 0 || ltb last b.first)) ≡ true
-      → ascending (least_at (i + 1) b.last) (left s k (i + 1)) ≡ ascending (least_at i last) (left s k i)
-  ascending_on e = rw (ascending_turn, e, least_next i b.last)
-
-  pub ascending_stop : (t && (eqb i 0 || ltb last b.first)) ≡ false → false ≡ ascending (least_at i last) (left s k i)
-  ascending_stop e = rw (ascending_turn, e)
-
-pub ascending_end : (s : List ℕ) (k i last : ℕ) → k ≤ i → true ≡ ascending (least_at i last) (left s k i)
-unfolding ascending
-ascending_end s k i last h = rw (bands_end s k i h)
-
-module _ (s : List ℕ) (k i hz : ℕ) (b : Band) (t : Bool) (h : i < k) (is : b ≡ band_of (drop (27 * i) s)) (test : t ≡ holds b hz) where
-  plan_turn : plan_in (left s k i) hz ≡ cond t (plan_at b hz) (plan_in (left s k (i + 1)) hz)
+module _ (s x t : List ℕ) (hz : ℕ) (b : Band) (test : Bool) (whole : s ≡ x ++ t) (long : length x ≡ 27) (is : b ≡ band_of x) (tested : test ≡ holds b hz) where
+  plan_turn : plan_in (bands_of s) hz ≡ cond test (plan_at b hz) (plan_in (bands_of t) hz)
   unfolding plan_in
-  plan_turn = rw (bands_turn s k i h, ← is, ← test)
+  plan_turn = rw (bands_turn s x t whole long, ← is, ← tested)
 
-  pub plan_found : (p : Planned) → p ≡ plan_at b hz → t ≡ true → p ≡ plan_in (left s k i) hz
-  plan_found p made e = rw (plan_turn, e, made)
+  pub plan_found : test ≡ true → plan_at b hz ≡ plan_in (bands_of s) hz
+  plan_found e = rw (plan_turn, e)
 
-  pub plan_on : t ≡ false → plan_in (left s k (i + 1)) hz ≡ plan_in (left s k i) hz
+  pub plan_on : test ≡ false → plan_in (bands_of t) hz ≡ plan_in (bands_of s) hz
   plan_on e = rw (plan_turn, e)
 
-pub plan_end : (s : List ℕ) (k i hz : ℕ) → k ≤ i → refused FREQUENCY ≡ plan_in (left s k i) hz
+pub plan_end : (s : List ℕ) (hz : ℕ) → length s < 27 → refused FREQUENCY ≡ plan_in (bands_of s) hz
 unfolding plan_in
-plan_end s k i hz h = rw (bands_end s k i h)
+plan_end s hz short = rw (bands_end s short)
 
--- ---- a table
+-- where a band may begin: anywhere, or past the last of the one before
+abbrev pub least_past : Option ℕ → ℕ
+least_past None = 0
+least_past (Some last) = suc last
 
-module _ (s : List ℕ) where
-  pub sized : (t : Bool) → (eqb (length s % 27) 0 && leb (length s) 432) ≡ true → t ≡ ascending 0 (bands_of s) → t ≡ table_ok s
-  unfolding table_ok
-  sized t h e = rw (h, e)
+module _ (s x t : List ℕ) (b : Band) (fit past : Bool) (whole : s ≡ x ++ t) (long : length x ≡ 27) (is : b ≡ band_of x) (fits : fit ≡ fits_of b) where
+  ascending_turn : (o : Option ℕ) → MatchOption o (past ≡ true) (λ last. past ≡ ltb last b.first)
+      → ascending (least_past o) (bands_of s) ≡ (fit && past) && ascending (suc b.last) (bands_of t)
+  unfolding ascending
+  ascending_turn None e = rw (bands_turn s x t whole long, ← is, ← fits, e, leb-zero b.first)
+  ascending_turn (Some last) e = rw (bands_turn s x t whole long, ← is, ← fits, e)
 
-  pub not_sized : (eqb (length s % 27) 0 && leb (length s) 432) ≡ false → false ≡ table_ok s
-  unfolding table_ok
-  not_sized h = rw h
+  module _ (o : Option ℕ) (begins : MatchOption o (past ≡ true) (λ last. past ≡ ltb last b.first)) where
+    pub ascending_on : (fit && past) ≡ true → ascending (suc b.last) (bands_of t) ≡ ascending (least_past o) (bands_of s)
+    ascending_on e = rw (ascending_turn o begins, e)
 
-  module _ (hz : ℕ) (t : Bool) (p : Planned) (e : t ≡ table_ok s) where
-    pub by_bands : t ≡ true → p ≡ plan_in (bands_of s) hz → p ≡ plan_by s hz
-    unfolding plan_by
-    by_bands h made = rw (← e, h, made)
+    pub ascending_stop : (fit && past) ≡ false → false ≡ ascending (least_past o) (bands_of s)
+    ascending_stop e = rw (ascending_turn o begins, e)
 
-    pub no_table : t ≡ false → p ≡ refused TABLE → p ≡ plan_by s hz
-    unfolding plan_by
-    no_table h made = rw (← e, h, made)
+pub ascending_end : (s : List ℕ) (least : ℕ) → length s < 27 → true ≡ ascending least (bands_of s)
+unfolding ascending
+ascending_end s least short = rw (bands_end s short)

@@ -48,18 +48,19 @@ pub struct Planned {
     pub plan: Plan,
 }
 
-// The band whose bytes begin at `at`.
-fn band_at(s: &[u8], at: usize) -> Band
-    requires { at + 27 ≤ length s.now }
-    ensures { result ≡ band_of (drop at s.now) }
+// A band by its bytes.
+#[tactic(auto, unfolding(crate::specs::Tables::band_of))]
+fn band_in(bytes: &[u8]) -> Band
+    requires { 27 ≤ length bytes.now }
+    ensures { result ≡ band_of bytes.now }
 {
     Band {
-        first: wire::eight(s, at),
-        last: wire::eight(s, at + LAST),
-        shift: wire::eight(s, at + SHIFT),
-        inverted: s[at + INVERTED],
-        path: s[at + PATH],
-        notch: s[at + NOTCH],
+        first: wire::eight(bytes, 0),
+        last: wire::eight(bytes, LAST),
+        shift: wire::eight(bytes, SHIFT),
+        inverted: bytes[INVERTED],
+        path: bytes[PATH],
+        notch: bytes[NOTCH],
     }
 }
 
@@ -105,6 +106,7 @@ impl Band {
     }
 
     // The shift by its bits: those of the upper half count down from 2^64.
+    #[tactic(auto, using(crate::proofs::Laws::shifted_up, crate::proofs::Laws::past_64, crate::proofs::Laws::shifted_down, crate::proofs::Laws::below_0))]
     fn plan_at(self, hz: u64) -> Planned
         ensures { result ≡ plan_at self hz }
     {
@@ -123,24 +125,23 @@ impl Band {
 }
 
 // Whether the bands of a table fit, and each begins past the last of the one before.
+#[tactic(auto, using(crate::proofs::Laws::ascending_end))]
 fn bands_ascend(table: &[u8]) -> bool
     ensures { result ≡ ascending 0 (bands_of table.now) }
 {
-    let count = table.len() / BAND;
-    let mut last = 0;
-    let mut i = 0;
-    while i < count {
-        let b = band_at(table, BAND * i);
-        if !(b.fits() & ((i == 0) | (last < b.first))) {
+    let mut before = None;
+    for bytes in table.chunks_exact(BAND) {
+        let b = band_in(bytes);
+        if !(b.fits() & before.is_none_or(|last| last < b.first)) {
             return false;
         }
-        last = b.last;
-        i += 1;
+        before = Some(b.last);
     }
     true
 }
 
 // Whether a table is well formed; one of no bands is.
+#[tactic(auto, unfolding(crate::specs::Tables::table_ok))]
 pub fn table_ok(table: &[u8]) -> bool
     ensures { result ≡ table_ok table.now }
 {
@@ -152,22 +153,21 @@ pub fn table_ok(table: &[u8]) -> bool
 }
 
 // The plan by the first band that holds the frequency.
+#[tactic(auto, using(crate::proofs::Laws::plan_found, crate::proofs::Laws::plan_on, crate::proofs::Laws::plan_end))]
 fn plan_in(table: &[u8], hz: u64) -> Planned
     ensures { result ≡ plan_in (bands_of table.now) hz }
 {
-    let count = table.len() / BAND;
-    let mut i = 0;
-    while i < count {
-        let b = band_at(table, BAND * i);
+    for bytes in table.chunks_exact(BAND) {
+        let b = band_in(bytes);
         if b.holds_hz(hz) {
             return b.plan_at(hz);
         }
-        i += 1;
     }
     refuse(refusals::FREQUENCY)
 }
 
 // The plan for a frequency by a table, read where it lies: 19 for bytes that are no table, then 2 for a frequency that has no plan.
+#[tactic(auto, unfolding(crate::specs::Tables::plan_by))]
 pub fn plan_by_table(table: &[u8], hz: u64) -> Planned
     ensures { result ≡ plan_by table.now hz }
 {
@@ -177,6 +177,7 @@ pub fn plan_by_table(table: &[u8], hz: u64) -> Planned
     refuse(refusals::TABLE)
 }
 
+#[tactic(auto, unfolding(crate::specs::Tables::table_bytes, crate::specs::Tables::built_in, crate::specs::Tables::band_bytes, wire::specs::Bytes::le_bytes))]
 fn generic_table(out: &mut [u8]) -> Answer
     ensures { given result out.new ≡ table_lent Generic out.old }
 {
@@ -185,6 +186,7 @@ fn generic_table(out: &mut [u8]) -> Answer
     refusals::lend(0, 27, &bytes, out)
 }
 
+#[tactic(auto, unfolding(crate::specs::Tables::table_bytes, crate::specs::Tables::built_in, crate::specs::Tables::band_bytes, wire::specs::Bytes::le_bytes))]
 fn v4_table(out: &mut [u8]) -> Answer
     ensures { given result out.new ≡ table_lent V4 out.old }
 {
