@@ -16,27 +16,9 @@ use Rattle.transcript.proofs.Exact.{fit_eights}
 use Rattle.transcript.proofs.Laid.{entries_bytes-append, length-entries_bytes, length-section_bytes}
 use Rattle.transcript.proofs.Reading.{both}
 use Rattle.parting.specs.Parting.{Handed, PartAt, agree, alike, cut_of, equal_bytes, equal_entries, parting_of, placed, rest_of, whose_of}
-use Rattle.parting.proofs.Laws.{within}
+use Rattle.parting.proofs.Laws.{bytes_equal, bytes_same, within}
 
 -- ---- the test says that two entries are equal
-
-bytes_equal : (xs ys : List ℕ) → equal_bytes xs ys ≡ true → xs ≡ ys
-unfolding equal_bytes
-bytes_equal [] [] h = refl
-bytes_equal [] (y ∷ ys) h =
-    let z : ◌≡◌ {A = ℕ} 0 1 = cc in
-    absurd (omega arith)
-bytes_equal (x ∷ xs) [] h =
-    let z : ◌≡◌ {A = ℕ} 0 1 = cc in
-    absurd (omega arith)
-bytes_equal (x ∷ xs) (y ∷ ys) h =
-    let p = both (eqb x y) (equal_bytes xs ys) h in
-    ap₂ ◌∷◌ (eqb-true x y p.0) (bytes_equal xs ys p.1)
-
-bytes_same : (xs : List ℕ) → equal_bytes xs xs ≡ true
-unfolding equal_bytes
-bytes_same [] = refl
-bytes_same (x ∷ xs) = rw (eq-eqb x x refl, bytes_same xs)
 
 pub entries_equal : (e f : Entry) → equal_entries e f ≡ true → e ≡ f
 unfolding equal_entries

@@ -1,18 +1,18 @@
 -- One law for each way in which a test of the code goes, and one turn of each loop.
 -- Assumes nothing.
 use Prim.Native.Nat.{ℕ, suc, ◌+◌, ◌-◌, ◌*◌, ◌/◌, ◌<◌, ◌≤◌}
-use mathlib.Core.Path.{◌≡◌, refl, sym, ap₂, ◌∙◌}
+use mathlib.Core.Path.{◌≡◌, refl, sym, ap, ap₂, ◌∙◌}
 use mathlib.Core.List.{List, [], ◌∷◌}
-use mathlib.Core.Bool.{Bool, true, false, cond, ◌&&◌, ◌||◌}
+use mathlib.Core.Bool.{Bool, true, false, cond, ◌&&◌, ◌||◌, true≢false, false≢true}
 use native.Mathlib.Omega.{arith}
-use native.Mathlib.Numerals.{add-one}
 use lib.Dec.{eqb, leb, ltb}
-use lib.ListN.{length, get_or, take, drop, drop_of_length-le, length-drop}
-use lib.Seq.{drop-cons, drop-drop, take_all}
-use borrow.Author.Tests.{eq-eqb, eqb-true, le-leb, lt-leb, ltb-false, ltb-true, ne_eqb}
-use Rattle.wire.specs.Bytes.{le_value}
+use lib.ListN.{length, get_or, take, drop, length-drop}
+use lib.Seq.{drop-drop, take_all}
+use borrow.Author.Tests.{eq-eqb, eqb-true, le-leb, leb-false, leb-true, lt-leb, ne_eqb}
+use Rattle.wire.specs.Bytes.{le_bytes, le_value, Bytes}
+use Rattle.wire.proofs.Widths.{one_number}
 use Rattle.transcript.specs.declared.Entry.{Entry}
-use Rattle.std.specs.Prelude.{Some, None}
+use Rattle.std.specs.Prelude.{Some, None, min}
 use Rattle.transcript.specs.Table.{is_read}
 use Rattle.transcript.specs.Entries.{entry_of, zeros8}
 use Rattle.transcript.specs.Sections.{entries_in, entries_of, section_at, section_entries, section_of}
@@ -23,17 +23,39 @@ use Rattle.parting.specs.declared.Place.{Place}
 
 -- ---- one step against another
 
--- so far all are equal, and those that are left are: together that is said of all
-pub equal_turn : (ok : Bool) (a b : List ℕ) (i : ℕ) → i < length a → i < length b
-    → ((ok && eqb (get_or a i 0) (get_or b i 0)) && equal_bytes (drop (i + 1) a) (drop (i + 1) b)) ≡ (ok && equal_bytes (drop i a) (drop i b))
+-- the test says that bytes are equal
+pub bytes_equal : (xs ys : List ℕ) → equal_bytes xs ys ≡ true → xs ≡ ys
 unfolding equal_bytes
-equal_turn true a b i h k = rw (add-one, drop-cons a i 0 h, drop-cons b i 0 k)
-equal_turn false a b i h k = refl
+bytes_equal [] [] h = refl
+bytes_equal [] (y ∷ ys) h = absurd (false≢true h)
+bytes_equal (x ∷ xs) [] h = absurd (false≢true h)
+bytes_equal (x ∷ xs) (y ∷ ys) h =
+    let p = both (eqb x y) (equal_bytes xs ys) h in
+    ap₂ ◌∷◌ (eqb-true x y p.0) (bytes_equal xs ys p.1)
 
-pub equal_end : (ok : Bool) (a b : List ℕ) (i : ℕ) → length a ≤ i → length b ≤ i → ok ≡ (ok && equal_bytes (drop i a) (drop i b))
+pub bytes_same : (xs : List ℕ) → equal_bytes xs xs ≡ true
 unfolding equal_bytes
-equal_end true a b i h k = rw (drop_of_length-le a h, drop_of_length-le b k)
-equal_end false a b i h k = refl
+bytes_same [] = refl
+bytes_same (x ∷ xs) = rw (eq-eqb x x refl, bytes_same xs)
+
+-- and eight bytes are equal where their numbers are
+numbers_by : (xs ys : List ℕ) (v w : ℕ) → v ≡ le_value xs → w ≡ le_value ys → le_bytes 8 v ≡ xs → le_bytes 8 w ≡ ys
+    → (t u : Bool) → eqb v w ≡ t → equal_bytes xs ys ≡ u → t ≡ u
+numbers_by xs ys v w p q r s true true h k = refl
+numbers_by xs ys v w p q r s false false h k = refl
+numbers_by xs ys v w p q r s true false h k =
+    let same : xs ≡ ys = sym r ∙ ap (le_bytes 8) (eqb-true v w h) ∙ s in
+    absurd (true≢false (sym (bytes_same ys) ∙ ap (λ (l : List ℕ). equal_bytes l ys) (sym same) ∙ k))
+numbers_by xs ys v w p q r s false true h k =
+    let same : v ≡ w = p ∙ ap le_value (bytes_equal xs ys k) ∙ sym q in
+    absurd (true≢false (sym (eq-eqb v w same) ∙ h))
+
+numbers_made : (b d : List ℕ) (v w : ℕ) → Bytes b → Bytes d → length b ≡ 16 → length d ≡ 16
+    → v ≡ le_value (take 8 (drop 8 b)) → w ≡ le_value (take 8 (drop 8 d)) → eqb v w ≡ equal_bytes (take 8 (drop 8 b)) (take 8 (drop 8 d))
+numbers_made b d v w bytes more long also p q =
+    numbers_by (take 8 (drop 8 b)) (take 8 (drop 8 d)) v w p q
+    (ap (le_bytes 8) p ∙ one_number 8 8 b bytes (omega arith)) (ap (le_bytes 8) q ∙ one_number 8 8 d more (omega arith))
+    (eqb v w) (equal_bytes (take 8 (drop 8 b)) (take 8 (drop 8 d))) refl refl
 
 data_made : (t r : Bool) (a b : List ℕ) → r ≡ equal_bytes a b → (t || r) ≡ equal_bytes (cond t zeros8 a) (cond t zeros8 b)
 unfolding equal_bytes
@@ -51,14 +73,14 @@ module _ (e f : Entry) (r : Bool) (h : r ≡ equal_bytes e.bytes f.bytes) where
   tests_made = by_kind (eqb e.kind f.kind) refl
 
 -- the fields of two entries' bytes
-pub same_made : (b d : List ℕ) (i j : ℕ) (r : Bool) → length b ≡ 16 → length d ≡ 16
-    → i ≡ le_value (take 2 (drop 4 b)) → j ≡ le_value (take 2 (drop 4 d)) → r ≡ equal_bytes (take 8 (drop 8 b)) (take 8 (drop 8 d))
-    → (eqb (get_or b 0 0) (get_or d 0 0) && eqb (get_or b 2 0) (get_or d 2 0) && eqb (get_or b 3 0) (get_or d 3 0) && eqb i j && (is_read (get_or b 0 0) || r)) ≡ alike (entry_of b) (entry_of d)
+pub same_made : (b d : List ℕ) (i j v w : ℕ) → Bytes b → Bytes d → length b ≡ 16 → length d ≡ 16
+    → i ≡ le_value (take 2 (drop 4 b)) → j ≡ le_value (take 2 (drop 4 d)) → v ≡ le_value (take 8 (drop 8 b)) → w ≡ le_value (take 8 (drop 8 d))
+    → (eqb (get_or b 0 0) (get_or d 0 0) && eqb (get_or b 2 0) (get_or d 2 0) && eqb (get_or b 3 0) (get_or d 3 0) && eqb i j && (is_read (get_or b 0 0) || eqb v w)) ≡ alike (entry_of b) (entry_of d)
 unfolding entry_of
-same_made b d i j r long also hi hj hr =
+same_made b d i j v w bytes more long also hi hj hv hw =
     let one : take 8 (drop 8 b) ≡ drop 8 b = take_all 8 (drop 8 b) (omega (arith, length-drop 8 b)) in
     let two : take 8 (drop 8 d) ≡ drop 8 d = take_all 8 (drop 8 d) (omega (arith, length-drop 8 d)) in
-    rw (hi, hj) (tests_made (entry_of b) (entry_of d) r (hr ∙ ap₂ equal_bytes one two))
+    rw (hi, hj) (tests_made (entry_of b) (entry_of d) (eqb v w) (numbers_made b d v w bytes more long also hv hw ∙ ap₂ equal_bytes one two))
 
 -- ---- the entries that are left after k of them
 
@@ -92,12 +114,6 @@ pub entry_cut : (i : ℕ) (x : List ℕ) → entry_of (take (i + 16 - i) (drop i
 entry_cut i x =
     let wide : i + 16 - i ≡ 16 = omega arith in
     rw wide
-
--- the loop's test
-pub both_below : (k m n : ℕ) → (ltb k m && ltb k n) ≡ true → (k < m) × (k < n)
-both_below k m n h =
-    let t = both (ltb k m) (ltb k n) h in
-    (ltb-true k m t.0, ltb-true k n t.1)
 
 agree_nil : (es : List Entry) → agree es [] ≡ 0
 unfolding agree
@@ -138,18 +154,18 @@ module _ (a m : ℕ) (x : List ℕ) (b n : ℕ) (y : List ℕ) where
       let none : agree (left a m x k) (left b n y k) ≡ 0 = ap₂ agree (left_cons a m x k h) (left_cons b n y k i) ∙ rw e in
       omega arith
 
-  -- the loop's test failed: one of the two is at its end
-  ended : (k : ℕ) (t : Bool) → ltb k m ≡ t → (t && ltb k n) ≡ false → k ≡ k + agree (left a m x k) (left b n y k)
+  -- one of the two is at its end
+  pub agree_end : agree (left a m x (min m n)) (left b n y (min m n)) ≡ 0
   unfolding agree
-  ended k false e h =
-      let none : agree (left a m x k) (left b n y k) ≡ 0 = rw (left_none a m x k (ltb-false k m e)) in
-      omega arith
-  ended k true e h =
-      let none : agree (left a m x k) (left b n y k) ≡ 0 = rw (left_none b n y k (ltb-false k n h)) (agree_nil (left a m x k)) in
-      omega arith
-
-  pub agree_end : (k : ℕ) → (ltb k m && ltb k n) ≡ false → k ≡ k + agree (left a m x k) (left b n y k)
-  agree_end k h = ended k (ltb k m) refl h
+  agree_end = by_end (leb m n) refl
+    where
+      by_end : (t : Bool) → leb m n ≡ t → agree (left a m x (min m n)) (left b n y (min m n)) ≡ 0
+      by_end true e =
+          let less : m ≤ n = leb-true m n e in
+          rw (left_none a m x (min m n) (omega arith))
+      by_end false e =
+          let less : n < m = leb-false m n e in
+          rw (left_none b n y (min m n) (omega arith)) (agree_nil (left a m x (min m n)))
 
 -- ---- whose part it is
 

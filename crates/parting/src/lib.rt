@@ -6,7 +6,7 @@
 ghost use Rattle.std.specs.Prelude.{◌≡◌, [], ◌+◌, ◌*◌, ◌≤◌, length, take, drop};
 ghost use Rattle.transcript.specs.Entries.{entry_of};
 ghost use Rattle.transcript.specs.Sections.{entries_in};
-ghost use Rattle.parting.specs.Parting.{agree, alike, cut_of, equal_bytes, nowhere, parting_of, placed, rest_of};
+ghost use Rattle.parting.specs.Parting.{agree, alike, cut_of, nowhere, parting_of, placed, rest_of};
 
 use transcript::Section;
 
@@ -22,21 +22,8 @@ pub struct Place {
     pub refusal: u32,
 }
 
-// No early return: a loop without one is one that the compiler can run over all eight bytes at once.
-fn equal_bytes(a: &[u8], b: &[u8]) -> bool
-    requires { (length a.now ≡ 8) × (length b.now ≡ 8) }
-    ensures { result ≡ equal_bytes a.now b.now }
-{
-    let mut ok = true;
-    let mut i = 0;
-    while i < 8 {
-        ok = ok & (a[i] == b[i]);
-        i += 1;
-    }
-    ok
-}
-
-// Whether the entries in 16 bytes each are the same step: neither outcome counts, nor what a read gave. The bytes are compared where they lie.
+// Whether the entries in 16 bytes each are the same step: neither outcome counts, nor what a read gave. The bytes are compared where they lie, the eight data
+// bytes as one number.
 fn same_step(e: &[u8], f: &[u8]) -> bool
     requires { (length e.now ≡ 16) × (length f.now ≡ 16) }
     ensures { result ≡ alike (entry_of e.now) (entry_of f.now) }
@@ -46,7 +33,7 @@ fn same_step(e: &[u8], f: &[u8]) -> bool
         & (e[2] == f[2])
         & (e[3] == f[3])
         & (wire::get(e, 4, 2) == wire::get(f, 4, 2))
-        & (read | equal_bytes(&e[8..16], &f[8..16]))
+        & (read | (wire::eight(e, 8) == wire::eight(f, 8)))
 }
 
 // How many of m entries from a, and of n from b, are alike from the first on.
@@ -54,16 +41,15 @@ fn alike_from(x: &[u8], a: usize, m: usize, y: &[u8], b: usize, n: usize) -> usi
     requires { ((m ≤ 4096) × (a + 16 * m ≤ length x.now)) × ((n ≤ 4096) × (b + 16 * n ≤ length y.now)) }
     ensures { result ≡ agree (entries_in m (drop a x.now)) (entries_in n (drop b y.now)) }
 {
-    let mut k = 0;
-    while (k < m) & (k < n) {
+    let most = m.min(n);
+    for k in 0..most {
         let i = a + 16 * k;
         let j = b + 16 * k;
         if !same_step(&x[i..i + 16], &y[j..j + 16]) {
             return k;
         }
-        k += 1;
     }
-    k
+    most
 }
 
 fn place_by(a: usize, m: usize, b: usize, n: usize, k: usize) -> Place
