@@ -74,6 +74,9 @@ too_high lo h =
     simp
     (over lo 2 (omega arith), over lo 4 (omega arith), over lo 8 (omega arith), over lo 16 (omega arith), over lo 32 (omega arith), over lo 64 (omega arith))
 
+-- `pll::divider` meets its contract by these alone: its attribute names them
+pub ruleset intervals = (by2, by4, by8, by16, by32, by64, too_low, too_high)
+
 -- m stands in the list at the place k (counted from `number`), is right, and none before it is
 pub record First (lo : ℕ) (ms : List ℕ) (number m k : ℕ) : Type 0 where
   pub place : ℕ

@@ -1,5 +1,5 @@
 -- The sum of the fraction: S fits 16 bits, and the quotients taken plus the rest equal the first F. Assumes nothing.
-use Rattle.std.proofs.Common.{◌≡◌, ℕ, zero, suc, ◌+◌, ◌-◌, ◌*◌, ◌/◌, ◌^◌, ◌<◌, ◌≤◌, Bool, true, false, cond, not, ◌&&◌, ltb, sym, refl, ap, not-suc-le-zero, div-le_self, le-mul_of_pos_right, arith, pow_pos, ltb-true}
+use Rattle.std.proofs.Common.{◌≡◌, ℕ, zero, suc, ◌+◌, ◌-◌, ◌*◌, ◌/◌, ◌^◌, ◌<◌, ◌≤◌, Bool, true, false, cond, not, ◌&&◌, ltb, refl, ap, div-le_self, arith, ltb-true}
 use native.Mathlib.Nat.{pow-succ'}
 use Rattle.pll.specs.declared.Sum.{Sum}
 use Rattle.pll.specs.Fraction.{takes_turn, turn_of, turns_of, sum_start, sum_of, taken_of}

@@ -26,6 +26,7 @@ pub enum Kind {
 // The first right divider, upward from 2, with its number for register 0x10. Below VCO_MAX / 2 only the lower bounds are left to test:
 // a divider was passed over because it is too small, so twice it is not too large. No product is made, so none overflows.
 // Tests with constants, one below the other: a table with a search in it would be no plainer.
+#[tactic(auto, using(crate::proofs::Dividers::intervals))]
 pub fn divider(lo: u64) -> Option<(u64, u8)>
     ensures { result ≡ divider_of lo }
 {
@@ -71,6 +72,7 @@ fn quarter(n: u64) -> u64
 }
 
 // The byte for register 0x14.
+#[tactic(auto, unfolding(crate::specs::Setting::setting_of))]
 fn setting(n: u64) -> u8
     requires { n < 128 }
     ensures { result ≡ setting_of n }
@@ -88,6 +90,7 @@ pub struct Sum {
     pub stopped: bool,
 }
 
+#[tactic(auto, unfolding(crate::specs::Fraction::turn_of))]
 fn turn(k: u64, n: u64, s: Sum) -> Sum
     requires { (k < 2 ^ 32) × (2 ≤ n) × (s.sum < 2 ^ 40) }
     ensures { result ≡ turn_of k n s }

@@ -7,6 +7,7 @@ use Rattle.std.specs.Prelude.{Some, None, Option}
 use borrow.Author.Tests.{le-leb, lt-leb, eq-eqb, ne_eqb}
 use Rattle.pll.specs.declared.Kind.{Kind}
 use Rattle.pll.specs.Plan.{cap_of}
+use Rattle.pll.proofs.Plans.{cap_most}
 use Rattle.worksheet.specs.declared.Sheet.{Sheet}
 use Rattle.worksheet.specs.declared.Work.{Work}
 use Rattle.worksheet.specs.Sheet.{byte_of, divider_on, filled_of, sheet_of, sheet_with, sum_on}
@@ -62,3 +63,6 @@ pub filled : (kind : Kind) (lo r m b : ℕ) (w : Work)
     → Some (record { m = m; n = lo * m / (2 * r); setting = b; sum = w.sum; rest = w.left }) ≡ sheet_of kind lo r
 filled kind lo r m b w nr nm e l h eb ew =
     (λ i. Some (record { m = m; n = lo * m / (2 * r); setting = eb i; sum = (ew i).sum; rest = (ew i).left })) ∙ filled_with kind lo r m nr nm e l h
+
+-- what `worksheet::fill` meets its contract by, beside its answers: its attribute names them
+pub ruleset cases = (no_reference, no_range, too_slow, too_fast, cap_most)

@@ -1,6 +1,6 @@
 -- The two tables, row by row: what one more row does, where the rows end, and bounds that every row keeps. Assumes nothing.
 use mathlib.Core.Path.{◌≡◌, refl}
-use mathlib.Core.Bool.{Bool, true, false, cond, not, ◌&&◌}
+use mathlib.Core.Bool.{Bool, true, false, not, ◌&&◌}
 use Prim.Native.Nat.{ℕ, ◌+◌, ◌*◌, ◌/◌, ◌≤◌, ◌<◌}
 use native.Mathlib.Omega.{arith}
 use native.Mathlib.Numerals.{add-one}
@@ -8,7 +8,6 @@ use lib.Dec.{T, leb, ltb}
 use lib.ListN.{get_or, drop, drop_of_length-le}
 use lib.Seq.{drop-cons}
 use mir.Facts.{and_yes, leb_yes}
-use borrow.Author.Tests.{lt-leb, le-leb}
 use Rattle.below.proofs.Test.{below}
 use Rattle.worksheet.specs.declared.Band.{Band}
 use Rattle.worksheet.specs.declared.Line.{Line}
@@ -16,22 +15,6 @@ use Rattle.worksheet.specs.declared.Work.{Work}
 use Rattle.worksheet.specs.Sheet.{bands, band_of, bands_of, lines, line_of, lines_of}
 
 -- ---- the ranges
-
-neither : (a : Bool) (m n : ℕ) → n ≡ cond (a && false) m n
-neither true m n = refl
-neither false m n = refl
-
-pub before_it : (lo m : ℕ) (b : Band) → lo < b.0 → m ≡ band_of lo m b
-unfolding band_of
-before_it lo m b h = simp (lt-leb _ _ h)
-
-pub behind_it : (lo m : ℕ) (b : Band) → b.1 < lo → m ≡ band_of lo m b
-unfolding band_of
-behind_it lo m b h = simp (lt-leb _ _ h) (neither (leb b.0 lo) b.2 m)
-
-pub inside_it : (lo m : ℕ) (b : Band) → b.0 ≤ lo → lo ≤ b.1 → b.2 ≡ band_of lo m b
-unfolding band_of
-inside_it lo m b h k = simp (le-leb _ _ h, le-leb _ _ k)
 
 pub band_turn : (lo m : ℕ) (d : Band) (i : ℕ) → i < 6 → bands_of lo (band_of lo m (get_or bands i d)) (drop (i + 1) bands) ≡ bands_of lo m (drop i bands)
 unfolding bands_of

@@ -47,6 +47,7 @@ pub const LINES: [Line; 16] = [
 ];
 
 // The divider so far, and after one more range. 0: lo stood in no range.
+#[tactic(auto, unfolding(crate::specs::Sheet::band_of))]
 fn in_band(lo: u64, m: u64, b: Band) -> u64
     ensures { result ≡ band_of lo m b }
 {
@@ -77,6 +78,7 @@ pub struct Work {
     pub ended: bool,
 }
 
+#[tactic(auto, unfolding(crate::specs::Sheet::line_of))]
 fn worked_line(k: u64, w: Work, l: Line) -> Work
     requires { (k < 2 ^ 32) × (0 < l.0) × (l.1 ≤ 32768) × (w.sum < 2 ^ 40) }
     ensures { result ≡ line_of k w l }
@@ -144,6 +146,7 @@ pub struct Sheet {
 }
 
 // The sheet for the oscillator's frequency `lo` at the reference `r`.
+#[tactic(auto, using(crate::proofs::Cases::cases))]
 pub fn fill(kind: Kind, lo: u64, r: u32) -> Option<Sheet>
     ensures { result ≡ sheet_of kind lo r }
 {
