@@ -41,12 +41,14 @@ use Rattle.tuners.specs.Over.{After, is_written, next_of, over_tuner, over_tunin
 use Rattle.records.proofs.Exact.{read_written}
 use Rattle.sequences.specs.Calls.{call, is_byte}
 use Rattle.sequences.specs.Calls.Order.{SampleRate, Tuned}
+use Rattle.std.specs.Prelude.{Option, Some, None}
+use Rattle.std.specs.Option.{is_none}
 use Rattle.stream.specs.declared.Command.{Command}
-use Rattle.stream.specs.declared.Command.TheVariants.{Frequency, Rate, GainDb, GainIndex, Bandwidth, Correction, Reload, Unknown}
+use Rattle.stream.specs.declared.Command.TheVariants.{Frequency, Rate, GainDb, GainIndex, Bandwidth, Correction, Reload}
 use Rattle.stream.specs.Commands.{command_of}
 use Rattle.stream.specs.Pending.{gathered, is_stream, pending_of, used_by}
 use Rattle.commands.specs.Over.{Feeds, completed_by, fed_of, feed_over, feeds, no_command, not_run, run_over, waiting_by}
-use Rattle.commands.specs.Rows.{beside, command_row, is_unknown, lock_tries_by}
+use Rattle.commands.specs.Rows.{beside, command_row, lock_tries_by}
 use Rattle.commands.proofs.Runs.{bandwidth_taken, by_correction, by_rate, by_tuner, by_tuning_lem, driver_sound, gain_taken, index_taken, is_taken, left, over_is, rate_is, rated, reload_taken}
 use Rattle.carried.specs.Carried.{Carried}
 use Rattle.carried.specs.Carried.Carried.{next}
@@ -57,26 +59,26 @@ use Rattle.carried.specs.Fed.Makes.{tunes, rates, gains, steps, narrows, correct
 use Rattle.carried.proofs.Demand.{behind, cut_uncut, index_told, long, never_five, readable, refused_one, reload_done}
 use Rattle.carried.proofs.Passed.{few}
 
-run_none : (x : Command) (table rs os d b room : List ℕ) → is_unknown x ≡ false → (driver_of d).ok ≡ false → run_over x table rs os d b room ≡ not_run SETUP d b room
+run_none : (x : Option Command) (table rs os d b room : List ℕ) → is_none x ≡ false → (driver_of d).ok ≡ false → run_over x table rs os d b room ≡ not_run SETUP d b room
 unfolding run_over
 run_none x table rs os d b room known e = rw (known, e)
 
-run_unknown : (x : Command) (table rs os d b room : List ℕ) → is_unknown x ≡ true → run_over x table rs os d b room ≡ not_run COMMAND d b room
+run_unknown : (x : Option Command) (table rs os d b room : List ℕ) → is_none x ≡ true → run_over x table rs os d b room ≡ not_run COMMAND d b room
 unfolding run_over
 run_unknown x table rs os d b room unknown = rw unknown
 
 -- a command is unknown, or makes an exported call
-makes_or_none : (table rs d : List ℕ) (x : Command) → (is_unknown x ≡ true) ⊎ ((e : Exported) × Makes table rs d x e)
-makes_or_none table rs d (Frequency hz) = inr (Own (order.Order.Tune hz rs), tunes hz)
-makes_or_none table rs d (Rate rate) = inr (RateOf rate table d d, rates rate)
-makes_or_none table rs d (GainDb db) = inr (Own (order.Order.Gain db), gains db)
-makes_or_none table rs d (GainIndex k) = inr (Own (order.Order.GainIndex k), steps k)
-makes_or_none table rs d (Bandwidth hz) = inr (Own (order.Order.Bandwidth hz), narrows hz)
-makes_or_none table rs d (Correction ppm) = inr (Correct ppm d, corrects ppm)
-makes_or_none table rs d Reload = inr (Own order.Order.Reload, reloads)
-makes_or_none table rs d Unknown = inl refl
+makes_or_none : (table rs d : List ℕ) (x : Option Command) → (is_none x ≡ true) ⊎ ((e : Exported) × Makes table rs d x e)
+makes_or_none table rs d (Some (Frequency hz)) = inr (Own (order.Order.Tune hz rs), tunes hz)
+makes_or_none table rs d (Some (Rate rate)) = inr (RateOf rate table d d, rates rate)
+makes_or_none table rs d (Some (GainDb db)) = inr (Own (order.Order.Gain db), gains db)
+makes_or_none table rs d (Some (GainIndex k)) = inr (Own (order.Order.GainIndex k), steps k)
+makes_or_none table rs d (Some (Bandwidth hz)) = inr (Own (order.Order.Bandwidth hz), narrows hz)
+makes_or_none table rs d (Some (Correction ppm)) = inr (Correct ppm d, corrects ppm)
+makes_or_none table rs d (Some Reload) = inr (Own order.Order.Reload, reloads)
+makes_or_none table rs d None = inl refl
 
-made_known : (table rs d : List ℕ) (x : Command) (e : Exported) → Makes table rs d x e → is_unknown x ≡ false
+made_known : (table rs d : List ℕ) (x : Option Command) (e : Exported) → Makes table rs d x e → is_none x ≡ false
 made_known table rs d x e (tunes hz) = refl
 made_known table rs d x e (rates rate) = refl
 made_known table rs d x e (gains db) = refl
@@ -162,9 +164,9 @@ module _ (b : List ℕ) (es : List Entry) (c : Carried b es) (table rs os d room
         (subst (λ (z : Bool). (left_by z (rate_row rate p t d') os t.chip (both t d') room).count < 4_294_967_296) sounds n)
 
     -- a call of the tuner's table, on the bytes where they lie
-    own_is : (x : Command) (o : order.Order)
+    own_is : (x : Option Command) (o : order.Order)
         → command_row x table rs (tuner_of b).tuner (driver_of d).driver ≡ beside (driver_of d).driver (order.course_of o (tuner_of b).tuner)
-        → is_unknown x ≡ false → is_taken (order.course_of o (tuner_of b).tuner) ≡ true → lock_tries_by x rs os (tuner_of b).tuner room ≡ no_tries
+        → is_none x ≡ false → is_taken (order.course_of o (tuner_of b).tuner) ≡ true → lock_tries_by x rs os (tuner_of b).tuner room ≡ no_tries
         → tuner_typed o ≡ true → tuner_left o os room b b ≡ by_after (over_tuner (order.course_of o) os b room b) b
         → tuner_left o os room b b ≡ left_over (run_over x table rs os d b room)
     own_is x o row known taken none h l =
@@ -178,48 +180,48 @@ module _ (b : List ℕ) (es : List Entry) (c : Carried b es) (table rs os d room
         l ∙ ap (onward a.answer a.room) there ∙ ap left_over run
 
     -- a tuning, which is the same with its tries told
-    tuning_is : (hz : ℕ) → leaves (lent (Own (order.Order.Tune hz rs)) os room b) b ≡ left_over (run_over (Frequency hz) table rs os d b room)
+    tuning_is : (hz : ℕ) → leaves (lent (Own (order.Order.Tune hz rs)) os room b) b ≡ left_over (run_over (Some (Frequency hz)) table rs os d b room)
     unfolding over_tuning
     tuning_is hz =
         let o : order.Order = order.Order.Tune hz rs in
         let a : After = over_tuner (order.course_of o) os b room b in
         let v = over_tuning (order.course_of o) os b room b in
-        let is = over_is table rs os d b room driver-bytes good whole (Frequency hz) o refl refl refl in
-        let run = by_tuning_lem table rs os d b room driver-bytes good whole hz (Frequency hz) refl b refl v.answer v.room v.next refl in
+        let is = over_is table rs os d b room driver-bytes good whole (Some (Frequency hz)) o refl refl refl in
+        let run = by_tuning_lem table rs os d b room driver-bytes good whole hz (Some (Frequency hz)) refl b refl v.answer v.room v.next refl in
         let there : (by_after a b).bytes ≡ a.next =
         ap (λ (z : After). (by_after z b).bytes) is
-        ∙ taken_there (left table rs os d b room driver-bytes good whole (Frequency hz) o refl refl refl) b (few_of o replies) (long b es c)
+        ∙ taken_there (left table rs os d b room driver-bytes good whole (Some (Frequency hz)) o refl refl refl) b (few_of o replies) (long b es c)
         ∙ sym (ap (λ (z : After). z.next) is) in
         ap (onward a.answer a.room) there ∙ ap left_over run
 
     -- a rate, whose driver's record goes into the driver's own bytes
-    rate_is_run : (rate : ℕ) → leaves (lent (RateOf rate table d d) os room b) b ≡ left_over (run_over (Rate rate) table rs os d b room)
+    rate_is_run : (rate : ℕ) → leaves (lent (RateOf rate table d d) os room b) b ≡ left_over (run_over (Some (Rate rate)) table rs os d b room)
     rate_is_run rate =
         let v = rate_over os rate table d b room d b in
         let is = rate_is table rs os d b room driver-bytes good whole rate in
         let x = rated table rs os d b room driver-bytes good whole rate in
-        let run = by_rate table rs os d b room driver-bytes good whole rate (Rate rate) refl d b refl refl v.answer v.room v.driver v.tuner refl (tuned_of v.answer no_tries) refl in
+        let run = by_rate table rs os d b room driver-bytes good whole rate (Some (Rate rate)) refl d b refl refl v.answer v.room v.driver v.tuner refl (tuned_of v.answer no_tries) refl in
         let there : (by_rates v b).bytes ≡ v.tuner =
         ap (λ (z : Rates). (by_rates z b).bytes) is ∙ taken_there (tuner_only x) b (few_rate rate) (long b es c) ∙ sym (ap (λ (z : Rates). z.tuner) is) in
         ap (onward v.answer v.room) there ∙ ap left_over run
 
-    correction_is : (ppm : ℤ) → leaves (lent (Correct ppm d) os room b) b ≡ left_over (run_over (Correction ppm) table rs os d b room)
+    correction_is : (ppm : ℤ) → leaves (lent (Correct ppm d) os room b) b ≡ left_over (run_over (Some (Correction ppm)) table rs os d b room)
     correction_is ppm =
         let v = correct_over ppm b d in
-        ap left_over (by_correction table rs os d b room driver-bytes good whole ppm (Correction ppm) refl v.answer v.tuner v.driver refl (tuned_of v.answer no_tries) refl)
+        ap left_over (by_correction table rs os d b room driver-bytes good whole ppm (Some (Correction ppm)) refl v.answer v.tuner v.driver refl (tuned_of v.answer no_tries) refl)
 
     -- a command leaves of the tuner's bytes and of the room what its own exported call leaves, and tells the same
-    pub run_is_call : (x : Command) (e : Exported) → Makes table rs d x e → leaves (lent e os room b) b ≡ left_over (run_over x table rs os d b room)
+    pub run_is_call : (x : Option Command) (e : Exported) → Makes table rs d x e → leaves (lent e os room b) b ≡ left_over (run_over x table rs os d b room)
     run_is_call x e (tunes hz) = tuning_is hz
     run_is_call x e (rates rate) = rate_is_run rate
-    run_is_call x e (gains db) = own_is (GainDb db) (order.Order.Gain db) refl refl (gain_taken db (tuner_of b).tuner) refl refl refl
-    run_is_call x e (steps k) = own_is (GainIndex k) (order.Order.GainIndex k) refl refl (index_taken k (tuner_of b).tuner) refl refl refl
-    run_is_call x e (narrows hz) = own_is (Bandwidth hz) (order.Order.Bandwidth hz) refl refl (bandwidth_taken hz (tuner_of b).tuner) refl refl refl
+    run_is_call x e (gains db) = own_is (Some (GainDb db)) (order.Order.Gain db) refl refl (gain_taken db (tuner_of b).tuner) refl refl refl
+    run_is_call x e (steps k) = own_is (Some (GainIndex k)) (order.Order.GainIndex k) refl refl (index_taken k (tuner_of b).tuner) refl refl refl
+    run_is_call x e (narrows hz) = own_is (Some (Bandwidth hz)) (order.Order.Bandwidth hz) refl refl (bandwidth_taken hz (tuner_of b).tuner) refl refl refl
     run_is_call x e (corrects ppm) = correction_is ppm
-    run_is_call x e reloads = own_is Reload order.Order.Reload refl refl (reload_taken (tuner_of b).tuner) refl refl refl
+    run_is_call x e reloads = own_is (Some Reload) order.Order.Reload refl refl (reload_taken (tuner_of b).tuner) refl refl refl
 
     -- its numbers are of their types, and nothing but the tuner's and the driver's records is asked of it
-    pub made_typed : (x : Command) (e : Exported) → Makes table rs d x e → (typed e ≡ true) × (amiss e ≡ false)
+    pub made_typed : (x : Option Command) (e : Exported) → Makes table rs d x e → (typed e ≡ true) × (amiss e ≡ false)
     made_typed x e (tunes hz) = (replies, refl)
     made_typed x e (rates rate) = (refl, rw ok)
     made_typed x e (gains db) = (refl, refl)
@@ -228,19 +230,19 @@ module _ (b : List ℕ) (es : List Entry) (c : Carried b es) (table rs os d room
     made_typed x e (corrects ppm) = (refl, rw ok)
     made_typed x e reloads = (refl, refl)
 
-    made_goes : (x : Command) (e : Exported) → Makes table rs d x e → Goes es (left_over (run_over x table rs os d b room))
+    made_goes : (x : Option Command) (e : Exported) → Makes table rs d x e → Goes es (left_over (run_over x table rs os d b room))
     made_goes x e m = subst (Goes es) (run_is_call x e m) (next b es c (lent e os room b) (made_typed x e m).0)
 
     -- 1 is told of nothing: the tuner's bytes are a record, and so are the driver's
-    made_one : (x : Command) (e : Exported) → Makes table rs d x e → eqb (run_over x table rs os d b room).answer.refusal SETUP ≡ false
+    made_one : (x : Option Command) (e : Exported) → Makes table rs d x e → eqb (run_over x table rs os d b room).answer.refusal SETUP ≡ false
     made_one x e m =
         subst (λ (z : Left). eqb z.reply.refusal SETUP ≡ false) (run_is_call x e m)
         (refused_one b es c (lent e os room b) (made_typed x e m).0 ∙ (made_typed x e m).1)
 
-    run_one : (x : Command) → eqb (run_over x table rs os d b room).answer.refusal SETUP ≡ false
+    run_one : (x : Option Command) → eqb (run_over x table rs os d b room).answer.refusal SETUP ≡ false
     run_one x = go (makes_or_none table rs d x)
       where
-        go : (is_unknown x ≡ true) ⊎ ((e : Exported) × Makes table rs d x e) → eqb (run_over x table rs os d b room).answer.refusal SETUP ≡ false
+        go : (is_none x ≡ true) ⊎ ((e : Exported) × Makes table rs d x e) → eqb (run_over x table rs os d b room).answer.refusal SETUP ≡ false
         go (inl none) = ap (λ (h : Hops). eqb h.answer.refusal SETUP) (run_unknown x table rs os d b room none)
         go (inr made) = made_one x made.0 made.1
 
@@ -261,19 +263,19 @@ module _ (b : List ℕ) (es : List Entry) (c : Carried b es) (table rs os d room
 
   -- a command on the tuner's bytes: what it leaves is the sequence's next bytes, and what is read of its room the next entries. Unknown, or beside bytes that are no
   -- driver's, it is not run
-  pub run_goes : (x : Command) → Goes es (left_over (run_over x table rs os d b room))
+  pub run_goes : (x : Option Command) → Goes es (left_over (run_over x table rs os d b room))
   run_goes x = go (makes_or_none table rs d x) (driver_of d).ok refl
     where
-      go : (is_unknown x ≡ true) ⊎ ((e : Exported) × Makes table rs d x e) → (z : Bool) → (driver_of d).ok ≡ z → Goes es (left_over (run_over x table rs os d b room))
+      go : (is_none x ≡ true) ⊎ ((e : Exported) × Makes table rs d x e) → (z : Bool) → (driver_of d).ok ≡ z → Goes es (left_over (run_over x table rs os d b room))
       go (inl none) z e = subst (λ (h : Hops). Goes es (left_over h)) (sym (run_unknown x table rs os d b room none)) stays
       go (inr made) true e = made_goes e x made.0 made.1
       go (inr made) false e = subst (λ (h : Hops). Goes es (left_over h)) (sym (run_none x table rs os d b room (made_known table rs d x made.0 made.1) e)) stays
 
   -- no command is refused 5
-  run_never_five : (x : Command) → eqb (run_over x table rs os d b room).answer.refusal 5 ≡ false
+  run_never_five : (x : Option Command) → eqb (run_over x table rs os d b room).answer.refusal 5 ≡ false
   run_never_five x = go (makes_or_none table rs d x) (driver_of d).ok refl
     where
-      go : (is_unknown x ≡ true) ⊎ ((e : Exported) × Makes table rs d x e) → (z : Bool) → (driver_of d).ok ≡ z → eqb (run_over x table rs os d b room).answer.refusal 5 ≡ false
+      go : (is_none x ≡ true) ⊎ ((e : Exported) × Makes table rs d x e) → (z : Bool) → (driver_of d).ok ≡ z → eqb (run_over x table rs os d b room).answer.refusal 5 ≡ false
       go (inl none) z e = ap (λ (h : Hops). eqb h.answer.refusal 5) (run_unknown x table rs os d b room none)
       go (inr made) true e =
           subst (λ (l : Left). eqb l.reply.refusal 5 ≡ false) (run_is_call e x made.0 made.1) (never_five b es c (lent made.0 os room b) (made_typed e x made.0 made.1).0)
@@ -352,7 +354,7 @@ module _ (b : List ℕ) (es : List Entry) (c : Carried b es) (table rs os d room
       ran : (w : Completes stream chunk) → (run_over (command_of nine) table rs os d b room).answer.refusal ≡ STEP → Cuts
       ran w h = by (makes_or_none table rs d (command_of nine)) (driver_of d).ok refl
         where
-          by : (is_unknown (command_of nine) ≡ true) ⊎ ((e : Exported) × Makes table rs d (command_of nine) e) → (z : Bool) → (driver_of d).ok ≡ z → Cuts
+          by : (is_none (command_of nine) ≡ true) ⊎ ((e : Exported) × Makes table rs d (command_of nine) e) → (z : Bool) → (driver_of d).ok ≡ z → Cuts
           by (inl none) z e =
               let fourteen : ◌≡◌ {A = ℕ} 14 11 = sym (ap (λ (x : Hops). x.answer.refusal) (run_unknown (command_of nine) table rs os d b room none)) ∙ h in
               absurd (omega arith)
@@ -409,13 +411,13 @@ module _ (b : List ℕ) (es : List Entry) (c : Carried b es) (table rs os d room
         (subst (λ (j : ℕ). Cut j (entries_of own b) (entries_of (uncut j own) b)) own_index (cut_uncut b es c own own_typed own_eleven)))
 
   -- (d) "A reload answered done leaves all 27 registers and the shadow at the last attempted bytes", of command 7
-  pub fed_reload : Completes stream chunk → (driver_of d).ok ≡ true → command_of nine ≡ Reload → (feed_over table chunk rs os stream d b room).answer.refusal ≡ 0
+  pub fed_reload : Completes stream chunk → (driver_of d).ok ≡ true → command_of nine ≡ Some Reload → (feed_over table chunk rs os stream d b room).answer.refusal ≡ 0
       → (before now : Regs) → Played (get_or b 1 0) (es ++ fed_entries (feed_over table chunk rs os stream d b room)) before now → (i : ℕ) → i < 27
       → (now (5 + i) ≡ byte_in (get_or init_array i 0) (last_in (get_or b 1 0) es (5 + i)))
       × (get_or (feed_over table chunk rs os stream d b room).tuner (2 + i) 0 ≡ byte_in (get_or init_array i 0) (last_in (get_or b 1 0) es (5 + i)))
       × (get_or (feed_over table chunk rs os stream d b room).tuner (51 + i) 1 ≡ 0)
   fed_reload w ok x h before now played i l =
-      let m : Makes table rs d (command_of nine) (Own order.Order.Reload) = subst (λ (y : Command). Makes table rs d y (Own order.Order.Reload)) (sym x) reloads in
+      let m : Makes table rs d (command_of nine) (Own order.Order.Reload) = subst (λ (y : Option Command). Makes table rs d y (Own order.Order.Reload)) (sym x) reloads in
       let is = fed_call w ok (Own order.Order.Reload) m os in
       let same : fed_entries (feed_over table chunk rs os stream d b room) ≡ entries_of (lent (Own order.Order.Reload) os room b) b = ap (λ (z : Left). read_by z.reply z.room) is in
       let r = reload_done b es c os room b (sym (ap (λ (z : Left). z.reply.refusal) is) ∙ h) before now

@@ -13,6 +13,7 @@ use Rattle.rounds.specs.Driven.{RestFailed, Touched}
 use Rattle.rounds.specs.Driven.RoundsBy.{begun, round}
 use Rattle.rounds.specs.Scripts.{Script, step_at}
 use Rattle.sequences.specs.Calls.{is_byte}
+use Rattle.std.specs.Prelude.{Option}
 use Rattle.stream.specs.declared.Command.{Command}
 use Rattle.stream.specs.Commands.{command_of}
 use Rattle.stream.specs.Pending.{gathered, pending_of}
@@ -27,7 +28,7 @@ use Rattle.carried.proofs.Fed.{fed_call, made_typed}
 use Rattle.carried.proofs.Holding.{carried_recorded}
 
 -- with other replies a command makes the same call with those
-makes_with : (table rs d : List ℕ) (x : Command) (e : Exported) → Makes table rs d x e → (qs : List ℕ) → Makes table qs d x (exported_with qs d e)
+makes_with : (table rs d : List ℕ) (x : Option Command) (e : Exported) → Makes table rs d x e → (qs : List ℕ) → Makes table qs d x (exported_with qs d e)
 makes_with table rs d x e (tunes hz) qs = tunes hz
 makes_with table rs d x e (rates rate) qs = rates rate
 makes_with table rs d x e (gains db) qs = gains db

@@ -42,8 +42,7 @@ use Rattle.pll.specs.declared.Kind.TheVariants.{R820T, R828D}
 use Rattle.std.specs.Prelude.{Option, Some, None}
 use Rattle.pll.specs.declared.Plan.{Plan}
 use Rattle.registers.specs.Rates.{ratio_holds, ratio_of, rate_number}
-use Rattle.reference.specs.declared.Corrected.{Corrected}
-use Rattle.reference.specs.declared.Corrected.TheVariants as corrected
+use Rattle.std.specs.Prelude.{Option, Some, None}
 use Rattle.reference.specs.Correct.{corrected_of}
 use Rattle.reference.proofs.Corrections.{in_range_lem}
 use Rattle.tuning.specs.Program.{tune_answer}
@@ -229,9 +228,9 @@ pub xtal_small : (nominal : ℕ) (ppm : ℤ) → xtal_by nominal ppm < 4_294_967
 unfolding xtal_by
 xtal_small nominal ppm = go (corrected_of nominal ppm) refl
   where
-    go : (c : Corrected) → corrected_of nominal ppm ≡ c → xtal_by nominal ppm < 4_294_967_296
-    go (corrected.Is v) e = rw e (omega (arith, in_range_lem nominal ppm v e))
-    go corrected.Refused e = rw e (omega arith)
+    go : (c : Option ℕ) → corrected_of nominal ppm ≡ c → xtal_by nominal ppm < 4_294_967_296
+    go (Some v) e = rw e (omega (arith, in_range_lem nominal ppm v e))
+    go None e = rw e (omega arith)
 
 pub hop_starts : (kind : Kind) (r : Option Path) (rs : List ℕ) (ss : List Step) → starts (path_part kind r rs ++ (Open ∷ ss)) ≡ true
 unfolding output_steps access_step

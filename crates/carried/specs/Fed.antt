@@ -1,7 +1,7 @@
 -- A call of `pasetone_feed` (document 02, #105) on the bytes that a host holds. It changes the tuner's bytes where they lie, so what the host goes on with is
 -- what they hold then; what it reads is the section of the command that the call completed, none where it completed none.
 -- Assumes nothing.
-use Rattle.std.specs.Prelude.{ℕ, ◌≡◌, true, List, eqb, Float, ℤ, length}
+use Rattle.std.specs.Prelude.{ℕ, ◌≡◌, true, List, eqb, Float, ℤ, length, Option, Some}
 use Rattle.transcript.specs.declared.Entry.{Entry}
 use Rattle.reply.specs.declared.Reply.{Reply}
 use Rattle.commands.specs.declared.FeedReply.{FeedReply}
@@ -26,11 +26,11 @@ pub record Completes (stream chunk : List ℕ) : Type 0 where
   pub whole : eqb (length (gathered (pending_of stream) chunk)) 9 ≡ true
 
 -- the exported call that a command makes, with the board's table, the replies and the driver's bytes d of the feeding; one that is unknown makes none
-pub data Makes (table rs d : List ℕ) : Command → Exported → Type 0 where
-  tunes : (hz : ℕ) → Makes table rs d (command.Frequency hz) (Own (Tune hz rs))
-  rates : (rate : ℕ) → Makes table rs d (command.Rate rate) (Rate rate table d d)
-  gains : (db : Float) → Makes table rs d (command.GainDb db) (Own (Gain db))
-  steps : (k : ℕ) → Makes table rs d (command.GainIndex k) (Own (GainIndex k))
-  narrows : (hz : ℕ) → Makes table rs d (command.Bandwidth hz) (Own (Bandwidth hz))
-  corrects : (ppm : ℤ) → Makes table rs d (command.Correction ppm) (Correct ppm d)
-  reloads : Makes table rs d command.Reload (Own Reload)
+pub data Makes (table rs d : List ℕ) : Option Command → Exported → Type 0 where
+  tunes : (hz : ℕ) → Makes table rs d (Some (command.Frequency hz)) (Own (Tune hz rs))
+  rates : (rate : ℕ) → Makes table rs d (Some (command.Rate rate)) (Rate rate table d d)
+  gains : (db : Float) → Makes table rs d (Some (command.GainDb db)) (Own (Gain db))
+  steps : (k : ℕ) → Makes table rs d (Some (command.GainIndex k)) (Own (GainIndex k))
+  narrows : (hz : ℕ) → Makes table rs d (Some (command.Bandwidth hz)) (Own (Bandwidth hz))
+  corrects : (ppm : ℤ) → Makes table rs d (Some (command.Correction ppm)) (Correct ppm d)
+  reloads : Makes table rs d (Some command.Reload) (Own Reload)

@@ -7,7 +7,10 @@ use native.Mathlib.Omega.{arith}
 use borrow.Author.Tests.{eq-eqb, ne_eqb, le-leb, leb-false, lt-leb}
 use lib.Dec.{leb}
 use lib.ListN.{drop, get_or, length, replicate, take, length-append, length-drop, length-replicate, length-take}
+use Rattle.std.proofs.lemmas.Option.{none-some, same_Some}
 use lib.Seq.{sets, sets-eq, take_at, drop-length, length-take-le}
+use Rattle.std.specs.Prelude.{Option, Some, None}
+use Rattle.std.specs.Option.{is_none}
 use Rattle.refusals.specs.declared.Answer.TheVariants.{Done, Refused}
 use Rattle.refusals.specs.Table.{SETUP, COMMAND}
 use Rattle.chip.proofs.Laws.{and_left, and_right}
@@ -23,20 +26,19 @@ use Rattle.stream.specs.declared.Gathered.{Gathered}
 use Rattle.stream.specs.Commands.{command_of}
 use Rattle.stream.specs.InCode.{gathered_by, gathered_of, pending_count, stream_after}
 use Rattle.stream.specs.Pending.{gathered, is_stream, zero_padded, pending_of, stream_bytes, used_by}
-use Rattle.stream.proofs.Laws.{is_none, is_one, stream_held, stream_length}
+use Rattle.stream.proofs.Laws.{is_one, no_stream, stream_held, stream_length}
 use Rattle.commands.specs.declared.FeedReply.{FeedReply}
 use Rattle.commands.specs.Over.{feed_over, feeds, fed_of, no_command, pending_answer, run_over}
-use Rattle.commands.specs.Rows.{is_unknown}
 use Rattle.commands.proofs.Runs.{driver_exact, tuner_exact}
 
 -- ---- a command over both records' bytes
 
-module _ (x : Command) (table rs os d t room : List ℕ) where
-  pub unknown_run : is_unknown x ≡ true → (r : TuneReply) → r ≡ no_command (Refused COMMAND) → hops r room d t ≡ run_over x table rs os d t room
+module _ (x : Option Command) (table rs os d t room : List ℕ) where
+  pub unknown_run : is_none x ≡ true → (r : TuneReply) → r ≡ no_command (Refused COMMAND) → hops r room d t ≡ run_over x table rs os d t room
   unfolding run_over
   unknown_run u r e = ap (λ (q : TuneReply). hops q room d t) e ∙ rw u
 
-  module _ (dr : DriverRead) (tr : TunerRead) (is-driver : dr ≡ driver_of d) (is-tuner : tr ≡ tuner_of t) (known : is_unknown x ≡ false) where
+  module _ (dr : DriverRead) (tr : TunerRead) (is-driver : dr ≡ driver_of d) (is-tuner : tr ≡ tuner_of t) (known : is_none x ≡ false) where
     read_is : (dr.ok && tr.ok) ≡ ((driver_of d).ok && (tuner_of t).ok)
     read_is = λ i. (is-driver i).ok && (is-tuner i).ok
 
@@ -115,34 +117,34 @@ stored l image bs n h e =
 
 -- ---- a call, as the code has read the stream
 
-module _ (table chunk rs os stream d t room : List ℕ) (got : Gathered) (is-got : got ≡ gathered_of stream chunk) where
+module _ (table chunk rs os stream d t room : List ℕ) where
   abbrev p : List ℕ
   p = pending_of stream
 
-  ok_is : (b : Bool) → is_stream stream ≡ b → got.ok ≡ b
-  unfolding gathered_of
-  ok_is true e = ap (λ (g : Gathered). g.ok) is-got ∙ rw e
-  ok_is false e = ap (λ (g : Gathered). g.ok) is-got ∙ rw e
-
-  stream_by : (b : Bool) → got.ok ≡ b → is_stream stream ≡ b
-  stream_by b h = go (is_stream stream) refl
-    where
-      go : (z : Bool) → is_stream stream ≡ z → is_stream stream ≡ b
-      go z e = e ∙ sym (ok_is z e) ∙ h
-
-  pub not_fed : got.ok ≡ false → (q : TuneReply) → q ≡ no_command (Refused SETUP) → (r : FeedReply) → r ≡ fed_of q 0 0 0
+  pub not_fed : None ≡ gathered_of stream chunk → (q : TuneReply) → q ≡ no_command (Refused SETUP) → (r : FeedReply) → r ≡ fed_of q 0 0 0
       → feeds r stream d t room ≡ feed_over table chunk rs os stream d t room
-  unfolding feed_over
-  not_fed h q e r f =
-      ap (λ (x : FeedReply). feeds x stream d t room) (f ∙ ap (λ (x : TuneReply). fed_of x 0 0 0) e) ∙ rw (stream_by false h)
+  unfolding feed_over gathered_of
+  not_fed none q e r f =
+      ap (λ (x : FeedReply). feeds x stream d t room) (f ∙ ap (λ (x : TuneReply). fed_of x 0 0 0) e) ∙ rw (no_such (is_stream stream) refl)
+    where
+      no_such : (z : Bool) → is_stream stream ≡ z → is_stream stream ≡ false
+      no_such true h = absurd (none-some (gathered_by p chunk) (none ∙ rw h))
+      no_such false h = h
 
-  module _ (h : got.ok ≡ true) where
-    taken : got ≡ gathered_by p chunk
+  module _ (got : Gathered) (is-got : Some got ≡ gathered_of stream chunk) where
+    read : (z : Bool) → is_stream stream ≡ z → (is_stream stream ≡ true) × (got ≡ gathered_by p chunk)
     unfolding gathered_of
-    taken = is-got ∙ rw (stream_by true h)
+    read true h = (h, same_Some _ _ (is-got ∙ rw h))
+    read false h = absurd (none-some got (sym (is-got ∙ rw h)))
+
+    valid : is_stream stream ≡ true
+    valid = (read (is_stream stream) refl).0
+
+    taken : got ≡ gathered_by p chunk
+    taken = (read (is_stream stream) refl).1
 
     pub nine : length stream ≡ 9
-    nine = stream_length stream (stream_by true h)
+    nine = stream_length stream valid
 
     count_is : got.count ≡ length (gathered p chunk)
     count_is = ap (λ (g : Gathered). g.count) taken
@@ -159,34 +161,34 @@ module _ (table chunk rs os stream d t room : List ℕ) (got : Gathered) (is-got
         let told : r ≡ fed_of (no_command (Done 0)) (used_by p chunk) 0 (length (gathered p chunk)) =
         f ∙ ap (λ (x : TuneReply). fed_of x got.used 0 got.count) eq ∙ ap (λ (g : Gathered). fed_of (no_command (Done 0)) g.used 0 g.count) taken in
         ap₂ (λ (x : FeedReply) (s : List ℕ). feeds x s d t room) told kept
-        ∙ rw (stream_by true h, ne_eqb (length (gathered p chunk)) 9 (λ z. omega arith))
+        ∙ rw (valid, ne_eqb (length (gathered p chunk)) 9 (λ z. omega arith))
 
     -- nine are a command, which runs
-    pub completes : 9 ≤ got.count → (image : List ℕ) → image ≡ stream_after got → (x : Command) → x ≡ command_of got.bytes
+    pub completes : 9 ≤ got.count → (image : List ℕ) → image ≡ stream_after got → (x : Option Command) → x ≡ command_of got.bytes
         → (q : TuneReply) (left d' t' : List ℕ) → hops q left d' t' ≡ run_over x table rs os d t room
         → (r : FeedReply) → r ≡ fed_of q got.used 1 0
         → feeds r (sets stream 0 image) d' t' left ≡ feed_over table chunk rs os stream d t room
     unfolding feed_over
     completes many image e x ex q left d' t' er r f =
-        let most : length (gathered p chunk) ≤ 9 = gathered_most p chunk (stream_short stream (stream_by true h)).0 in
+        let most : length (gathered p chunk) ≤ 9 = gathered_most p chunk (stream_short stream valid).0 in
         let all : length (gathered p chunk) ≡ 9 = omega (arith, count_is) in
         let clear : sets stream 0 image ≡ stream_bytes [] =
         stored stream image [] nine (omega arith) (e ∙ ap stream_after taken ∙ image_clear p chunk (omega arith)) in
         let bytes : got.bytes ≡ gathered p chunk = ap (λ (g : Gathered). g.bytes) taken ∙ padded_nine (gathered p chunk) all in
         let ran : hops q left d' t' ≡ run_over (command_of (gathered p chunk)) table rs os d t room =
-        er ∙ ap (λ (y : Command). run_over y table rs os d t room) (ex ∙ ap command_of bytes) in
+        er ∙ ap (λ (y : Option Command). run_over y table rs os d t room) (ex ∙ ap command_of bytes) in
         let told : r ≡ fed_of q (used_by p chunk) 1 0 = f ∙ ap (λ (g : Gathered). fed_of q g.used 1 0) taken in
         ap₂ (λ (y : FeedReply) (s : List ℕ). feeds y s d' t' left) told clear
         ∙ ap (λ (y : Hops). feeds (fed_of y.answer (used_by p chunk) 1 0) (stream_bytes []) y.driver y.tuner y.room) ran
-        ∙ rw (stream_by true h, eq-eqb (length (gathered p chunk)) 9 all)
+        ∙ rw (valid, eq-eqb (length (gathered p chunk)) 9 all)
 
 -- ---- what waits
 
-module _ (stream : List ℕ) (h : ℕ) (e : h ≡ pending_count stream) where
-  pub none_pending : h ≡ 9 → Refused SETUP ≡ pending_answer stream
+module _ (stream : List ℕ) where
+  pub none_pending : None ≡ pending_count stream → Refused SETUP ≡ pending_answer stream
   unfolding pending_answer
-  none_pending n = rw (is_none stream h e n)
+  none_pending e = rw (no_stream stream e)
 
-  pub some_pending : (h ≡ 9 → ⊥) → Done h ≡ pending_answer stream
+  pub some_pending : (h : ℕ) → Some h ≡ pending_count stream → Done h ≡ pending_answer stream
   unfolding pending_answer
-  some_pending n = let one = is_one stream h e n in rw one.0 (ap Done (one.1 ∙ sym (stream_short stream one.0).1))
+  some_pending h e = let one = is_one stream h e in rw one.0 (ap Done (one.1 ∙ sym (stream_short stream one.0).1))

@@ -10,6 +10,8 @@ use lib.Ieee.{Float}
 use lib.IntN.{ℤ}
 use lib.ListN.{length}
 use lib.Seq.{sets}
+use Rattle.std.specs.Prelude.{Option, Some}
+use Rattle.std.specs.Option.{is_none}
 use Rattle.bands.specs.Tables.{plan_by}
 use Rattle.refusals.specs.declared.Answer.{Answer}
 use Rattle.refusals.specs.declared.Answer.TheVariants.{Done, Refused}
@@ -44,7 +46,7 @@ use Rattle.tuners.specs.Over.{After, Tuned, after, handed, is_written, next_of, 
 use Rattle.wire.specs.Bytes.{Bytes}
 use Rattle.wire.specs.Parts.{parts_from}
 use Rattle.commands.specs.Over.{run_over}
-use Rattle.commands.specs.Rows.{beside, command_result, command_row, command_lock_tries, is_unknown, lock_tries_by}
+use Rattle.commands.specs.Rows.{beside, command_result, command_row, command_lock_tries, lock_tries_by}
 
 -- ---- a row with steps: its argument's refusal comes to the same whether the bytes' call or the row's own turns it away
 
@@ -171,12 +173,12 @@ module _ (table rs os d t room : List ℕ) (driver-bytes : Bytes d) (good-tuner 
   good = ap (λ (b : Bool). b && sound_driver D) good-tuner ∙ driver_sound d driver-bytes driver_ok
 
   -- a known command's row, on records in their ranges
-  run_is : (x : Command) → is_unknown x ≡ false
+  run_is : (x : Option Command) → is_none x ≡ false
       → hops_by (rates_made (left_by true (command_row x table rs T D) os T.chip (both T D) room) d t) (lock_tries_by x rs os T room) ≡ run_over x table rs os d t room
   unfolding run_over command_result command_lock_tries
   run_is x known = rw (known, whole, good)
 
-  module _ (x : Command) (o : Order) (row : command_row x table rs T D ≡ beside D (course_of o T)) (known : is_unknown x ≡ false) (taken : is_taken (course_of o T) ≡ true) where
+  module _ (x : Option Command) (o : Order) (row : command_row x table rs T D ≡ beside D (course_of o T)) (known : is_none x ≡ false) (taken : is_taken (course_of o T) ≡ true) where
     abbrev pub left : Called Tuner
     left = left_by true (course_of o T) os T.chip T room
 
@@ -196,24 +198,24 @@ module _ (table rs os d t room : List ℕ) (driver-bytes : Bytes d) (good-tuner 
         ∙ run_is x known
 
     -- a call of the tuner that tells nothing of the lock
-    pub by_tuner : lock_tries_by x rs os T room ≡ no_tries → (y : Command) → y ≡ x → (given : List ℕ) → given ≡ t
+    pub by_tuner : lock_tries_by x rs os T room ≡ no_tries → (y : Option Command) → y ≡ x → (given : List ℕ) → given ≡ t
         → (q : Reply) (lent wrote : List ℕ) → after q lent wrote ≡ over_tuner (course_of o) os given room t → (r : TuneReply) → r ≡ tuned_of q no_tries
         → hops r lent d wrote ≡ run_over y table rs os d t room
     by_tuner none y is given same q lent wrote e r f =
         ap (λ (z : TuneReply). hops z lent d wrote) f
         ∙ handed_run (after q lent wrote) no_tries (e ∙ ap (λ (b : List ℕ). over_tuner (course_of o) os b room t) same) (sym none)
-        ∙ ap (λ (z : Command). run_over z table rs os d t room) (sym is)
+        ∙ ap (λ (z : Option Command). run_over z table rs os d t room) (sym is)
 
   -- a tuning
-  pub by_tuning_lem : (hz : ℕ) (y : Command) → y ≡ Frequency hz → (given : List ℕ) → given ≡ t
+  pub by_tuning_lem : (hz : ℕ) (y : Option Command) → y ≡ Some (Frequency hz) → (given : List ℕ) → given ≡ t
       → (r : TuneReply) (lent wrote : List ℕ) → tuned_to r lent wrote ≡ over_tuning (course_of (order.Order.Tune hz rs)) os given room t
       → hops r lent d wrote ≡ run_over y table rs os d t room
   unfolding over_tuning lock_tries_over lock_tries_of
   by_tuning_lem hz y is given same r lent wrote e =
       let row : Tuner → Course Tuner = course_of (order.Order.Tune hz rs) in
       ap (λ (z : Tuned). hops z.answer z.room d z.next) (e ∙ ap (λ (b : List ℕ). over_tuning row os b room t) same)
-      ∙ handed_run (Frequency hz) (order.Order.Tune hz rs) refl refl refl (over_tuner row os t room t) (lock_tries_over row os t room t) refl (seen_is hz)
-      ∙ ap (λ (z : Command). run_over z table rs os d t room) (sym is)
+      ∙ handed_run (Some (Frequency hz)) (order.Order.Tune hz rs) refl refl refl (over_tuner row os t room t) (lock_tries_over row os t room t) refl (seen_is hz)
+      ∙ ap (λ (z : Option Command). run_over z table rs os d t room) (sym is)
     where
       seen_is : (hz : ℕ) → lock_tries_over (course_of (order.Order.Tune hz rs)) os t room t ≡ lock_tries_of (order.Order.Tune hz rs) os T room
       seen_is hz =
@@ -230,17 +232,17 @@ module _ (table rs os d t room : List ℕ) (driver-bytes : Bytes d) (good-tuner 
       (both_taken (rate_row rate (plan_by table D.frequency) T D) refl os T.chip (both T D) room d t (length d) (length t)
       (omega (arith, driver_exact d driver_ok)) (omega (arith, tuner_exact t tuner_ok)))
 
-  pub by_rate : (rate : ℕ) (y : Command) → y ≡ Rate rate → (before given : List ℕ) → before ≡ d → given ≡ t
+  pub by_rate : (rate : ℕ) (y : Option Command) → y ≡ Some (Rate rate) → (before given : List ℕ) → before ≡ d → given ≡ t
       → (q : Reply) (lent wd wt : List ℕ) → rates q lent wd wt ≡ rate_over os rate table before given room d t → (r : TuneReply) → r ≡ tuned_of q no_tries
       → hops r lent wd wt ≡ run_over y table rs os d t room
   by_rate rate y is before given same_driver same_tuner q lent wd wt e r f =
       ap (λ (z : TuneReply). hops z lent wd wt) f
       ∙ ap (λ (z : Rates). hops_by z no_tries) (e ∙ (λ i. rate_over os rate table (same_driver i) (same_tuner i) room d t) ∙ rate_is rate)
-      ∙ run_is (Rate rate) refl
-      ∙ ap (λ (z : Command). run_over z table rs os d t room) (sym is)
+      ∙ run_is (Some (Rate rate)) refl
+      ∙ ap (λ (z : Option Command). run_over z table rs os d t room) (sym is)
 
   -- nothing is lent to a correction, so the room stays
-  pub by_correction : (ppm : ℤ) (y : Command) → y ≡ Correction ppm
+  pub by_correction : (ppm : ℤ) (y : Option Command) → y ≡ Some (Correction ppm)
       → (q : Reply) (wt wd : List ℕ) → corrects q wt wd ≡ correct_over ppm t d → (r : TuneReply) → r ≡ tuned_of q no_tries
       → hops r room wd wt ≡ run_over y table rs os d t room
   unfolding correct_over correction_result left_by
@@ -248,8 +250,8 @@ module _ (table rs os d t room : List ℕ) (driver-bytes : Bytes d) (good-tuner 
       ap (λ (z : TuneReply). hops z room wd wt) f
       ∙ ap (λ (z : Corrects). hops (tuned_of z.answer no_tries) room z.driver z.tuner) (e ∙ made)
       ∙ ap (λ (c : Called Both). hops_by (rates_made c d t) no_tries) (ap (λ (b : Bool). still b (correction_row ppm T D)) good ∙ go (leb 1 (xtal_by T.nominal ppm) && leb 1 (xtal_by D.nominal ppm)))
-      ∙ run_is (Correction ppm) refl
-      ∙ ap (λ (z : Command). run_over z table rs os d t room) (sym is)
+      ∙ run_is (Some (Correction ppm)) refl
+      ∙ ap (λ (z : Option Command). run_over z table rs os d t room) (sym is)
     where
       made : correct_over ppm t d ≡ corrects_made (correction_call ppm T D) t d
       made = rw (tuner_ok, driver_ok)

@@ -1,6 +1,7 @@
 -- A command over both records' bytes, where they lie, and a call that feeds a chunk. Document 02, #105; docs/DECISIONS.md, "#105".
 -- Assumes nothing.
-use Rattle.std.specs.Prelude.{ℕ, ◌&&◌, cond, List, [], eqb, length}
+use Rattle.std.specs.Prelude.{ℕ, ◌&&◌, cond, List, [], eqb, length, Option}
+use Rattle.std.specs.Option.{is_none}
 use Rattle.refusals.specs.declared.Answer.TheVariants.{Done, Refused}
 use Rattle.refusals.specs.declared.Answer.{Answer}
 use Rattle.refusals.specs.Table.{SETUP, COMMAND}
@@ -14,16 +15,16 @@ use Rattle.stream.specs.declared.Command.{Command}
 use Rattle.stream.specs.Commands.{command_of}
 use Rattle.stream.specs.Pending.{gathered, is_stream, pending_of, stream_bytes, used_by}
 use Rattle.commands.specs.declared.FeedReply.{FeedReply}
-use Rattle.commands.specs.Rows.{command_result, command_lock_tries, is_unknown}
+use Rattle.commands.specs.Rows.{command_result, command_lock_tries}
 
 -- refused before any step: both records' bytes and the room stay
 abbrev pub not_run : ℕ → List ℕ → List ℕ → List ℕ → Hops
 not_run number d t room = hops_by (rates_refused number room d t) no_tries
 
 -- "new 14 command ..; it stands first", then 1 where either record's bytes are not valid, then the call's own
-unfoldable pub run_over : Command → List ℕ → List ℕ → List ℕ → List ℕ → List ℕ → List ℕ → Hops
+unfoldable pub run_over : Option Command → List ℕ → List ℕ → List ℕ → List ℕ → List ℕ → List ℕ → Hops
 run_over c table rs os d t room =
-    cond (is_unknown c) (not_run COMMAND d t room)
+    cond (is_none c) (not_run COMMAND d t room)
     (cond ((driver_of d).ok && (tuner_of t).ok)
     (hops_by (rates_made (command_result c table rs os (tuner_of t).tuner (driver_of d).driver room) d t)
     (command_lock_tries c rs os (tuner_of t).tuner (driver_of d).driver room))

@@ -3,7 +3,7 @@
 
 #![tactic(auto)]
 
-ghost use Rattle.std.specs.Prelude.{◌≡◌, ◌&&◌, true, length};
+ghost use Rattle.std.specs.Prelude.{◌≡◌, ◌&&◌, true, length, Some};
 ghost use Rattle.refusals.specs.declared.Answer.TheVariants.{Done, Refused};
 ghost use Rattle.chip.specs.Entries.{no_tries};
 ghost use Rattle.drivers.specs.Drivers.{hops};
@@ -11,7 +11,6 @@ ghost use Rattle.records.specs.Drivers.{driver_of};
 ghost use Rattle.records.specs.Tuners.{tuner_of};
 ghost use Rattle.reply.specs.Replies.{tuned_of};
 ghost use Rattle.commands.specs.Over.{feed_over, feeds, fed_of, no_command, pending_answer, run_over};
-ghost use Rattle.commands.specs.Rows.{is_unknown};
 
 use refusals::Answer;
 use reply::{Reply, TuneReply};
@@ -30,21 +29,6 @@ pub struct FeedReply {
     pub locked: u32,
     pub completed: u32,
     pub pending: u32,
-}
-
-pub fn is_unknown(command: Command) -> bool
-    ensures { result ≡ is_unknown command }
-{
-    match command {
-        Command::Frequency(_) => false,
-        Command::Rate(_) => false,
-        Command::GainDb(_) => false,
-        Command::GainIndex(_) => false,
-        Command::Bandwidth(_) => false,
-        Command::Correction(_) => false,
-        Command::Reload => false,
-        Command::Unknown => true,
-    }
 }
 
 fn refuse(number: u8) -> TuneReply
@@ -102,7 +86,7 @@ fn call_over(
 ) -> TuneReply
     requires { (before.now ≡ driver.old) × (given.now ≡ tuner.old) × (((driver_of driver.old).ok && (tuner_of tuner.old).ok) ≡ true) }
     ensures { hops result room.new driver.new tuner.new
-        ≡ run_over command table.now replies.now outcomes.now driver.old tuner.old room.old }
+        ≡ run_over (Some command) table.now replies.now outcomes.now driver.old tuner.old room.old }
 {
     match command {
         Command::Frequency(hz) => tuners::set_frequency(given, hz, outcomes, replies, room, tuner),
@@ -116,13 +100,12 @@ fn call_over(
         Command::Bandwidth(hz) => still(tuners::set_bandwidth(given, hz, outcomes, room, tuner)),
         Command::Correction(ppm) => still(drivers::set_ppm(tuner, driver, ppm)),
         Command::Reload => still(tuners::reload(given, outcomes, room, tuner)),
-        Command::Unknown => refuse(refusals::COMMAND),
     }
 }
 
 // A command on both records' bytes, where they lie.
 fn run_over(
-    command: Command,
+    command: Option<Command>,
     driver: &mut [u8],
     tuner: &mut [u8],
     table: &[u8],
@@ -133,9 +116,9 @@ fn run_over(
     ensures { hops result room.new driver.new tuner.new
         ≡ run_over command table.now replies.now outcomes.now driver.old tuner.old room.old }
 {
-    if is_unknown(command) {
+    let Some(known) = command else {
         return refuse(refusals::COMMAND);
-    }
+    };
     let d = records::decode_driver(driver);
     let t = records::decode_tuner(tuner);
     let whole = d.ok & t.ok;
@@ -145,7 +128,7 @@ fn run_over(
     let before = driver_copy(driver);
     let given = tuner_copy(tuner);
     call_over(
-        command, &before, &given, driver, tuner, table, outcomes, replies, room,
+        known, &before, &given, driver, tuner, table, outcomes, replies, room,
     )
 }
 
@@ -180,10 +163,9 @@ pub fn feed(
     ensures { feeds result stream.new driver.new tuner.new room.new
         ≡ feed_over table.now chunk.now replies.now outcomes.now stream.old driver.old tuner.old room.old }
 {
-    let got = stream::gather(stream, chunk);
-    if !got.ok {
+    let Some(got) = stream::gather(stream, chunk) else {
         return fed(refuse(refusals::SETUP), 0, 0, 0);
-    }
+    };
     let image = stream::image(got);
     wire::copy(stream, 0, &image);
     let count = got.count;
@@ -200,9 +182,8 @@ pub fn feed(
 pub fn pending(stream: &[u8]) -> Answer
     ensures { result ≡ pending_answer stream.now }
 {
-    let held = stream::pending_count(stream);
-    if held == COMMAND {
-        return Answer::Refused(refusals::SETUP);
+    match stream::pending_count(stream) {
+        Some(held) => Answer::Done(held as u64),
+        None => Answer::Refused(refusals::SETUP),
     }
-    Answer::Done(held as u64)
 }

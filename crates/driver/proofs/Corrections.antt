@@ -15,7 +15,7 @@ use Rattle.chip.specs.Calls.{Called, called}
 use Rattle.chip.specs.Courses.{left_by}
 use Rattle.chip.specs.Courses.Course.{Still}
 use Rattle.chip.proofs.Laws.{and_left, and_right}
-use Rattle.reference.specs.declared.Corrected.TheVariants as corrected-variants
+use Rattle.std.specs.Prelude.{Some}
 use Rattle.reference.specs.Correct.{corrected_of}
 use Rattle.r82xx.specs.declared.Tuner.{Tuner}
 use Rattle.r82xx.specs.Record.{sound, sound_by, with_corrected}
@@ -134,19 +134,19 @@ module _ (ppm : ℤ) (t : Tuner) (d : Driver) where
 
   -- "works out both corrected references from their own nominals and sets both": done, the tuner holds its own, and the driver's is what its ppm gives
   pub both_set : (correction_call ppm t d).answer ≡ Done 0
-      → (corrected_of t.nominal ppm ≡ corrected-variants.Is (correction_call ppm t d).next.tuner.corrected)
-      × (corrected_of d.nominal ppm ≡ corrected-variants.Is (xtal_of (correction_call ppm t d).next.driver))
+      → (corrected_of t.nominal ppm ≡ Some (correction_call ppm t d).next.tuner.corrected)
+      × (corrected_of d.nominal ppm ≡ Some (xtal_of (correction_call ppm t d).next.driver))
   both_set done = go (sound t && sound_driver d) Taken refl refl
     where
       go : (w b : Bool) → (sound t && sound_driver d) ≡ w → Taken ≡ b
-          → (corrected_of t.nominal ppm ≡ corrected-variants.Is (correction_call ppm t d).next.tuner.corrected)
-          × (corrected_of d.nominal ppm ≡ corrected-variants.Is (xtal_of (correction_call ppm t d).next.driver))
+          → (corrected_of t.nominal ppm ≡ Some (correction_call ppm t d).next.tuner.corrected)
+          × (corrected_of d.nominal ppm ≡ Some (xtal_of (correction_call ppm t d).next.driver))
       go true true h k =
           let is = in_range_lem h k in (
             xtal_is t.nominal ppm (and_left (leb 1 (xtal_by t.nominal ppm)) (leb 1 (xtal_by d.nominal ppm)) k)
-                ∙ ap (λ (x : Called Both). corrected-variants.Is x.next.tuner.corrected) (sym is),
+                ∙ ap (λ (x : Called Both). Some x.next.tuner.corrected) (sym is),
             xtal_is d.nominal ppm (and_right (leb 1 (xtal_by t.nominal ppm)) (leb 1 (xtal_by d.nominal ppm)) k)
-                ∙ ap (λ (x : Called Both). corrected-variants.Is (xtal_of x.next.driver)) (sym is),
+                ∙ ap (λ (x : Called Both). Some (xtal_of x.next.driver)) (sym is),
           )
       go true false h k = let other : Refused CORRECTION ≡ Done 0 = sym (ap (λ (x : Called Both). x.answer) (out_of_range h k)) ∙ done in let never : ◌≡◌ {A = ℕ} 0 1 = cc in absurd (omega arith)
       go false b h k = let other : Refused SETUP ≡ Done 0 = sym (ap (λ (x : Called Both). x.answer) (not_sound h)) ∙ done in let never : ◌≡◌ {A = ℕ} 0 1 = cc in absurd (omega arith)

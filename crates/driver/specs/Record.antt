@@ -2,25 +2,20 @@
 -- board, nominal (1..4,294,967,295, else 1), ppm, frequency and rate, all given at its making, with 4 for a bad correction."
 -- Assumes nothing.
 use Rattle.std.specs.Prelude.{ℕ, Bool, ◌&&◌, cond, leb, ℤ, pos, Option, Some, None}
+use Rattle.std.specs.Option.{unwrap_or}
 use Rattle.board.specs.declared.Board.{Board}
 use Rattle.board.specs.declared.Board.TheVariants.{Generic}
 use Rattle.board.specs.Numbers.{board_of}
 use Rattle.refusals.specs.declared.Answer.{Answer}
 use Rattle.refusals.specs.declared.Answer.TheVariants.{Done, Refused}
 use Rattle.refusals.specs.Table.{SETUP, CORRECTION}
-use Rattle.reference.specs.declared.Corrected.{Corrected}
-use Rattle.reference.specs.declared.Corrected.TheVariants as corrected-variants
 use Rattle.reference.specs.Correct.{corrected_of}
 use Rattle.driver.specs.declared.Driver.{Driver}
 use Rattle.driver.specs.declared.Made.{Made}
 
 -- "The tuner and the driver each keep their own": the driver's corrected reference is no field, but worked out; 0 where it is out of its range
-abbrev pub xtal_value : Corrected → ℕ
-xtal_value (corrected-variants.Is v) = v
-xtal_value corrected-variants.Refused = 0
-
 unfoldable pub xtal_by : ℕ → ℤ → ℕ
-xtal_by nominal ppm = xtal_value (corrected_of nominal ppm)
+xtal_by nominal ppm = unwrap_or (corrected_of nominal ppm) 0
 
 abbrev pub xtal_of : Driver → ℕ
 xtal_of d = xtal_by d.nominal d.ppm

@@ -20,7 +20,6 @@ use board::{Board, Path};
 use chip::{Chip, Flow, Progress};
 use pll::Kind;
 use r82xx::Tuner;
-use reference::Corrected;
 use refusals::Answer;
 
 #[derive(Clone, Copy)]
@@ -65,10 +64,7 @@ const INPUT_PIN: u8 = 5;
 pub fn xtal_by(nominal: u32, ppm: i32) -> u32
     ensures { result ≡ xtal_by nominal ppm }
 {
-    let Corrected::Is(v) = reference::correct(nominal, ppm) else {
-        return 0;
-    };
-    v
+    reference::correct(nominal, ppm).unwrap_or(0)
 }
 
 fn nothing(number: u8) -> Made

@@ -67,26 +67,12 @@ pub fn tenths(db: f32) -> i32
     truncated(db * 10.0)
 }
 
-fn step(k: usize) -> u16
-    requires { k < 29 }
-    ensures { result ≡ step_at k }
-{
-    GAIN_STEPS[k]
-}
-
 // `min_by_key` over the steps: they ascend, so the nearest one's index is how many middles lie below t (on a tie t is a middle, and the lower step's).
-// A loop that only counts, with no early return, is one that the compiler can run over several entries at once.
+// To count them all, with no early return, is what the compiler can do over several entries at once.
 fn nearest_up(t: u32) -> usize
     ensures { result ≡ nearest_of (pos t) }
 {
-    let table = MIDDLES;
-    let mut n: u32 = 0;
-    let mut k: usize = 0;
-    while k < 28 {
-        n += (table[k] < t) as u32;
-        k += 1;
-    }
-    n as usize
+    MIDDLES.iter().filter(|m| **m < t).count()
 }
 
 // The Rust's difference overflows far below zero; every t below zero is nearest to step 0.
@@ -110,10 +96,7 @@ pub fn choose(db: f32) -> usize
 pub fn choose_index(k: usize) -> usize
     ensures { result ≡ clamped k }
 {
-    if k < 28 {
-        return k;
-    }
-    28
+    k.min(28)
 }
 
 // The gain in dB that a call answers and the record holds.
@@ -121,7 +104,7 @@ pub fn gain_at(k: usize) -> f32
     requires { k < 29 }
     ensures { result ≡ gain_of (step_at k) }
 {
-    (step(k) as f32) / 10.0
+    (GAIN_STEPS[k] as f32) / 10.0
 }
 
 pub fn entry_at(k: usize) -> GainEntry
@@ -131,6 +114,7 @@ pub fn entry_at(k: usize) -> GainEntry
     GAIN_TABLE[k]
 }
 
+// The steps once more: `GAIN_STEPS.map(i32::from)` was tried, and its proof did not close.
 pub fn get_gain_table() -> [i32; 29]
     ensures { result ≡ map pos steps }
 {

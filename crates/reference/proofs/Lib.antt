@@ -1,2 +1,2 @@
 pub mod Corrections
-pub mod Sign
+pub mod Wide

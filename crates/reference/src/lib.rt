@@ -3,48 +3,22 @@
 
 #![tactic(auto)]
 
-ghost use Rattle.std.specs.Prelude.{◌≡◌, pos, nat_abs};
+ghost use Rattle.std.specs.Prelude.{◌≡◌};
 ghost use Rattle.reference.specs.Correct.{accept_of, corrected_of};
 
-#[derive(Clone, Copy)]
-pub enum Corrected {
-    Is(u32),
-    Refused,
-}
-
-fn magnitude(ppm: i32) -> u64
-    ensures { result ≡ nat_abs ppm }
-{
-    let wide = ppm as i64;
-    if wide < 0 {
-        return (0 - wide) as u64;
-    }
-    wide as u64
-}
-
-fn accept(value: u64) -> Corrected
-    ensures { result ≡ accept_of (pos value) }
+fn accept(value: i64) -> Option<u32>
+    ensures { result ≡ accept_of value }
 {
     if value < 1 {
-        return Corrected::Refused;
+        return None;
     }
-    if 4_294_967_295 < value {
-        return Corrected::Refused;
-    }
-    Corrected::Is(value as u32)
+    u32::try_from(value).ok()
 }
 
-// The quotient is taken of the magnitudes, so it is cut toward zero whichever way the correction goes.
-pub fn correct(nominal: u32, ppm: i32) -> Corrected
+// None where it is out of its range. The quotient of signed numbers is cut toward zero.
+pub fn correct(nominal: u32, ppm: i32) -> Option<u32>
     ensures { result ≡ corrected_of nominal ppm }
 {
-    let wide = nominal as u64;
-    let share = wide * magnitude(ppm) / 1_000_000;
-    if ppm < 0 {
-        if wide < share {
-            return Corrected::Refused;
-        }
-        return accept(wide - share);
-    }
-    accept(wide + share)
+    let wide = i64::from(nominal);
+    accept(wide + wide * i64::from(ppm) / 1_000_000)
 }

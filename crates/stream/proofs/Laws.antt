@@ -1,5 +1,5 @@
 -- What is known of an operation's argument, and what the copies of a chunk's bytes make. Assumes nothing.
-use Prim.Native.Nat.{ℕ, zero, suc, ◌+◌, ◌-◌, ◌≤◌, ◌<◌}
+use Prim.Native.Nat.{ℕ, zero, suc, ◌+◌, ◌-◌, ◌≤◌, ◌<◌, min}
 use mathlib.Core.Path.{◌≡◌, refl, sym, ap, ap₂, ◌∙◌}
 use mathlib.Core.Bool.{Bool, true, false, cond, ◌&&◌}
 use mathlib.Core.List.{List, [], ◌∷◌, ◌++◌, append-nil}
@@ -13,12 +13,13 @@ use mir.Val.{Fits, of_z, to_z}
 use mir.Facts.{of_z-to_z}
 use lib.ListN.{length, take, drop, get_or, replicate, length-append, length-replicate, length-take, length-drop}
 use lib.Seq.{sets, sets-eq, take_all, take_at, drop-append-add, length-take-le}
+use Rattle.std.proofs.lemmas.Option.{none-some, same_Some}
 use Rattle.wire.specs.Bytes.{le_value}
 use Rattle.stream.specs.declared.Command.{Command}
-use Rattle.stream.specs.declared.Command.TheVariants.{Unknown}
+use Rattle.std.specs.Prelude.{Option, Some, None}
 use Rattle.stream.specs.declared.Gathered.{Gathered}
 use Rattle.stream.specs.Commands.{argument_of, command_of, is_known, most_for, named, operation_of}
-use Rattle.stream.specs.InCode.{gathered_of, pending_count, stream_after, not_gathered}
+use Rattle.stream.specs.InCode.{gathered_of, pending_count, stream_after}
 use Rattle.stream.specs.Pending.{gathered, is_stream, zero_padded, pending_of, used_by}
 
 pub and_left : (a b : Bool) → (a && b) ≡ true → a ≡ true
@@ -53,13 +54,13 @@ module _ (operation argument : ℕ) (h : is_known operation argument ≡ true) w
 -- ---- nine bytes
 
 module _ (nine : List ℕ) (n : ℕ) (e : n ≡ argument_of nine) where
-  pub unknown : is_known (operation_of nine) n ≡ false → Unknown ≡ command_of nine
+  pub unknown : is_known (operation_of nine) n ≡ false → None ≡ command_of nine
   unfolding command_of
   unknown h = rw (← e, h)
 
-  pub known : (c : Command) → is_known (operation_of nine) n ≡ true → c ≡ named (operation_of nine) n → c ≡ command_of nine
+  pub known : (c : Command) → is_known (operation_of nine) n ≡ true → c ≡ named (operation_of nine) n → Some c ≡ command_of nine
   unfolding command_of
-  known c h q = q ∙ rw (← e, h)
+  known c h q = ap Some q ∙ rw (← e, h)
 
 -- ---- the stream's bytes
 
@@ -67,11 +68,11 @@ module _ (b : List ℕ) where
   abbrev rest : ℕ
   rest = le_value (drop (1 + get_or b 0 0) b)
 
-  pub other_length : (length b ≡ 9 → ⊥) → 9 ≡ pending_count b
+  pub other_length : (length b ≡ 9 → ⊥) → None ≡ pending_count b
   unfolding pending_count is_stream
   other_length h = rw (ne_eqb (length b) 9 h)
 
-  pub too_many : length b ≡ 9 → 8 < get_or b 0 0 → 9 ≡ pending_count b
+  pub too_many : length b ≡ 9 → 8 < get_or b 0 0 → None ≡ pending_count b
   unfolding pending_count is_stream
   too_many e h = rw (eq-eqb (length b) 9 e, lt-leb (get_or b 0 0) 8 h)
 
@@ -79,11 +80,11 @@ module _ (b : List ℕ) where
   pub whole_rest : (n : ℕ) → length b ≡ 9 → n ≡ le_value (take (8 - get_or b 0 0) (drop (1 + get_or b 0 0) b)) → n ≡ rest
   whole_rest n e r = r ∙ ap le_value (take_all (8 - get_or b 0 0) (drop (1 + get_or b 0 0) b) (simp length-drop (omega arith)))
 
-  pub not_zeros : (n : ℕ) → length b ≡ 9 → get_or b 0 0 ≤ 8 → n ≡ rest → (n ≡ 0 → ⊥) → 9 ≡ pending_count b
+  pub not_zeros : (n : ℕ) → length b ≡ 9 → get_or b 0 0 ≤ 8 → n ≡ rest → (n ≡ 0 → ⊥) → None ≡ pending_count b
   unfolding pending_count is_stream
   not_zeros n e h r z = rw (eq-eqb (length b) 9 e, le-leb (get_or b 0 0) 8 h, ne_eqb rest 0 (λ q. z (r ∙ q)))
 
-  pub zeros : (n : ℕ) → length b ≡ 9 → get_or b 0 0 ≤ 8 → n ≡ rest → n ≡ 0 → get_or b 0 0 ≡ pending_count b
+  pub zeros : (n : ℕ) → length b ≡ 9 → get_or b 0 0 ≤ 8 → n ≡ rest → n ≡ 0 → Some (get_or b 0 0) ≡ pending_count b
   unfolding pending_count is_stream
   zeros n e h r z = rw (eq-eqb (length b) 9 e, le-leb (get_or b 0 0) 8 h, eq-eqb rest 0 (sym r ∙ z))
 
@@ -100,21 +101,21 @@ module _ (b : List ℕ) where
   unfolding is_stream
   stream_rest h = eqb-true _ _ (and_right (leb (get_or b 0 0) 8) _ (and_right (eqb (length b) 9) _ h))
 
-  -- it is one where fewer than nine are pending
-  pub is_one : (h : ℕ) → h ≡ pending_count b → (h ≡ 9 → ⊥) → (is_stream b ≡ true) × (h ≡ get_or b 0 0)
+  -- it is one where there is a count, which is at most eight
+  pub is_one : (h : ℕ) → Some h ≡ pending_count b → (is_stream b ≡ true) × (h ≡ get_or b 0 0)
   unfolding pending_count
-  is_one h e n = go (is_stream b) refl
+  is_one h e = go (is_stream b) refl
     where
       go : (t : Bool) → is_stream b ≡ t → (is_stream b ≡ true) × (h ≡ get_or b 0 0)
-      go true q = (q, e ∙ rw q)
-      go false q = absurd (n (e ∙ rw q))
+      go true q = (q, same_Some _ _ (e ∙ rw q))
+      go false q = absurd (none-some h (sym (e ∙ rw q)))
 
-  pub is_none : (h : ℕ) → h ≡ pending_count b → h ≡ 9 → is_stream b ≡ false
+  pub no_stream : None ≡ pending_count b → is_stream b ≡ false
   unfolding pending_count
-  is_none h e n = go (is_stream b) refl
+  no_stream e = go (is_stream b) refl
     where
       go : (t : Bool) → is_stream b ≡ t → is_stream b ≡ false
-      go true q = absurd (let k : get_or b 0 0 ≡ 9 = sym (rw q at e) ∙ n in omega (arith, stream_held q))
+      go true q = absurd (none-some (get_or b 0 0) (e ∙ rw q))
       go false q = q
 
 -- ---- a chunk's bytes behind the pending ones
@@ -139,40 +140,40 @@ copied p q h =
     ∙ ap₂ (λ (x y : List ℕ). (x ++ q) ++ y) (take_at p (replicate (9 - length p) 0) (length p) refl)
     (drop-append-add p (replicate (9 - length p) 0) (length q) ∙ drop_zeros (length q) (9 - length p) ∙ ap (λ (n : ℕ). replicate n 0) less)
 
-module _ (b chunk : List ℕ) (h : ℕ) (e : h ≡ pending_count b) where
-  pub none_gathered : h ≡ 9 → not_gathered ≡ gathered_of b chunk
+module _ (b chunk : List ℕ) where
+  pub none_gathered : None ≡ pending_count b → None ≡ gathered_of b chunk
   unfolding gathered_of
-  none_gathered n = rw (is_none b h e n)
+  none_gathered e = rw (no_stream b e)
 
-  module _ (n : h ≡ 9 → ⊥) where
+  module _ (h : ℕ) (e : Some h ≡ pending_count b) where
     pub at_most_eight : h ≤ 8
-    at_most_eight = omega (arith, stream_held b (is_one b h e n).0, (is_one b h e n).1)
+    at_most_eight = omega (arith, stream_held b (is_one b h e).0, (is_one b h e).1)
 
     pub nine_bytes : length b ≡ 9
-    nine_bytes = stream_length b (is_one b h e n).0
+    nine_bytes = stream_length b (is_one b h e).0
 
     pub pending_length : length (pending_of b) ≡ h
-    pending_length = simp (length-take, length-drop) (omega (arith, at_most_eight, nine_bytes, (is_one b h e n).1))
+    pending_length = simp (length-take, length-drop) (omega (arith, at_most_eight, nine_bytes, (is_one b h e).1))
 
-    module _ (u : ℕ) (f : u ≡ cond (leb (9 - h) (length chunk)) (9 - h) (length chunk)) where
+    module _ (u : ℕ) (f : u ≡ min (length chunk) (9 - h)) where
       pub used_bounds : (u ≤ length chunk) × (h + u ≤ 9)
-      used_bounds = go (leb (9 - h) (length chunk)) refl
-        where
-          go : (t : Bool) → leb (9 - h) (length chunk) ≡ t → (u ≤ length chunk) × (h + u ≤ 9)
-          go true q = let v : u ≡ 9 - h = f ∙ rw q in (omega (arith, leb-true (9 - h) (length chunk) q, v), omega (arith, at_most_eight, v))
-          go false q = let v : u ≡ length chunk = f ∙ rw q in (omega (arith, v), omega (arith, leb-false (9 - h) (length chunk) q, v))
+      used_bounds = (omega (arith, f), omega (arith, f, at_most_eight))
 
       pub used_is : u ≡ used_by (pending_of b) chunk
-      used_is = f ∙ rw (← pending_length)
+      used_is = go (leb (9 - h) (length chunk)) refl ∙ rw (← pending_length)
+        where
+          go : (t : Bool) → leb (9 - h) (length chunk) ≡ t → u ≡ cond (leb (9 - h) (length chunk)) (9 - h) (length chunk)
+          go true q = rw q (omega (arith, f, leb-true (9 - h) (length chunk) q))
+          go false q = rw q (omega (arith, f, leb-false (9 - h) (length chunk) q))
 
       pub part_length : length (take u chunk) ≡ u
       part_length = length-take-le u chunk used_bounds.0
 
       pub all_gathered : (x y : List ℕ) → x ≡ sets (replicate 9 0) 0 (take (1 + h - 1) (drop 1 b)) → y ≡ sets x h (take (u - 0) chunk)
-          → record { ok = true; used = u; count = h + u; bytes = y } ≡ gathered_of b chunk
+          → Some (record { used = u; count = h + u; bytes = y }) ≡ gathered_of b chunk
       unfolding gathered_of
       all_gathered x y ex ey =
-          let held : 1 + h - 1 ≡ get_or b 0 0 = omega (arith, (is_one b h e n).1) in
+          let held : 1 + h - 1 ≡ get_or b 0 0 = omega (arith, (is_one b h e).1) in
           let whole : u - 0 ≡ u = omega arith in
           let p : take (1 + h - 1) (drop 1 b) ≡ pending_of b = ap (λ (k : ℕ). take k (drop 1 b)) held in
           let small : length (pending_of b) + length (take u chunk) ≤ 9 = omega (arith, pending_length, part_length, used_bounds.1) in
@@ -185,10 +186,10 @@ module _ (b chunk : List ℕ) (h : ℕ) (e : h ≡ pending_count b) where
           ∙ ap (λ (k : ℕ). zero_padded 9 (pending_of b ++ take k chunk)) used_is in
           let count : h + u ≡ length (gathered (pending_of b) chunk) =
           omega (arith, pending_length, part_length) ∙ sym (length-append (pending_of b) (take u chunk)) ∙ ap (λ (k : ℕ). length (pending_of b ++ take k chunk)) used_is in
-          rw (is_one b h e n).0 (gathered_same used_is count bytes)
+          rw (is_one b h e).0 (ap Some (gathered_same used_is count bytes))
         where
           gathered_same : {u' k k' : ℕ} {z z' : List ℕ} → u ≡ u' → k ≡ k' → z ≡ z'
-              → ◌≡◌ {A = Gathered} (record { ok = true; used = u; count = k; bytes = z }) (record { ok = true; used = u'; count = k'; bytes = z' })
+              → ◌≡◌ {A = Gathered} (record { used = u; count = k; bytes = z }) (record { used = u'; count = k'; bytes = z' })
           gathered_same a b c = cc
 
 -- a number that an enum holds by its bits

@@ -8,7 +8,8 @@ use lib.Ieee.{binary32, of_bits}
 use lib.IntN.{negsuc}
 use lib.ListN.{replicate}
 use Rattle.wire.specs.Bytes.{le_value}
-use Rattle.stream.specs.declared.Command.TheVariants.{Frequency, Rate, GainDb, GainIndex, Bandwidth, Correction, Reload, Unknown}
+use Rattle.std.specs.Prelude.{Some, None}
+use Rattle.stream.specs.declared.Command.TheVariants.{Frequency, Rate, GainDb, GainIndex, Bandwidth, Correction, Reload}
 use Rattle.stream.specs.Commands.{command_of}
 use Rattle.stream.specs.Pending.{gathered, is_stream, pending_of, stream_bytes, used_by}
 
@@ -17,60 +18,60 @@ abbrev nine : ℕ → List ℕ → ℕ → List ℕ
 nine operation bytes rest = operation ∷ (bytes ++ replicate rest 0)
 
 -- 102,300,000 Hz is 0x0618f960
-pub frequency : command_of (nine 1 (0x60 ∷ 0xf9 ∷ 0x18 ∷ 0x06 ∷ []) 4) ≡ Frequency 102_300_000
+pub frequency : command_of (nine 1 (0x60 ∷ 0xf9 ∷ 0x18 ∷ 0x06 ∷ []) 4) ≡ Some (Frequency 102_300_000)
 unfolding command_of le_value
 frequency = refl
 
 -- "1 frequency (u64)": all eight bytes count
-pub high_frequency : command_of (nine 1 (0 ∷ 0 ∷ 0 ∷ 0 ∷ 1 ∷ []) 3) ≡ Frequency 4_294_967_296
+pub high_frequency : command_of (nine 1 (0 ∷ 0 ∷ 0 ∷ 0 ∷ 1 ∷ []) 3) ≡ Some (Frequency 4_294_967_296)
 unfolding command_of le_value
 high_frequency = refl
 
 -- 2,048,000 is 0x001f4000
-pub rate : command_of (nine 2 (0x00 ∷ 0x40 ∷ 0x1f ∷ 0x00 ∷ []) 4) ≡ Rate 2_048_000
+pub rate : command_of (nine 2 (0x00 ∷ 0x40 ∷ 0x1f ∷ 0x00 ∷ []) 4) ≡ Some (Rate 2_048_000)
 unfolding command_of le_value
 rate = refl
 
 -- 14.4 dB is 0x41666666
-pub gain : command_of (nine 3 (0x66 ∷ 0x66 ∷ 0x66 ∷ 0x41 ∷ []) 4) ≡ GainDb (of_bits binary32 0x4166_6666)
+pub gain : command_of (nine 3 (0x66 ∷ 0x66 ∷ 0x66 ∷ 0x41 ∷ []) 4) ≡ Some (GainDb (of_bits binary32 0x4166_6666))
 unfolding command_of le_value
 gain = refl
 
-pub index : command_of (nine 4 (14 ∷ []) 7) ≡ GainIndex 14
+pub index : command_of (nine 4 (14 ∷ []) 7) ≡ Some (GainIndex 14)
 unfolding command_of le_value
 index = refl
 
-pub bandwidth : command_of (nine 5 (0x80 ∷ 0x8d ∷ 0x5b ∷ 0x00 ∷ []) 4) ≡ Bandwidth 6_000_000
+pub bandwidth : command_of (nine 5 (0x80 ∷ 0x8d ∷ 0x5b ∷ 0x00 ∷ []) 4) ≡ Some (Bandwidth 6_000_000)
 unfolding command_of le_value
 bandwidth = refl
 
 -- -25 ppm is 0xffffffe7
-pub correction : command_of (nine 6 (0xe7 ∷ 0xff ∷ 0xff ∷ 0xff ∷ []) 4) ≡ Correction (negsuc 24)
+pub correction : command_of (nine 6 (0xe7 ∷ 0xff ∷ 0xff ∷ 0xff ∷ []) 4) ≡ Some (Correction (negsuc 24))
 unfolding command_of le_value
 correction = refl
 
-pub reload : command_of (nine 7 [] 8) ≡ Reload
+pub reload : command_of (nine 7 [] 8) ≡ Some Reload
 unfolding command_of le_value
 reload = refl
 
 -- "new 14 command, for an unknown operation or nonzero unused bytes"
-pub no_operation : command_of (nine 0 [] 8) ≡ Unknown
+pub no_operation : command_of (nine 0 [] 8) ≡ None
 unfolding command_of le_value
 no_operation = refl
 
-pub eighth_operation : command_of (nine 8 [] 8) ≡ Unknown
+pub eighth_operation : command_of (nine 8 [] 8) ≡ None
 unfolding command_of le_value
 eighth_operation = refl
 
-pub rate_too_wide : command_of (nine 2 (0 ∷ 0 ∷ 0 ∷ 0 ∷ 1 ∷ []) 3) ≡ Unknown
+pub rate_too_wide : command_of (nine 2 (0 ∷ 0 ∷ 0 ∷ 0 ∷ 1 ∷ []) 3) ≡ None
 unfolding command_of le_value
 rate_too_wide = refl
 
-pub index_too_wide : command_of (nine 4 (14 ∷ 1 ∷ []) 6) ≡ Unknown
+pub index_too_wide : command_of (nine 4 (14 ∷ 1 ∷ []) 6) ≡ None
 unfolding command_of le_value
 index_too_wide = refl
 
-pub reload_with_one : command_of (nine 7 (1 ∷ []) 7) ≡ Unknown
+pub reload_with_one : command_of (nine 7 (1 ∷ []) 7) ≡ None
 unfolding command_of le_value
 reload_with_one = refl
 

@@ -1,14 +1,14 @@
 -- What nine bytes ask for. Document 02, #105: "A command is one operation byte and eight argument bytes, low byte first: 1 frequency (u64), 2 rate (u32), 3
 -- gain in dB (binary32 bits), 4 gain index (u8), 5 bandwidth (u32), 6 the tuner's correction (i32), 7 reload (0); unused high bytes are zero."
 -- Assumes nothing.
-use Rattle.std.specs.Prelude.{ℕ, Bool, ◌&&◌, cond, List, eqb, leb, drop, get_or, take}
+use Rattle.std.specs.Prelude.{ℕ, Bool, ◌&&◌, cond, List, eqb, leb, drop, get_or, take, Option, Some, None}
 use Rattle.std.specs.Float.{binary32}
 use Rattle.std.specs.Float.Ieee.{of_bits}
 use Rattle.std.specs.Int.{w32}
 use Rattle.std.proofs.Common.{to_z}
 use Rattle.wire.specs.Bytes.{le_value}
 use Rattle.stream.specs.declared.Command.{Command}
-use Rattle.stream.specs.declared.Command.TheVariants.{Frequency, Rate, GainDb, GainIndex, Bandwidth, Correction, Reload, Unknown}
+use Rattle.stream.specs.declared.Command.TheVariants.{Frequency, Rate, GainDb, GainIndex, Bandwidth, Correction, Reload}
 
 abbrev pub operation_of : List ℕ → ℕ
 operation_of nine = get_or nine 0 0
@@ -40,5 +40,5 @@ named operation argument =
     (cond (eqb operation 5) (Bandwidth argument)
     (cond (eqb operation 6) (Correction (to_z w32 argument)) Reload)))))
 
-unfoldable pub command_of : List ℕ → Command
-command_of nine = cond (is_known (operation_of nine) (argument_of nine)) (named (operation_of nine) (argument_of nine)) Unknown
+unfoldable pub command_of : List ℕ → Option Command
+command_of nine = cond (is_known (operation_of nine) (argument_of nine)) (Some (named (operation_of nine) (argument_of nine))) None

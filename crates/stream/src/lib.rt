@@ -3,7 +3,7 @@
 
 #![tactic(auto)]
 
-ghost use Rattle.std.specs.Prelude.{◌≡◌, true, cond, leb, ◌≤◌, length};
+ghost use Rattle.std.specs.Prelude.{◌≡◌, true, ◌≤◌, length};
 ghost use Rattle.stream.specs.Commands.{command_of, is_known, most_for, named};
 ghost use Rattle.stream.specs.InCode.{gathered_of, pending_count, stream_after};
 
@@ -22,14 +22,11 @@ pub enum Command {
     Bandwidth(u32),
     Correction(i32),
     Reload,
-    Unknown,
 }
 
-// What was taken of a chunk: nothing where the stream's bytes are not valid; else how much of it, and the bytes that there are now of the command that is waited
-// for, zeros after them. With nine it is whole.
+// What was taken of a chunk: how much of it, and the bytes that there are now of the command that is waited for, zeros after them. With nine it is whole.
 #[derive(Clone, Copy)]
 pub struct Gathered {
-    pub ok: bool,
     pub used: usize,
     pub count: usize,
     pub bytes: [u8; 9],
@@ -72,75 +69,52 @@ fn named_low(operation: u8, argument: u32) -> Command
     }
 }
 
-pub fn command_of(bytes: &[u8; 9]) -> Command
+// None for an unknown operation, and where unused bytes are not zero.
+pub fn command_of(bytes: &[u8; 9]) -> Option<Command>
     ensures { result ≡ command_of bytes.now }
 {
     let argument = wire::eight(bytes, 1);
     let operation = bytes[0];
     if !is_known(operation, argument) {
-        return Command::Unknown;
+        return None;
     }
     if operation == 1 {
-        return Command::Frequency(argument);
+        return Some(Command::Frequency(argument));
     }
-    named_low(operation, argument as u32)
+    Some(named_low(operation, argument as u32))
 }
 
-fn wide(x: u8) -> usize
-    ensures { result ≡ x }
-{
-    x as usize
-}
-
-// How many bytes are pending, 9 where the bytes are not those of a stream: those after the pending ones are zero, read as one number.
-pub fn pending_count(s: &[u8]) -> usize
+// How many bytes are pending, None where the bytes are not those of a stream: those after the pending ones are zero, read as one number.
+pub fn pending_count(s: &[u8]) -> Option<usize>
     ensures { result ≡ pending_count s.now }
 {
     if s.len() != STREAM {
-        return COMMAND;
+        return None;
     }
-    let held = wide(s[0]);
+    let held = s[0] as usize;
     if 8 < held {
-        return COMMAND;
+        return None;
     }
     if wire::get(s, 1 + held, 8 - held) != 0 {
-        return COMMAND;
+        return None;
     }
-    held
+    Some(held)
 }
 
-fn least(a: usize, b: usize) -> usize
-    ensures { result ≡ cond (leb a b) a b }
-{
-    if a <= b {
-        return a;
-    }
-    b
-}
-
-// The pending bytes with those of a chunk, up to the command's ninth.
-pub fn gather(stream: &[u8], chunk: &[u8]) -> Gathered
+// The pending bytes with those of a chunk, up to the command's ninth. None where the stream's bytes are not valid.
+pub fn gather(stream: &[u8], chunk: &[u8]) -> Option<Gathered>
     ensures { result ≡ gathered_of stream.now chunk.now }
 {
+    let held = pending_count(stream)?;
+    let used = chunk.len().min(COMMAND - held);
     let mut bytes = [0u8; 9];
-    let held = pending_count(stream);
-    if held == COMMAND {
-        return Gathered {
-            ok: false,
-            used: 0,
-            count: 0,
-            bytes: bytes,
-        };
-    }
-    let used = least(COMMAND - held, chunk.len());
     wire::copy(&mut bytes, 0, &stream[1..1 + held]);
     wire::copy(&mut bytes, held, &chunk[0..used]);
-    Gathered {
-        ok: true,
-        used: used,
+    Some(Gathered {
+        used,
         count: held + used,
-        bytes: bytes,
-    }
+        bytes,
+    })
 }
 
 // The stream's bytes after that: nothing waits where the command is whole.

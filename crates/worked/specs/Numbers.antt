@@ -14,7 +14,6 @@ use Rattle.pll.specs.declared.Kind.TheVariants.{R820T, R828D}
 use Rattle.pll.specs.declared.Plan.{Plan}
 use Rattle.pll.specs.Plan.{whole_of, plan_of}
 use Rattle.pll.specs.Setting.{setting_of}
-use Rattle.reference.specs.declared.Corrected.TheVariants as reference
 use Rattle.reference.specs.Correct.{corrected_of}
 use Rattle.registers.specs.Rates.{if_value_of, if_regs_of, ratio_of, rate_number, sent_of, three_of, true_of}
 
@@ -55,8 +54,8 @@ pub record Worked : Type 0 where
   pub least_whole : (kind : Kind) → whole_in (plan_of kind 885_000_000 68_076_923) ≡ 13
   pub below_least : (kind : Kind) → plan_of kind 885_000_000 68_076_924 ≡ None
   -- 28,800,000 at -1 ppm: 28,799,972; at -1,000,000: refused
-  pub minus_one : corrected_of 28_800_000 (neg_ℤ (pos 1)) ≡ reference.Is 28_799_972
-  pub minus_all : corrected_of 28_800_000 (neg_ℤ (pos 1_000_000)) ≡ reference.Refused
+  pub minus_one : corrected_of 28_800_000 (neg_ℤ (pos 1)) ≡ Some 28_799_972
+  pub minus_all : corrected_of 28_800_000 (neg_ℤ (pos 1_000_000)) ≡ None
   -- 3.2 dB: index 3, 2.7 (both by their binary32 bits). NaN: index 0
   pub three_two : chosen_of (of_bits binary32 0x404c_cccd) ≡ 3
   pub two_seven : to_bits binary32 (gain_of (step_at 3)) ≡ 0x402c_cccd

@@ -1,12 +1,9 @@
+-- `commands::pending` meets its contract. Assumes nothing.
 use Rattle.commands.proofs.Overs.{none_pending, some_pending}
 use Rattle.commands.proofs.pending.Goals as goal
 
--- src/lib.rt:272:9
-pub returns-then-held-eq-COMMAND : goal.returns-then-held-eq-COMMAND
-returns-then-held-eq-COMMAND c =
-    none_pending c.args.stream.now _ c.pending_count-held.ensures c.if-held-eq-COMMAND.true
+pub returns-in-Some : goal.returns-in-Some
+returns-in-Some c = some_pending c.args.stream.now _ c.in-Some.ensures
 
--- src/lib.rt:267:1
-pub returns : goal.returns
-returns c =
-    some_pending c.args.stream.now _ c.pending_count-held.ensures c.if-held-eq-COMMAND.false
+pub returns-in-None : goal.returns-in-None
+returns-in-None c = none_pending c.args.stream.now c.in-None.ensures

@@ -7,70 +7,33 @@ use lib.Seq.{length-sets}
 use Rattle.stream.proofs.Laws.{all_gathered, at_most_eight, nine_bytes, none_gathered, part_length, used_bounds}
 use Rattle.stream.proofs.gather.Goals as goal
 
-pub returns-then-held-eq-COMMAND : goal.returns-then-held-eq-COMMAND
-returns-then-held-eq-COMMAND c =
-    let args = c.args in
-    none_gathered args.stream.now args.chunk.now _ c.pending_count-held.ensures c.if-held-eq-COMMAND.true
+pub returns-in_err-held : goal.returns-in_err-held
+returns-in_err-held c = c.from_residual.ensures ∙ none_gathered c.args.stream.now c.args.chunk.now c.in_err-held.ensures
 
 pub overflow_sub-held : goal.overflow_sub-held
-overflow_sub-held c =
-    let pending-count = c.pending_count-held in
-    let args = c.args in
-    let h : pending-count.result ≤ 8 = at_most_eight args.stream.now args.chunk.now _ pending-count.ensures c.if-held-eq-COMMAND.false in
-    omega arith
+overflow_sub-held c = omega (arith, at_most_eight c.args.stream.now c.args.chunk.now _ c.in_ok-held.ensures)
 
 pub overflow_add-held : goal.overflow_add-held
-overflow_add-held c =
-    let pending-count = c.pending_count-held in
-    let args = c.args in
-    let h : pending-count.result ≤ 8 = at_most_eight args.stream.now args.chunk.now _ pending-count.ensures c.if-held-eq-COMMAND.false in
-    omega arith
+overflow_add-held c = omega (arith, at_most_eight c.args.stream.now c.args.chunk.now _ c.in_ok-held.ensures)
 
 pub slice_bounds-copy-end-2 : goal.slice_bounds-copy-end-2
 slice_bounds-copy-end-2 c =
-    let if1 = c.if-held-eq-COMMAND in
-    let pending-count = c.pending_count-held in
-    let args = c.args in
-    let b = args.stream.now in
-    let chunk = args.chunk.now in
-    let h : pending-count.result ≤ 8 = at_most_eight b chunk _ pending-count.ensures if1.false in
-    let n : length b ≡ 9 = nine_bytes b chunk _ pending-count.ensures if1.false in
-    omega arith
+    let b = c.args.stream.now in
+    let chunk = c.args.chunk.now in
+    omega (arith, at_most_eight b chunk _ c.in_ok-held.ensures, nine_bytes b chunk _ c.in_ok-held.ensures)
 
 pub copy-requires : goal.copy-requires
-copy-requires c =
-    let pending-count = c.pending_count-held in
-    let args = c.args in
-    let h : pending-count.result ≤ 8 = at_most_eight args.stream.now args.chunk.now _ pending-count.ensures c.if-held-eq-COMMAND.false in
-    simp length-take (omega arith)
+copy-requires c = simp length-take (omega (arith, at_most_eight c.args.stream.now c.args.chunk.now _ c.in_ok-held.ensures))
 
 pub copy-requires-2 : goal.copy-requires-2
 copy-requires-2 c =
-    let copy = c.copy in
-    let least = c.least-used in
-    let if1 = c.if-held-eq-COMMAND in
-    let pending-count = c.pending_count-held in
-    let args = c.args in
-    let b = args.stream.now in
-    let chunk = args.chunk.now in
-    let u : pending-count.result + least.result ≤ 9 = (used_bounds b chunk _ pending-count.ensures if1.false _ least.ensures).1 in
-    let k : length (take least.result chunk) ≡ least.result = part_length b chunk _ pending-count.ensures if1.false _ least.ensures in
-    let n : length copy.new.dst ≡ 9 = ap length copy.ensures ∙ simp length-sets in
-    omega arith
-
-pub overflow_add-result : goal.overflow_add-result
-overflow_add-result c =
-    let least = c.least-used in
-    let pending-count = c.pending_count-held in
-    let args = c.args in
-    let u : pending-count.result + least.result ≤ 9 =
-    (used_bounds args.stream.now args.chunk.now _ pending-count.ensures c.if-held-eq-COMMAND.false _ least.ensures).1 in
+    let b = c.args.stream.now in
+    let chunk = c.args.chunk.now in
+    let read = c.in_ok-held.ensures in
+    let u : c.in_ok-held.held + c.min-used.result ≤ 9 = (used_bounds b chunk _ read _ c.min-used.ensures).1 in
+    let k : length (take c.min-used.result chunk) ≡ c.min-used.result = part_length b chunk _ read _ c.min-used.ensures in
+    let n : length c.copy.new.dst ≡ 9 = ap length c.copy.ensures ∙ simp length-sets in
     omega arith
 
 pub returns : goal.returns
-returns c =
-    let args = c.args in
-    let b = args.stream.now in
-    let chunk = args.chunk.now in
-    all_gathered b chunk _ c.pending_count-held.ensures c.if-held-eq-COMMAND.false _ c.least-used.ensures _ _ c.copy.ensures
-    c.copy-2.ensures
+returns c = all_gathered c.args.stream.now c.args.chunk.now _ c.in_ok-held.ensures _ c.min-used.ensures _ _ c.copy.ensures c.copy-2.ensures

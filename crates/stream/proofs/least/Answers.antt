@@ -1,9 +1,0 @@
--- `stream::least` meets its contract: each return rewrites with the test that led there. Assumes nothing.
-use borrow.Author.Tests.{le-leb, lt-leb}
-use Rattle.stream.proofs.least.Goals as goal
-
-pub returns-then-a-b : goal.returns-then-a-b
-returns-then-a-b c = simp (le-leb _ _ c.if-a-b.true)
-
-pub returns : goal.returns
-returns c = simp (lt-leb _ _ c.if-a-b.false)
