@@ -10,7 +10,6 @@ ghost use Rattle.std.specs.Float.Ieee.{to_bits};
 ghost use Rattle.chip.specs.Calls.{called, performed, lock_tries_in};
 ghost use Rattle.refusals.specs.declared.Answer.TheVariants.{Done, Refused};
 ghost use Rattle.chip.specs.Entries.{lock_tries};
-ghost use Rattle.chip.specs.InCode.{meant_of};
 ghost use Rattle.chip.specs.Steps.{all_in, goes, trace};
 ghost use Rattle.chip.specs.Courses.{left_by};
 ghost use Rattle.tuning.specs.Program.{divider_number, tune_answer};
@@ -21,7 +20,7 @@ ghost use Rattle.r82xx.specs.Orders.{bracket, lock_kept, quietly, result_of, loc
 ghost use Rattle.r82xx.specs.Orders.Order.{Initialize, Reload, Bandwidth, IfFreq, Gain, GainIndex, InputPath, Tune, Notch, GainTold, IfTold};
 
 use board::PathRead;
-use chip::{Chip, Flow, Progress, Updates};
+use chip::{Chip, Flow, Progress, Update};
 use pll::{Kind, Pll};
 use refusals::Answer;
 use tuning::Tuning;
@@ -210,12 +209,18 @@ impl Tuner {
     }
 
     // A call of one bracket of masked writes: the record is `next` after them, done or not, with the chip's part as they left it.
-    fn operate(self, mut next: Tuner, us: Updates, outcomes: &[u8], room: &mut [u8]) -> TunerResult
-        requires { (us.n ≤ 14) × (all_in (meant_of us) ≡ true) }
+    fn operate(
+        self,
+        mut next: Tuner,
+        us: &[Update],
+        outcomes: &[u8],
+        room: &mut [u8],
+    ) -> TunerResult
+        requires { (length us.now ≤ 14) × (all_in us.now ≡ true) }
         ensures { called result.tuner room.new result.count result.answer
-            ≡ left_by (sound self) (bracket us.n (meant_of us) (Done 0) next next) outcomes.now self.chip self room.old }
+            ≡ left_by (sound self) (bracket (length us.now) us.now (Done 0) next next) outcomes.now self.chip self room.old }
     {
-        let number = self.refusal(0, us.n + 2, 0, room.len(), outcomes.len(), 0);
+        let number = self.refusal(0, us.len() + 2, 0, room.len(), outcomes.len(), 0);
         if number != 0 {
             return refused(self, number);
         }
@@ -240,7 +245,7 @@ impl Tuner {
             ≡ result_of (Bandwidth hz) outcomes.now self room.old }
     {
         let us = writes::bandwidth_updates(hz);
-        let told = self.operate(self, us, outcomes, room);
+        let told = self.operate(self, &us, outcomes, room);
         let answer = told.answer;
         self = told.tuner;
         TunerResult {
@@ -258,7 +263,7 @@ impl Tuner {
         let us = writes::if_updates(hz);
         let old = self;
         self.ifreq = hz;
-        old.operate(self, us, outcomes, room)
+        old.operate(self, &us, outcomes, room)
     }
 
     // The gain changes only when all writes are done.
@@ -328,7 +333,7 @@ impl Tuner {
                 count: 0,
             },
             Kind::R828D => {
-                let told = self.operate(self, writes::path_updates(by), outcomes, room);
+                let told = self.operate(self, &writes::path_updates(by), outcomes, room);
                 let answer = told.answer;
                 self = told.tuner;
                 TunerResult {
