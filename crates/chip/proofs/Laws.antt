@@ -141,12 +141,34 @@ module _ {L : Type 0} (put : L → ℕ → Entry → L) (os : List ℕ) where
   inner_acts (Mask r v m) progress opened i h = h
   inner_acts (Plain e) progress opened i h = h
 
+  only_close : (s : Step) → inner s ≡ false → s ≡ Close
+  only_close Open h = cc
+  only_close Close h = refl
+  only_close (Send n bytes) h = cc
+  only_close (Mask r v m) h = cc
+  only_close (Plain e) h = cc
+
   pub idle_run : (ss : List Step) (w : Line L) → every inner ss ≡ true → goes w.progress ≡ false → w ≡ run put os ss w
   unfolding run every
   idle_run [] w i h = refl
   idle_run (s ∷ ss) w i h =
       let same : w ≡ step put os s w = idle s w (inner_acts s w.progress w.opened (and_left (inner s) (every inner ss) i) h) in
       idle_run ss w (and_right (inner s) (every inner ss) i) h ∙ ap (run put os ss) same
+
+  -- of a line that came stopped a closing alone is taken, wherever it stands
+  pub stopped_run : (ss : List Step) (x : Line L) → goes x.progress ≡ false → step put os Close (run put os ss x) ≡ step put os Close x
+  unfolding run
+  stopped_run [] x h = refl
+  stopped_run (s ∷ ss) x h = go (inner s) refl (stopped_run ss)
+    where
+      go : (b : Bool) → inner s ≡ b → ((y : Line L) → goes y.progress ≡ false → step put os Close (run put os ss y) ≡ step put os Close y)
+          → step put os Close (run put os ss (step put os s x)) ≡ step put os Close x
+      go true i rest =
+          ap (λ (w : Line L). step put os Close (run put os ss w)) (sym (idle s x (inner_acts s x.progress x.opened i h))) ∙ rest x h
+      go false i rest =
+          ap (λ (t : Step). step put os Close (run put os ss (step put os t x))) (only_close s i)
+          ∙ rest (step put os Close x) (ap goes (close_progress x) ∙ h)
+          ∙ close_close x
 
   -- a failing step, or a line that came stopped: what is left of the program is not taken, and the repeater is closed
   pub stop : (rest : List Step) (x y : Line L) → goes x.progress ≡ false → every inner rest ≡ true → run put os rest x ≡ y → step put os Close x ≡ closing put os y
@@ -165,6 +187,11 @@ module _ {L : Type 0} (put : L → ℕ → Entry → L) (os : List ℕ) where
 
   pub ended_here : (s : Step) (w x y : Line L) → x ≡ step put os s w → y ≡ closing put os x → y ≡ closing put os (run put os (s ∷ []) w)
   ended_here s w x y p q = q ∙ ap (closing put os) (one_last s w x p)
+
+  -- a part without steps: nothing is left but its end
+  pub ended : (w y : Line L) → y ≡ closing put os w → y ≡ closing put os (run put os [] w)
+  unfolding run
+  ended w y e = e
 
   -- a program that went through
   pub keep : (x y : Line L) → x ≡ y → goes x.progress ≡ true → x ≡ closing put os y
@@ -201,10 +228,10 @@ module _ {L : Type 0} (put : L → ℕ → Entry → L) (os : List ℕ) where
   bracketed ss w x y p q = ap (step put os Close) q ∙ ap (λ (v : Line L). step put os Close (closing put os (run put os ss v))) p ∙ bracket ss w
 
   -- a bracket whose opening failed, or that came stopped: nothing of it is taken but the closing of what is open
-  pub unopened : (ss : List Step) (w x y : Line L) → x ≡ step put os Open w → goes x.progress ≡ false → every inner ss ≡ true
+  pub unopened : (ss : List Step) (w x y : Line L) → x ≡ step put os Open w → goes x.progress ≡ false
       → y ≡ step put os Close x → y ≡ run put os (Open ∷ (ss ++ (Close ∷ []))) w
-  unopened ss w x y p h i q =
-      q ∙ ap (step put os Close) (idle_run ss x i h) ∙ sym (close_closing (run put os ss x)) ∙ bracketed ss w x (closing put os (run put os ss x)) p refl
+  unopened ss w x y p h q =
+      q ∙ sym (stopped_run ss x h) ∙ sym (close_closing (run put os ss x)) ∙ bracketed ss w x (closing put os (run put os ss x)) p refl
 
   -- no step moves the chip to another address
   pub step_address : (s : Step) (w : Line L) → (step put os s w).chip.address ≡ w.chip.address

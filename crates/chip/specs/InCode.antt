@@ -1,7 +1,7 @@
--- How the code's values stand for a run: the log beside the lent room in place of the list of entries, and arrays with fillers in place of lists. A reader
--- of the contracts needs this file only to see how `Log`, `Flow`, `Updates` and a room stand for what specs/Steps.antt and specs/Calls.antt say.
+-- How the code's values stand for a run: the log beside the lent room in place of the list of entries. A reader of the
+-- contracts needs this file only to see how `Log`, `Flow` and a room stand for what specs/Steps.antt and specs/Calls.antt say.
 -- Assumes nothing.
-use Rattle.std.specs.Prelude.{ℕ, ◌+◌, ◌-◌, ◌*◌, ◌%◌, ◌^◌, cond, ◌||◌, List, [], ◌∷◌, ◌++◌, length, take, replicate}
+use Rattle.std.specs.Prelude.{ℕ, ◌+◌, ◌-◌, ◌*◌, ◌%◌, ◌^◌, cond, ◌||◌, List, [], ◌∷◌, ◌++◌, length, replicate}
 use Rattle.std.proofs.lemmas.List.Edits.{sets}
 use Rattle.transcript.specs.declared.Entry.{Entry}
 use Rattle.transcript.specs.Entries.{entry_bytes}
@@ -10,8 +10,6 @@ use Rattle.chip.specs.declared.Chip.{Chip}
 use Rattle.chip.specs.declared.Flow.{Flow}
 use Rattle.chip.specs.declared.LockTries.{LockTries}
 use Rattle.chip.specs.declared.Log.{Log}
-use Rattle.chip.specs.declared.Update.{Update}
-use Rattle.chip.specs.declared.Updates.{Updates}
 use Rattle.chip.specs.Entries.{is_try, lock_bit, no_tries}
 use Rattle.chip.specs.Steps.{Line, Trace, goes, line, step}
 use Rattle.chip.specs.Steps.Step.{Close}
@@ -59,22 +57,6 @@ sealed room count = sets room (16 * count) (trailer_bytes count)
 unfoldable pub closing : {L : Type 0} → (L → ℕ → Entry → L) → List ℕ → Line L → Line L
 closing put os w = cond (goes w.progress) w (step put os Close w)
 
--- ---- lists as arrays
-
 -- a list as an array of n: fillers stand after it
 abbrev pub padded : {A : Type 0} → ℕ → A → List A → List A
 padded n a xs = xs ++ replicate (n - length xs) a
-
--- what fills an array after the updates that are meant: of no register, with no bit
-abbrev pub filler : Update
-filler = record { register = 0; value = 0; mask = 0 }
-
-abbrev pub sixteen : List Update → List Update
-sixteen us = padded 16 filler us
-
--- updates as the code hands them on: an array, and how many of it are meant
-abbrev pub listed : List Update → Updates
-listed us = record { list = sixteen us; n = length us }
-
-abbrev pub meant_of : Updates → List Update
-meant_of us = take us.n us.list

@@ -4,3 +4,4 @@ pub mod Steps
 pub mod Calls
 pub mod Courses
 pub mod InCode
+pub mod Brackets

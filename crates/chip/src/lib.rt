@@ -11,8 +11,10 @@ ghost use Rattle.chip.specs.declared.Chip.{Chip};
 ghost use Rattle.chip.specs.Chips.{chip_of, mask_of};
 ghost use Rattle.chip.specs.Entries.{flag_of, with_outcome};
 ghost use Rattle.chip.specs.Steps.{closing_owed, progress_of, step, run, line, masked, updates, all_in, in_range, while_open, chunk_bytes, chunk_step, chunk_table, within, tuner_write};
-ghost use Rattle.chip.specs.InCode.{with_try, closing, in_room, on_log, on_room, logged, listed, meant_of, sealed};
+ghost use Rattle.chip.specs.InCode.{with_try, closing, in_room, on_log, on_room, logged, sealed};
 ghost use Rattle.chip.specs.Calls.{too_short, answer_of, refusal_with};
+ghost use Rattle.chip.specs.Brackets.{AddsAtMost, MayRun, Runs};
+ghost use Rattle.chip.specs.Steps.{Step};
 ghost use Rattle.chip.specs.Steps.Step.{Open, Close, Send, Mask, Plain};
 
 use refusals::Answer;
@@ -36,21 +38,8 @@ pub struct Update {
     pub mask: u8,
 }
 
-// What fills an array after the updates that are meant; it is never taken.
-pub const FILLER: Update = Update {
-    register: 0,
-    value: 0,
-    mask: 0,
-};
-
-// Updates of registers, the first n of them meant; fillers stand after them.
-#[derive(Clone, Copy)]
-pub struct Updates {
-    pub list: [Update; 16],
-    pub n: usize,
-}
-
 // How far a call has come: no step has failed yet, or it ends with refusal 11, with the index of the failing step's entry.
+// No `Option` of the index: document 01 has each step's answer enum taken apart by `let .. else` (docs/DECISIONS.md, 13), and a call goes on to its closing.
 #[derive(Clone, Copy)]
 pub enum Progress {
     Going,
@@ -106,7 +95,7 @@ pub struct Chunk {
 fn flag(ok: bool) -> u8
     ensures { result ≡ flag_of ok }
 {
-    if ok { 0 } else { 1 }
+    !ok as u8
 }
 
 fn progress_after(ok: bool, k: usize) -> Progress
@@ -124,28 +113,10 @@ pub fn masked(register: u8, value: u8, mask: u8) -> Update
     ensures { result ≡ masked register value mask }
 {
     Update {
-        register: register,
-        value: value,
-        mask: mask,
+        register,
+        value,
+        mask,
     }
-}
-
-// Lists of one and of two updates.
-pub fn one(u: Update) -> Updates
-    ensures { result ≡ listed (u ∷ []) }
-{
-    let mut list = [FILLER; 16];
-    list[0] = u;
-    Updates { list: list, n: 1 }
-}
-
-pub fn two(u: Update, v: Update) -> Updates
-    ensures { result ≡ listed (u ∷ v ∷ []) }
-{
-    let mut list = [FILLER; 16];
-    list[0] = u;
-    list[1] = v;
-    Updates { list: list, n: 2 }
 }
 
 // The byte that a masked write stores and sends.
@@ -159,26 +130,11 @@ pub fn mask_into(old: u8, value: u8, mask: u8) -> u8
 fn with_outcome(e: Entry, ok: bool) -> Entry
     ensures { result ≡ with_outcome e ok }
 {
-    let kind = e.kind;
-    let outcome = flag(ok);
-    if ((kind == transcript::I2C_READ) | (kind == transcript::READ)) & !ok {
-        return Entry {
-            kind: kind,
-            outcome: outcome,
-            target: e.target,
-            n: e.n,
-            address: e.address,
-            bytes: [0u8; 8],
-        };
-    }
-    let bytes = e.bytes;
+    let failed_read = ((e.kind == transcript::I2C_READ) | (e.kind == transcript::READ)) & !ok;
     Entry {
-        kind: kind,
-        outcome: outcome,
-        target: e.target,
-        n: e.n,
-        address: e.address,
-        bytes: bytes,
+        outcome: flag(ok),
+        bytes: if failed_read { [0u8; 8] } else { e.bytes },
+        ..e
     }
 }
 
@@ -220,13 +176,9 @@ fn attempt(n: usize, bytes: [u8; 8], ok: bool, shadow: &mut [u8; 27], doubtful: 
         × (doubtful.new ≡ sets doubtful.old (slice_index bytes 0 - 5) (replicate (n - 1) (not ok))) }
 {
     let first = bytes[0] as usize - 5;
-    let doubt = !ok;
-    let mut i = 0;
-    while i + 1 < n {
-        shadow[first + i] = bytes[i + 1];
-        doubtful[first + i] = doubt;
-        i += 1;
-    }
+    let end = first + n - 1;
+    shadow[first..end].copy_from_slice(&bytes[1..n]);
+    doubtful[first..end].fill(!ok);
 }
 
 // "1 opens": a failed opening leaves the repeater shut, so it is not closed.
@@ -235,8 +187,7 @@ pub fn log_open(l: Log, outcomes: &[u8], room: &mut [u8]) -> Log
     ensures room_after { (chip : Chip) → on_log chip result room.new ≡ step in_room outcomes.now Open (on_log chip l room.old) }
     ensures bounds { result.count + closing_owed result.opened ≤ l.count + 2 }
 {
-    let progress = l.progress;
-    let Progress::Going = progress else {
+    let Progress::Going = l.progress else {
         return l;
     };
     let k = l.count;
@@ -282,8 +233,7 @@ pub fn log_end(l: Log, outcomes: &[u8], room: &mut [u8]) -> Log
     ensures room_after { (chip : Chip) → on_log chip result room.new ≡ closing in_room outcomes.now (on_log chip l room.old) }
     ensures bounds { result.count + closing_owed result.opened ≤ l.count + closing_owed l.opened }
 {
-    let progress = l.progress;
-    let Progress::Going = progress else {
+    let Progress::Going = l.progress else {
         return log_close(l, outcomes, room);
     };
     l
@@ -307,8 +257,7 @@ fn send(
         (on_log (chip_of address shadow.old doubtful.old) l room.old) }
     ensures bounds { result.count + closing_owed result.opened ≤ l.count + 1 + closing_owed l.opened }
 {
-    let progress = l.progress;
-    let Progress::Going = progress else {
+    let Progress::Going = l.progress else {
         return l;
     };
     let k = l.count;
@@ -342,8 +291,7 @@ pub fn write_reg_mask_raw(
         (on_log (chip_of address shadow.old doubtful.old) l room.old) }
     ensures bounds { result.count + closing_owed result.opened ≤ l.count + 1 + closing_owed l.opened }
 {
-    let progress = l.progress;
-    let Progress::Going = progress else {
+    let Progress::Going = l.progress else {
         return l;
     };
     let k = l.count;
@@ -370,8 +318,7 @@ pub fn log_plain(l: Log, e: Entry, outcomes: &[u8], room: &mut [u8]) -> Log
     ensures room_after { (chip : Chip) → on_log chip result room.new ≡ step in_room outcomes.now (Plain e) (on_log chip l room.old) }
     ensures bounds { result.count + closing_owed result.opened ≤ l.count + 1 + closing_owed l.opened }
 {
-    let progress = l.progress;
-    let Progress::Going = progress else {
+    let Progress::Going = l.progress else {
         return l;
     };
     let k = l.count;
@@ -380,41 +327,31 @@ pub fn log_plain(l: Log, e: Entry, outcomes: &[u8], room: &mut [u8]) -> Log
     log_entry(l, e, ok, progress_after(ok, k), opened, room)
 }
 
-// The first n of a list of updates, while the repeater is open.
+// The updates of a list, while the repeater is open.
 pub fn write_list(
     l: Log,
     address: u8,
-    us: Updates,
+    us: &[Update],
     shadow: &mut [u8; 27],
     doubtful: &mut [bool; 27],
     outcomes: &[u8],
     room: &mut [u8],
 ) -> Log
-    requires { (us.n ≤ 16) × (all_in (meant_of us) ≡ true)
-        × (l.count + us.n + closing_owed l.opened ≤ length outcomes.now) × (16 * (l.count + us.n + closing_owed l.opened) ≤ length room.old) }
+    requires { (length us.now ≤ 16) × (all_in us.now ≡ true)
+        × (l.count + length us.now + closing_owed l.opened ≤ length outcomes.now) × (16 * (l.count + length us.now + closing_owed l.opened) ≤ length room.old) }
     ensures room_after { on_log (chip_of address shadow.new doubtful.new) result room.new
-        ≡ closing in_room outcomes.now (run in_room outcomes.now (updates (meant_of us))
+        ≡ closing in_room outcomes.now (run in_room outcomes.now (updates us.now)
         (on_log (chip_of address shadow.old doubtful.old) l room.old)) }
-    ensures bounds { result.count + closing_owed result.opened ≤ l.count + us.n + closing_owed l.opened }
+    ensures bounds { result.count + closing_owed result.opened ≤ l.count + length us.now + closing_owed l.opened }
 {
-    let list = us.list;
-    let n = us.n;
     let mut l = l;
-    let progress = l.progress;
-    let Progress::Going = progress else {
-        return log_close(l, outcomes, room);
-    };
-    let mut i = 0;
-    while i < n {
-        let u = list[i];
-        l = write_reg_mask_raw(l, address, u, shadow, doubtful, outcomes, room);
-        let progress = l.progress;
-        let Progress::Going = progress else {
+    for u in us {
+        l = write_reg_mask_raw(l, address, *u, shadow, doubtful, outcomes, room);
+        let Progress::Going = l.progress else {
             return log_close(l, outcomes, room);
         };
-        i += 1;
     }
-    l
+    log_end(l, outcomes, room)
 }
 
 // One update, and two, while the repeater is open: a straight line, so that the compiler puts their constants in place.
@@ -456,52 +393,57 @@ pub fn write_two(
     ensures bounds { result.count + closing_owed result.opened ≤ l.count + 2 + closing_owed l.opened }
 {
     let written = write_reg_mask_raw(l, address, u, shadow, doubtful, outcomes, room);
-    let progress = written.progress;
-    let Progress::Going = progress else {
+    let Progress::Going = written.progress else {
         return log_close(written, outcomes, room);
     };
     write_one(written, address, v, shadow, doubtful, outcomes, room)
 }
 
-// `with_repeater` over a list of updates: open, steps, close.
-pub fn with_repeater(f: Flow, us: Updates, outcomes: &[u8], room: &mut [u8]) -> Flow
-    requires { (us.n ≤ 16) × (all_in (meant_of us) ≡ true)
-        × (f.log.count + us.n + 2 ≤ length outcomes.now) × (16 * (f.log.count + us.n + 2) ≤ length room.old) }
-    ensures room_after { on_room result room.new
-        ≡ run in_room outcomes.now (while_open (updates (meant_of us))) (on_room f room.old) }
-    ensures bounds { result.log.count + closing_owed result.log.opened ≤ f.log.count + us.n + 2 }
+// `with_repeater`: an opening, the steps that are handed in, over the chip's lists where they lie, and a closing.
+pub fn bracket<F: FnOnce(Log, u8, &mut [u8; 27], &mut [bool; 27], &mut [u8]) -> Log>(
+    mut f: Flow,
+    steps: F,
+    outcomes: &[u8],
+    room: &mut [u8],
+) -> Flow
+    requires ready { MayRun F.FnOnce steps (f.log.count + 2) (length room.old) }
+    requires ends { (n : ℕ) × (AddsAtMost F.FnOnce steps n) × (f.log.count + n + 2 ≤ length outcomes.now) × (16 * (f.log.count + n + 2) ≤ length room.old) }
+    ensures room_after { (ss : List Step) → Runs F.FnOnce steps outcomes.now f.chip.address ss → on_room result room.new ≡ run in_room outcomes.now (while_open ss) (on_room f room.old) }
+    ensures bounds { (n : ℕ) → AddsAtMost F.FnOnce steps n → result.log.count + closing_owed result.log.opened ≤ f.log.count + n + 2 }
 {
-    let chip = f.chip;
     let opened = log_open(f.log, outcomes, room);
-    let progress = opened.progress;
-    let Progress::Going = progress else {
-        let shut = log_close(opened, outcomes, room);
-        return Flow {
-            chip: chip,
-            log: shut,
-        };
+    let Progress::Going = opened.progress else {
+        f.log = log_close(opened, outcomes, room);
+        return f;
     };
-    let mut shadow = chip.shadow;
-    let mut doubtful = chip.doubtful;
-    let sent = write_list(
+    let chip = &mut f.chip;
+    let sent = steps(
         opened,
         chip.address,
-        us,
-        &mut shadow,
-        &mut doubtful,
-        outcomes,
+        &mut chip.shadow,
+        &mut chip.doubtful,
         room,
     );
-    let closed = log_close(sent, outcomes, room);
-    let next = Chip {
-        address: chip.address,
-        shadow: shadow,
-        doubtful: doubtful,
-    };
-    Flow {
-        chip: next,
-        log: closed,
-    }
+    f.log = log_close(sent, outcomes, room);
+    f
+}
+
+// `with_repeater` over a list of updates: open, steps, close.
+pub fn with_repeater(f: Flow, us: &[Update], outcomes: &[u8], room: &mut [u8]) -> Flow
+    requires { (length us.now ≤ 16) × (all_in us.now ≡ true)
+        × (f.log.count + length us.now + 2 ≤ length outcomes.now) × (16 * (f.log.count + length us.now + 2) ≤ length room.old) }
+    ensures room_after { on_room result room.new
+        ≡ run in_room outcomes.now (while_open (updates us.now)) (on_room f room.old) }
+    ensures bounds { result.log.count + closing_owed result.log.opened ≤ f.log.count + length us.now + 2 }
+{
+    bracket(
+        f,
+        |l, address, shadow, doubtful, room| write_list(
+            l, address, us, shadow, doubtful, outcomes, room,
+        ),
+        outcomes,
+        room,
+    )
 }
 
 // The chunk's first register, its bytes, and zeros.
@@ -566,13 +508,11 @@ fn first_chunks(
     let two = Chunk { at: 7, size: 7 };
     let three = Chunk { at: 14, size: 2 };
     let first = send_chunk(l, address, bs, one, shadow, doubtful, outcomes, room);
-    let progress = first.progress;
-    let Progress::Going = progress else {
+    let Progress::Going = first.progress else {
         return log_close(first, outcomes, room);
     };
     let second = send_chunk(first, address, bs, two, shadow, doubtful, outcomes, room);
-    let progress = second.progress;
-    let Progress::Going = progress else {
+    let Progress::Going = second.progress else {
         return log_close(second, outcomes, room);
     };
     let third = send_chunk(second, address, bs, three, shadow, doubtful, outcomes, room);
@@ -598,8 +538,7 @@ fn last_chunks(
     let four = Chunk { at: 16, size: 7 };
     let five = Chunk { at: 23, size: 4 };
     let first = send_chunk(l, address, bs, four, shadow, doubtful, outcomes, room);
-    let progress = first.progress;
-    let Progress::Going = progress else {
+    let Progress::Going = first.progress else {
         return log_close(first, outcomes, room);
     };
     let second = send_chunk(first, address, bs, five, shadow, doubtful, outcomes, room);
@@ -612,37 +551,14 @@ pub fn i2c_write_first(f: Flow, bs: [u8; 27], outcomes: &[u8], room: &mut [u8]) 
     ensures room_after { on_room result room.new ≡ run in_room outcomes.now (tuner_write bs 0 3) (on_room f room.old) }
     ensures bounds { result.log.count + closing_owed result.log.opened ≤ f.log.count + 5 }
 {
-    let chip = f.chip;
-    let opened = log_open(f.log, outcomes, room);
-    let progress = opened.progress;
-    let Progress::Going = progress else {
-        let shut = log_close(opened, outcomes, room);
-        return Flow {
-            chip: chip,
-            log: shut,
-        };
-    };
-    let mut shadow = chip.shadow;
-    let mut doubtful = chip.doubtful;
-    let sent = first_chunks(
-        opened,
-        chip.address,
-        bs,
-        &mut shadow,
-        &mut doubtful,
+    bracket(
+        f,
+        |l, address, shadow, doubtful, room| first_chunks(
+            l, address, bs, shadow, doubtful, outcomes, room,
+        ),
         outcomes,
         room,
-    );
-    let closed = log_close(sent, outcomes, room);
-    let next = Chip {
-        address: chip.address,
-        shadow: shadow,
-        doubtful: doubtful,
-    };
-    Flow {
-        chip: next,
-        log: closed,
-    }
+    )
 }
 
 // And of the other 11.
@@ -651,37 +567,14 @@ pub fn i2c_write_last(f: Flow, bs: [u8; 27], outcomes: &[u8], room: &mut [u8]) -
     ensures room_after { on_room result room.new ≡ run in_room outcomes.now (tuner_write bs 3 5) (on_room f room.old) }
     ensures bounds { result.log.count + closing_owed result.log.opened ≤ f.log.count + 4 }
 {
-    let chip = f.chip;
-    let opened = log_open(f.log, outcomes, room);
-    let progress = opened.progress;
-    let Progress::Going = progress else {
-        let shut = log_close(opened, outcomes, room);
-        return Flow {
-            chip: chip,
-            log: shut,
-        };
-    };
-    let mut shadow = chip.shadow;
-    let mut doubtful = chip.doubtful;
-    let sent = last_chunks(
-        opened,
-        chip.address,
-        bs,
-        &mut shadow,
-        &mut doubtful,
+    bracket(
+        f,
+        |l, address, shadow, doubtful, room| last_chunks(
+            l, address, bs, shadow, doubtful, outcomes, room,
+        ),
         outcomes,
         room,
-    );
-    let closed = log_close(sent, outcomes, room);
-    let next = Chip {
-        address: chip.address,
-        shadow: shadow,
-        doubtful: doubtful,
-    };
-    Flow {
-        chip: next,
-        log: closed,
-    }
+    )
 }
 
 // Which lent slice is too short for a call of at most n entries and m replies: 8, 9, 10, or 0 where all suffice.

@@ -179,7 +179,7 @@ fn tuner_path(f: Flow, kind: Kind, path: Path, outcomes: &[u8], room: &mut [u8])
 {
     match kind {
         Kind::R820T => f,
-        Kind::R828D => chip::with_repeater(f, writes::path_updates(path), outcomes, room),
+        Kind::R828D => chip::with_repeater(f, &writes::path_updates(path), outcomes, room),
     }
 }
 

@@ -12,13 +12,13 @@ use Rattle.board.specs.declared.Path.{Path}
 use Rattle.refusals.specs.declared.Answer.{Answer}
 use Rattle.refusals.specs.declared.Answer.TheVariants.{Done, Refused}
 use Rattle.refusals.specs.Table.{SETUP}
+use Rattle.chip.specs.declared.Update.{Update}
 use Rattle.chip.specs.declared.Flow.{Flow}
 use Rattle.chip.specs.declared.LockTries.{LockTries}
-use Rattle.chip.specs.declared.Updates.{Updates}
 use Rattle.chip.specs.declared.Progress.TheVariants.{Going}
 use Rattle.chip.specs.Calls.{Called, answer_of, called, performed, lock_tries_in}
 use Rattle.chip.specs.Entries.{no_tries}
-use Rattle.chip.specs.InCode.{laid_out, sealed, Logged, in_room, listed, logged, meant_of, on_room}
+use Rattle.chip.specs.InCode.{laid_out, sealed, Logged, in_room, logged, on_room}
 use Rattle.chip.specs.Steps.{Line, Step, Trace, eight, every, line, run, trace}
 use Rattle.chip.proofs.Taken.{handed, performs, seen_in, stands, tried, untried}
 use Rattle.gain.specs.Steps.{chosen_of, clamped, steps}
@@ -117,8 +117,8 @@ pub path_still : (p : Option Path) (path : Path) (kind : Kind) (os : List ℕ) (
 unfolding sound_answer left_by
 path_still p path kind os t room answer e k a = ap (called t room 0) a ∙ rw (e, k) (still_answered (sound t) t t room 0)
 
-pub path_by : (p : Option Path) (path : Path) (kind : Kind) (us : Updates) (os : List ℕ) (t : Tuner) (room : List ℕ) (x : Called Tuner)
-    → p ≡ Some path → kind ≡ R828D → us ≡ listed (path_updates path) → x ≡ bracket_call t t (Done 0) (meant_of us) us.n os t room → x ≡ path_left p kind os t room
+pub path_by : (p : Option Path) (path : Path) (kind : Kind) (us : List Update) (os : List ℕ) (t : Tuner) (room : List ℕ) (x : Called Tuner)
+    → p ≡ Some path → kind ≡ R828D → us ≡ path_updates path → x ≡ bracket_call t t (Done 0) us (length us) os t room → x ≡ path_left p kind os t room
 path_by p path kind us os t room x e k u h = bracket_by t t (Done 0) us (path_updates path) 2 os t room x u (path_two path) h ∙ rw (e, k)
 
 -- a gain's row at a step that was worked out apart

@@ -12,16 +12,14 @@ use Rattle.refusals.specs.declared.Answer.TheVariants.{Done, Refused}
 use Rattle.chip.specs.declared.Chip.{Chip}
 use Rattle.chip.specs.declared.Flow.{Flow}
 use Rattle.chip.specs.declared.Update.{Update}
-use Rattle.chip.specs.declared.Updates.{Updates}
 use Rattle.chip.specs.declared.Progress.{Progress}
 use Rattle.chip.specs.declared.Progress.TheVariants.{Going}
 use Rattle.chip.specs.Calls.{Called, answer_of, call_of, called}
 use Rattle.chip.specs.Entries.{no_tries}
-use Rattle.chip.specs.InCode.{laid_out, sealed, Logged, in_room, listed, logged, meant_of, on_room}
+use Rattle.chip.specs.InCode.{laid_out, sealed, Logged, in_room, logged, on_room}
 use Rattle.chip.specs.Steps.{Line, Step, Trace, while_open, eight, every, goes, line, run, trace, updates}
 use Rattle.chip.specs.Steps.Step.{Close, Plain}
 use Rattle.chip.proofs.Chunks.{chunk_eight}
-use Rattle.chip.proofs.Lists.{meant_all, meant_count}
 use Rattle.chip.proofs.Taken.{handed, performs, refuses, stands}
 use Rattle.tuning.proofs.Programs.{all_updates, eight_update, every_app}
 use Rattle.gain.specs.Product.{gain_of}
@@ -85,10 +83,9 @@ abbrev pub step_call : List ℕ → ℕ → Tuner → List ℕ → Called Tuner
 step_call os k t room = left_by (sound t) (gain_row k t) os t.chip t room
 
 -- a call of one bracket, whose list was worked out apart, and whose record is known
-pub bracket_by : (cut whole : Tuner) (answer : Answer) (us : Updates) (ys : List Update) (n : ℕ) (os : List ℕ) (t : Tuner) (room : List ℕ) (x : Called Tuner)
-    → us ≡ listed ys → length ys ≡ n → x ≡ bracket_call cut whole answer (meant_of us) us.n os t room → x ≡ bracket_call cut whole answer ys n os t room
-bracket_by cut whole answer us ys n os t room x e l h =
-    h ∙ (λ i. bracket_call cut whole answer (meant_all ys us e i) ((meant_count ys us e ∙ l) i) os t room)
+pub bracket_by : (cut whole : Tuner) (answer : Answer) (us ys : List Update) (n : ℕ) (os : List ℕ) (t : Tuner) (room : List ℕ) (x : Called Tuner)
+    → us ≡ ys → length ys ≡ n → x ≡ bracket_call cut whole answer us (length us) os t room → x ≡ bracket_call cut whole answer ys n os t room
+bracket_by cut whole answer us ys n os t room x e l h = h ∙ (λ i. bracket_call cut whole answer (e i) ((ap length e ∙ l) i) os t room)
 
 -- a gain's call, whose step's gain and bits were worked out apart
 pub step_by : (k bits : ℕ) (actual : Float) (us : List Update) (os : List ℕ) (t : Tuner) (room : List ℕ) (x : Called Tuner)

@@ -11,7 +11,7 @@ ghost use Rattle.chip.specs.Calls.{answer_of, called, performed, lock_tries_in};
 ghost use Rattle.refusals.specs.declared.Answer.TheVariants.{Done, Refused};
 ghost use Rattle.chip.specs.declared.Progress.TheVariants.{Going};
 ghost use Rattle.chip.specs.Entries.{lock_tries, no_tries};
-ghost use Rattle.chip.specs.InCode.{logged, meant_of, on_room, sealed};
+ghost use Rattle.chip.specs.InCode.{logged, on_room, sealed};
 ghost use Rattle.chip.specs.Steps.{all_in, goes, line, trace};
 ghost use Rattle.chip.specs.Courses.{left_by};
 ghost use Rattle.tuning.specs.Program.{divider_number, tune_answer};
@@ -21,7 +21,7 @@ ghost use Rattle.r82xx.specs.Calls.{hz_refusal, refusal_of};
 ghost use Rattle.r82xx.specs.Orders.{bracket, lock_kept, quietly, result_of, lock_tries_of, table_of, tune_of};
 ghost use Rattle.r82xx.specs.Orders.Order.{Initialize, Reload, Bandwidth, IfFreq, Gain, GainIndex, InputPath, Tune, Notch, GainTold, IfTold};
 
-use chip::{Chip, Flow, Progress, Updates};
+use chip::{Chip, Flow, Progress, Update};
 use pll::{Kind, Plan};
 use refusals::Answer;
 use tuning::Tuning;
@@ -228,12 +228,12 @@ impl Tuner {
     }
 
     // A call of one bracket of masked writes: the record is `next` after them, done or not, with the chip's part as they left it.
-    fn operate(self, next: Tuner, us: Updates, outcomes: &[u8], room: &mut [u8]) -> TunerResult
-        requires { (us.n ≤ 14) × (all_in (meant_of us) ≡ true) }
+    fn operate(self, next: Tuner, us: &[Update], outcomes: &[u8], room: &mut [u8]) -> TunerResult
+        requires { (length us.now ≤ 14) × (all_in us.now ≡ true) }
         ensures { called result.tuner room.new result.count result.answer
-            ≡ left_by (sound self) (bracket us.n (meant_of us) (Done 0) next next) outcomes.now self.chip self room.old }
+            ≡ left_by (sound self) (bracket (length us.now) us.now (Done 0) next next) outcomes.now self.chip self room.old }
     {
-        let number = self.refusal(0, us.n + 2, 0, room.len(), outcomes.len(), 0);
+        let number = self.refusal(0, us.len() + 2, 0, room.len(), outcomes.len(), 0);
         if number != 0 {
             return refused(self, number);
         }
@@ -247,7 +247,7 @@ impl Tuner {
             ≡ result_of (Bandwidth hz) outcomes.now self room.old }
     {
         let us = writes::bandwidth_updates(hz);
-        self.operate(self, us, outcomes, room)
+        self.operate(self, &us, outcomes, room)
     }
 
     // The IF changes before its writes are tried.
@@ -257,7 +257,7 @@ impl Tuner {
     {
         let us = writes::if_updates(hz);
         let next = Tuner { ifreq: hz, ..self };
-        self.operate(next, us, outcomes, room)
+        self.operate(next, &us, outcomes, room)
     }
 
     // The gain changes only when all writes are done.
@@ -302,7 +302,7 @@ impl Tuner {
                 answer: sound_answer(self.nominal, self.corrected, 0),
                 count: 0,
             },
-            Kind::R828D => self.operate(self, writes::path_updates(by), outcomes, room),
+            Kind::R828D => self.operate(self, &writes::path_updates(by), outcomes, room),
         }
     }
 

@@ -6,7 +6,6 @@ use mathlib.Core.List.{List, [], ◌∷◌, ◌++◌}
 use native.Mathlib.Omega.{arith}
 use borrow.Author.Tests.{lt-ltb, le-ltb}
 use lib.Dec.{eqb}
-use lib.ListN.{take}
 use Rattle.transcript.specs.declared.Entry.{Entry}
 use Rattle.chip.specs.declared.Update.{Update}
 use Rattle.chip.specs.Entries.{pointer, read_entry, wait}
@@ -17,9 +16,7 @@ use Rattle.chip.proofs.Laws.{parts, stop, swap}
 use Rattle.pll.specs.declared.Kind.{Kind}
 use Rattle.pll.specs.declared.Plan.{Plan}
 use Rattle.std.specs.Prelude.{Option, Some, None}
-use Rattle.tuning.specs.declared.Fix.{Fix}
 use Rattle.tuning.specs.declared.FreqRange.{FreqRange}
-use Rattle.tuning.specs.InCode.{fix_updates}
 use Rattle.tuning.specs.Mux.{mux_updates, pll_updates, range_of}
 use Rattle.tuning.specs.Program.{inner_steps, pll_steps}
 use Rattle.tuning.specs.Tries.{after_try, again, fine_of, locked, locks_at, power_of, repair_updates, reply_bytes, status_steps, tries_from, try_read}
@@ -52,13 +49,6 @@ pub pick_every : {A : Type 0} (p : A → Bool) (b : Bool) (xs ys : List A) → e
 pick_every p true xs ys h k = h
 pick_every p false xs ys h k = k
 
--- the one write of a repair
-pub fix_made : (fix : Fix) (u : Update) → fix.needed ≡ true → u ≡ masked 0x10 fix.bits 0xe0 → updates (u ∷ []) ≡ updates (fix_updates fix)
-fix_made fix u h m = rw (h, m)
-
-fix_none : (fix : Fix) → fix.needed ≡ false → [] ≡ updates (fix_updates fix)
-fix_none fix h = rw h
-
 -- reads whose bytes were worked out apart
 pub status_made : (address : ℕ) (rs bytes : List ℕ) → bytes ≡ reply_bytes rs 0 5
     → Plain (wait 2) ∷ Plain (pointer address) ∷ Plain (read_entry address 5 bytes) ∷ [] ≡ status_steps address rs
@@ -69,17 +59,16 @@ pub try_made : (address : ℕ) (rs bytes : List ℕ) (i : ℕ) → bytes ≡ rep
 try_made address rs bytes i e = rw e
 
 -- the registers' writes, where row and plan were worked out apart
-pub mux_made : (address : ℕ) (kind : Kind) (notch : Bool) (plan : Option Plan) (hz : ℕ) (rs : List ℕ) (range : FreqRange) (us : List Update) (p : Plan)
-    → range ≡ range_of hz → us ≡ mux_updates notch range ++ pll_updates p → plan ≡ None
-    → updates (take 11 us) ≡ inner_steps address kind notch plan hz rs
+pub mux_made : (address : ℕ) (kind : Kind) (notch : Bool) (plan : Option Plan) (hz : ℕ) (rs : List ℕ) (range : FreqRange) (us : List Update)
+    → range ≡ range_of hz → us ≡ mux_updates notch range → plan ≡ None → updates us ≡ inner_steps address kind notch plan hz rs
 unfolding inner_steps
-mux_made address kind notch plan hz rs range us p e l q = rw (l, e, q)
+mux_made address kind notch plan hz rs range us e l q = rw (l, e, q)
 
-pub plan_made : (address : ℕ) (kind : Kind) (notch : Bool) (plan : Option Plan) (hz : ℕ) (rs : List ℕ) (range : FreqRange) (us : List Update) (p : Plan)
-    → range ≡ range_of hz → us ≡ mux_updates notch range ++ pll_updates p → plan ≡ Some p
-    → updates (take 16 us) ++ pll_steps address kind p.number rs ≡ inner_steps address kind notch plan hz rs
+pub plan_made : (address : ℕ) (kind : Kind) (notch : Bool) (plan : Option Plan) (hz : ℕ) (rs : List ℕ) (range : FreqRange) (us vs : List Update) (p : Plan)
+    → range ≡ range_of hz → us ≡ mux_updates notch range → vs ≡ pll_updates p → plan ≡ Some p
+    → updates us ++ (updates vs ++ pll_steps address kind p.number rs) ≡ inner_steps address kind notch plan hz rs
 unfolding inner_steps
-plan_made address kind notch plan hz rs range us p e l q = rw (l, e, q)
+plan_made address kind notch plan hz rs range us vs p e l m q = rw (l, m, e, q)
 
 -- what follows the read of try i
 abbrev rest_of : ℕ → List ℕ → ℕ → List Step
@@ -97,11 +86,6 @@ inner_rest address rs i =
     (every_app inner (after_try i) (tries_from address rs (10 - (i + 1)) (i + 1)) (inner_after i) (inner_tries address rs (10 - (i + 1)) (i + 1)))
 
 module _ {L : Type 0} (put : L → ℕ → Entry → L) (os : List ℕ) where
-  -- no repair: nothing is left but the end of a part
-  pub no_fix : (fix : Fix) (w y : Line L) → fix.needed ≡ false → y ≡ closing put os w → y ≡ closing put os (run put os (updates (fix_updates fix)) w)
-  unfolding run
-  no_fix fix w y h e = swap put os [] (updates (fix_updates fix)) w y (fix_none fix h) e
-
   module _ (address : ℕ) (rs : List ℕ) (i : ℕ) (few : i < 10) (w x : Line L) (read : x ≡ closing put os (run put os (try_read address rs i) w)) where
     all : (y : Line L) → y ≡ closing put os (run put os (rest_of address rs i) x) → y ≡ closing put os (run put os (tries_from address rs (10 - i) i) w)
     all y e =

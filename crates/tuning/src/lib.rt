@@ -16,7 +16,7 @@ ghost use Rattle.tuning.specs.Tries.{after_try, lock_by, locked, fine_of, power_
 ghost use Rattle.tuning.specs.InCode.{fix_updates};
 ghost use Rattle.tuning.specs.Program.{inner_steps, divider_number, tune_steps, tune_answer};
 
-use chip::{Chip, Flow, LockTries, Log, Progress, Update, Updates, masked};
+use chip::{Flow, LockTries, Log, Progress, Update, masked};
 use pll::{Kind, Plan};
 use refusals::Answer;
 use transcript::Entry;
@@ -32,13 +32,6 @@ pub struct FreqRange {
     pub opendrain: u8,
     pub mux: u8,
     pub filter: u8,
-}
-
-// The divider's repair: whether there is one, and the bits that it writes.
-#[derive(Clone, Copy)]
-pub struct Fix {
-    pub needed: bool,
-    pub bits: u8,
 }
 
 // What a tuning is given.
@@ -73,17 +66,6 @@ pub fn lock_after(lock: LockTries, old: bool) -> bool
     old
 }
 
-// What stands in the list of writes where the PLL has no plan; such a write is never made.
-const NO_PLAN: Plan = Plan {
-    m: 0,
-    number: 0,
-    n: 0,
-    setting: 0,
-    fraction: 0,
-    sum: 0,
-    rest: 0,
-};
-
 fn later(hz: u64, best: FreqRange, r: FreqRange) -> FreqRange
     ensures { result ≡ later_of hz best r }
 {
@@ -99,43 +81,17 @@ fn freq_range(hz: u64) -> FreqRange
 {
     let table = FREQ_RANGES;
     let mut best = table[0];
-    let mut i: usize = 0;
-    while i < 21 {
-        best = later(hz, best, table[i]);
-        i += 1;
+    for r in &table {
+        best = later(hz, best, *r);
     }
     best
 }
 
-// The notch suppresses open_d.
-fn opendrain_for(notch: bool, opendrain: u8) -> u8
-    ensures { result ≡ cond notch 0 opendrain }
+// `set_mux_raw`'s eleven writes. The notch suppresses open_d.
+fn mux_updates(r: FreqRange, notch: bool) -> [Update; 11]
+    ensures { result ≡ mux_updates notch r }
 {
-    if notch { 0x00 } else { opendrain }
-}
-
-// The Rust's `pw_sdm`: without a fraction the sum is off.
-fn whole_only(fraction: u64) -> u8
-    ensures { result ≡ cond (eqb fraction 0) 0x08 0x00 }
-{
-    if fraction == 0 { 0x08 } else { 0x00 }
-}
-
-fn lower(number: u8) -> u8
-    ensures { result ≡ number - 1 }
-{
-    if number == 0 { 0 } else { number - 1 }
-}
-
-// `set_mux_raw`'s eleven writes, then the five of `set_pll_raw`; without a plan the eleven are meant.
-fn tune_updates(r: FreqRange, notch: bool, p: Plan) -> [Update; 16]
-    requires { p.number ≤ 5 }
-    ensures { result ≡ mux_updates notch r ++ pll_updates p }
-{
-    let opendrain = opendrain_for(notch, r.opendrain);
-    let whole = whole_only(p.fraction);
-    let high = (p.sum / 256) as u8;
-    let low = (p.sum % 256) as u8;
+    let opendrain = if notch { 0x00 } else { r.opendrain };
     [
         masked(0x17, 0xa0, 0x30),
         masked(0x17, opendrain, 0x08),
@@ -148,6 +104,18 @@ fn tune_updates(r: FreqRange, notch: bool, p: Plan) -> [Update; 16]
         masked(0x1c, 0x24, 0x04),
         masked(0x1e, 14, 0x1f),
         masked(0x1a, 0x20, 0x30),
+    ]
+}
+
+// The five of `set_pll_raw`. The Rust's `pw_sdm`: without a fraction the sum is off.
+fn pll_updates(p: Plan) -> [Update; 5]
+    requires { p.number ≤ 5 }
+    ensures { result ≡ pll_updates p }
+{
+    let whole = if p.fraction == 0 { 0x08 } else { 0x00 };
+    let high = (p.sum / 256) as u8;
+    let low = (p.sum % 256) as u8;
+    [
         masked(0x10, p.number * 32, 0xe0),
         masked(0x14, p.setting, 0xff),
         masked(0x16, high, 0xff),
@@ -216,13 +184,11 @@ fn status_entries(l: Log, address: u8, bytes: [u8; 8], outcomes: &[u8], room: &m
     ensures bounds { result.count + closing_owed result.opened ≤ l.count + 3 + closing_owed l.opened }
 {
     let waited = chip::log_plain(l, wait(2), outcomes, room);
-    let progress = waited.progress;
-    let Progress::Going = progress else {
+    let Progress::Going = waited.progress else {
         return chip::log_close(waited, outcomes, room);
     };
     let pointed = chip::log_plain(waited, pointer(address), outcomes, room);
-    let progress = pointed.progress;
-    let Progress::Going = progress else {
+    let Progress::Going = pointed.progress else {
         return chip::log_close(pointed, outcomes, room);
     };
     let read = chip::log_plain(pointed, read_entry(address, 5, bytes), outcomes, room);
@@ -258,36 +224,26 @@ fn vco_fine_tune(byte: u8) -> u8
 
 // Pass 2: the divider is repaired by one where the VCO's band is off.
 #[tactic(auto, using(crate::proofs::Turns::repair_down, crate::proofs::Turns::repair_up, crate::proofs::Turns::repair_none))]
-fn repair(kind: Kind, number: u8, byte: u8) -> Fix
+fn repair(kind: Kind, number: u8, byte: u8) -> Option<u8>
     requires { number ≤ 5 }
     ensures { fix_updates result ≡ repair_updates kind number byte }
 {
     let fine = vco_fine_tune(byte);
     let power = vco_power_ref(kind);
     if power < fine {
-        let less = lower(number);
-        return Fix {
-            needed: true,
-            bits: less * 32,
-        };
+        return Some(number.saturating_sub(1) * 32);
     }
     if fine < power {
-        return Fix {
-            needed: true,
-            bits: (number + 1) * 32,
-        };
+        return Some((number + 1) * 32);
     }
-    Fix {
-        needed: false,
-        bits: 0,
-    }
+    None
 }
 
 // The divider's bits alone.
 fn write_repair(
     l: Log,
     address: u8,
-    fix: Fix,
+    fix: Option<u8>,
     shadow: &mut [u8; 27],
     doubtful: &mut [bool; 27],
     outcomes: &[u8],
@@ -299,11 +255,11 @@ fn write_repair(
         (on_log (chip_of address shadow.old doubtful.old) l room.old)) }
     ensures bounds { result.count + closing_owed result.opened ≤ l.count + 1 + closing_owed l.opened }
 {
-    if fix.needed {
-        let u = masked(0x10, fix.bits, 0xe0);
-        return chip::write_one(l, address, u, shadow, doubtful, outcomes, room);
-    }
-    chip::log_end(l, outcomes, room)
+    let Some(bits) = fix else {
+        return chip::log_end(l, outcomes, room);
+    };
+    let u = masked(0x10, bits, 0xe0);
+    chip::write_one(l, address, u, shadow, doubtful, outcomes, room)
 }
 
 // The entries of a try's read.
@@ -315,8 +271,7 @@ fn try_entries(l: Log, address: u8, bytes: [u8; 8], outcomes: &[u8], room: &mut 
     ensures bounds { result.count + closing_owed result.opened ≤ l.count + 2 + closing_owed l.opened }
 {
     let pointed = chip::log_plain(l, pointer(address), outcomes, room);
-    let progress = pointed.progress;
-    let Progress::Going = progress else {
+    let Progress::Going = pointed.progress else {
         return chip::log_close(pointed, outcomes, room);
     };
     let read = chip::log_plain(pointed, read_entry(address, 3, bytes), outcomes, room);
@@ -406,33 +361,26 @@ fn wait_pll_lock_raw(
     ensures bounds { result.count + closing_owed result.opened ≤ l.count + 31 + closing_owed l.opened }
 {
     let mut l = l;
-    let progress = l.progress;
-    let Progress::Going = progress else {
-        return chip::log_close(l, outcomes, room);
-    };
-    let mut i: usize = 0;
-    while i < 10 {
+    for i in 0..10 {
         // Tested after the try, but worked out before it, where the try's own reply has just been read.
         let locked = status::locks(replies[7 + 3 * i]);
         l = read_try(l, address, i, outcomes, replies, room);
-        let progress = l.progress;
-        let Progress::Going = progress else {
+        let Progress::Going = l.progress else {
             return chip::log_close(l, outcomes, room);
         };
         if locked {
             return after_lock(l, address, shadow, doubtful, outcomes, room);
         }
         l = after_try(l, address, i, shadow, doubtful, outcomes, room);
-        i += 1;
     }
-    l
+    chip::log_end(l, outcomes, room)
 }
 
 // What follows the sixteen registers: status, repair, tries. The byte that the repair goes by is looked at before the status' entries are made.
 fn set_pll_raw(
     l: Log,
     address: u8,
-    fix: Fix,
+    fix: Option<u8>,
     shadow: &mut [u8; 27],
     doubtful: &mut [bool; 27],
     outcomes: &[u8],
@@ -467,16 +415,14 @@ fn tune_inner(
         (on_log (chip_of address shadow.old doubtful.old) l room.old)) }
     ensures bounds { result.count + closing_owed result.opened ≤ l.count + 51 + closing_owed l.opened }
 {
-    let range = freq_range(t.hz);
+    let mux = mux_updates(freq_range(t.hz), t.notch);
+    let mapped = chip::write_list(l, address, &mux, shadow, doubtful, outcomes, room);
     let plan = t.plan;
     let Some(p) = plan else {
-        let list = tune_updates(range, t.notch, NO_PLAN);
-        let mux = Updates { list: list, n: 11 };
-        return chip::write_list(l, address, mux, shadow, doubtful, outcomes, room);
+        return mapped;
     };
-    let list = tune_updates(range, t.notch, p);
-    let all = Updates { list: list, n: 16 };
-    let written = chip::write_list(l, address, all, shadow, doubtful, outcomes, room);
+    let pll = pll_updates(p);
+    let written = chip::write_list(mapped, address, &pll, shadow, doubtful, outcomes, room);
     let kind = t.kind;
     let fix = repair(kind, p.number, replies[4]);
     set_pll_raw(
@@ -492,36 +438,12 @@ pub fn tune(f: Flow, t: Tuning, outcomes: &[u8], replies: &[u8], room: &mut [u8]
         ≡ run in_room outcomes.now (tune_steps f.chip.address t.kind t.notch t.plan t.hz replies.now) (on_room f room.old) }
     ensures bounds { result.log.count + closing_owed result.log.opened ≤ f.log.count + 53 }
 {
-    let chip_state = f.chip;
-    let opened = chip::log_open(f.log, outcomes, room);
-    let progress = opened.progress;
-    let Progress::Going = progress else {
-        let shut = chip::log_close(opened, outcomes, room);
-        return Flow {
-            chip: chip_state,
-            log: shut,
-        };
-    };
-    let mut shadow = chip_state.shadow;
-    let mut doubtful = chip_state.doubtful;
-    let tuned = tune_inner(
-        opened,
-        chip_state.address,
-        t,
-        &mut shadow,
-        &mut doubtful,
+    chip::bracket(
+        f,
+        |l, address, shadow, doubtful, room| {
+            tune_inner(l, address, t, shadow, doubtful, outcomes, replies, room)
+        },
         outcomes,
-        replies,
         room,
-    );
-    let closed = chip::log_close(tuned, outcomes, room);
-    let next = Chip {
-        address: chip_state.address,
-        shadow: shadow,
-        doubtful: doubtful,
-    };
-    Flow {
-        chip: next,
-        log: closed,
-    }
+    )
 }

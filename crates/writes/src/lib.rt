@@ -5,13 +5,13 @@
 
 ghost use Rattle.std.specs.Prelude.{cond, ◌≡◌, ◌++◌, ◌+◌, ◌*◌, ◌≤◌, ◌<◌, leb, length};
 ghost use Rattle.chip.specs.Chips.{chip_of};
-ghost use Rattle.chip.specs.InCode.{closing, in_room, listed, on_log, on_room};
+ghost use Rattle.chip.specs.InCode.{closing, in_room, on_log, on_room};
 ghost use Rattle.chip.specs.Steps.{while_open, closing_owed, run, updates};
 ghost use Rattle.writes.specs.Lists.{bandwidth_updates, by_hand, gain_updates, if_updates, init_updates, path_updates, step_values};
 ghost use Rattle.writes.specs.Programs.{init_steps, send_all};
 
 use board::Path;
-use chip::{Chip, FILLER, Flow, Log, Progress, Updates, masked};
+use chip::{Flow, Log, Progress, Update, masked};
 use gain::GainEntry;
 
 pub const IF_FREQ_NARROW: u64 = 2_300_000;
@@ -42,30 +42,29 @@ fn width(hz: u32) -> u8
     0x00
 }
 
-fn init_updates() -> Updates
-    ensures { result ≡ listed init_updates }
+fn init_updates() -> [Update; 4]
+    ensures { result ≡ init_updates }
 {
-    let mut list = [FILLER; 16];
-    list[0] = masked(0x1a, 0x00, 0x0c);
-    list[1] = masked(0x12, 0x06, 0xff);
-    list[2] = masked(0x0c, 0x00, 0x0f);
-    list[3] = masked(0x13, 0x01, 0x3f);
-    Updates { list: list, n: 4 }
+    [
+        masked(0x1a, 0x00, 0x0c),
+        masked(0x12, 0x06, 0xff),
+        masked(0x0c, 0x00, 0x0f),
+        masked(0x13, 0x01, 0x3f),
+    ]
 }
 
-pub fn if_updates(hz: u64) -> Updates
-    ensures { result ≡ listed (if_updates hz) }
+pub fn if_updates(hz: u64) -> [Update; 2]
+    ensures { result ≡ if_updates hz }
 {
     let low = narrow_or_wide(hz, 0x00, 0x10);
     let high = narrow_or_wide(hz, 0x80, 0x6b);
-    chip::two(masked(0x0a, low, 0x70), masked(0x0b, high, 0xef))
+    [masked(0x0a, low, 0x70), masked(0x0b, high, 0xef)]
 }
 
-pub fn bandwidth_updates(hz: u32) -> Updates
-    ensures { result ≡ listed (bandwidth_updates hz) }
+pub fn bandwidth_updates(hz: u32) -> [Update; 1]
+    ensures { result ≡ bandwidth_updates hz }
 {
-    let value = width(hz);
-    chip::one(masked(0x0a, value, 0x0f))
+    [masked(0x0a, width(hz), 0x0f)]
 }
 
 // `set_if_bandwidth` and `set_bandwidth`, each one bracket, over the chip's lists where they lie: a larger call makes both and copies the lists once. No list of
@@ -88,8 +87,7 @@ pub fn set_if_bandwidth(
     let low = masked(0x0a, narrow_or_wide(hz, 0x00, 0x10), 0x70);
     let high = masked(0x0b, narrow_or_wide(hz, 0x80, 0x6b), 0xef);
     let opened = chip::log_open(l, outcomes, room);
-    let progress = opened.progress;
-    let Progress::Going = progress else {
+    let Progress::Going = opened.progress else {
         return chip::log_close(opened, outcomes, room);
     };
     let written = chip::write_two(opened, address, low, high, shadow, doubtful, outcomes, room);
@@ -113,21 +111,20 @@ pub fn set_bandwidth(
 {
     let u = masked(0x0a, width(hz), 0x0f);
     let opened = chip::log_open(l, outcomes, room);
-    let progress = opened.progress;
-    let Progress::Going = progress else {
+    let Progress::Going = opened.progress else {
         return chip::log_close(opened, outcomes, room);
     };
     let written = chip::write_one(opened, address, u, shadow, doubtful, outcomes, room);
     chip::log_close(written, outcomes, room)
 }
 
-pub fn path_updates(path: Path) -> Updates
-    ensures { result ≡ listed (path_updates path) }
+pub fn path_updates(path: Path) -> [Update; 2]
+    ensures { result ≡ path_updates path }
 {
     match path {
-        Path::Hf => chip::two(masked(0x06, 0x08, 0x08), masked(0x05, 0x00, 0x60)),
-        Path::Vhf => chip::two(masked(0x05, 0x40, 0x60), masked(0x06, 0x00, 0x08)),
-        Path::Uhf => chip::two(masked(0x05, 0x20, 0x60), masked(0x06, 0x00, 0x08)),
+        Path::Hf => [masked(0x06, 0x08, 0x08), masked(0x05, 0x00, 0x60)],
+        Path::Vhf => [masked(0x05, 0x40, 0x60), masked(0x06, 0x00, 0x08)],
+        Path::Uhf => [masked(0x05, 0x20, 0x60), masked(0x06, 0x00, 0x08)],
     }
 }
 
@@ -148,8 +145,7 @@ fn gain_by_hand(
 {
     let u = masked(0x05, 0x10, 0x10);
     let l = chip::write_reg_mask_raw(l, address, u, shadow, doubtful, outcomes, room);
-    let progress = l.progress;
-    let Progress::Going = progress else {
+    let Progress::Going = l.progress else {
         return chip::log_close(l, outcomes, room);
     };
     let u = masked(0x07, 0x00, 0x10);
@@ -175,14 +171,12 @@ fn gain_values(
 {
     let u = masked(0x05, cfg.lna, 0x0f);
     let l = chip::write_reg_mask_raw(l, address, u, shadow, doubtful, outcomes, room);
-    let progress = l.progress;
-    let Progress::Going = progress else {
+    let Progress::Going = l.progress else {
         return chip::log_close(l, outcomes, room);
     };
     let u = masked(0x07, cfg.mix, 0x0f);
     let l = chip::write_reg_mask_raw(l, address, u, shadow, doubtful, outcomes, room);
-    let progress = l.progress;
-    let Progress::Going = progress else {
+    let Progress::Going = l.progress else {
         return chip::log_close(l, outcomes, room);
     };
     let u = masked(0x0c, cfg.vga, 0x0f);
@@ -217,37 +211,14 @@ pub fn gain_steps(f: Flow, k: usize, outcomes: &[u8], room: &mut [u8]) -> Flow
     ensures room_after { on_room result room.new ≡ run in_room outcomes.now (while_open (updates (gain_updates k))) (on_room f room.old) }
     ensures bounds { result.log.count + closing_owed result.log.opened ≤ f.log.count + 7 }
 {
-    let chip_state = f.chip;
-    let opened = chip::log_open(f.log, outcomes, room);
-    let progress = opened.progress;
-    let Progress::Going = progress else {
-        let shut = chip::log_close(opened, outcomes, room);
-        return Flow {
-            chip: chip_state,
-            log: shut,
-        };
-    };
-    let mut shadow = chip_state.shadow;
-    let mut doubtful = chip_state.doubtful;
-    let written = gain_writes(
-        opened,
-        chip_state.address,
-        k,
-        &mut shadow,
-        &mut doubtful,
+    chip::bracket(
+        f,
+        |l, address, shadow, doubtful, room| gain_writes(
+            l, address, k, shadow, doubtful, outcomes, room,
+        ),
         outcomes,
         room,
-    );
-    let closed = chip::log_close(written, outcomes, room);
-    let next = Chip {
-        address: chip_state.address,
-        shadow: shadow,
-        doubtful: doubtful,
-    };
-    Flow {
-        chip: next,
-        log: closed,
-    }
+    )
 }
 
 // All 27 registers, in two brackets.
@@ -267,6 +238,6 @@ pub fn initialize(f: Flow, outcomes: &[u8], room: &mut [u8]) -> Flow
     ensures bounds { result.log.count + closing_owed result.log.opened ≤ f.log.count + 19 }
 {
     let sent = send_all(f, INIT_ARRAY, outcomes, room);
-    let set = chip::with_repeater(sent, init_updates(), outcomes, room);
-    chip::with_repeater(set, if_updates(IF_FREQ_NARROW), outcomes, room)
+    let set = chip::with_repeater(sent, &init_updates(), outcomes, room);
+    chip::with_repeater(set, &if_updates(IF_FREQ_NARROW), outcomes, room)
 }

@@ -1,18 +1,19 @@
--- `chip::attempt` meets its contract. The loop's invariant: what is left, from here, gives what all of it gives from the start. Assumes nothing.
-use Rattle.std.proofs.Common.{◌-◌, get_or, refl, ◌∙◌, rules}
-use Rattle.chip.specs.Chips.{chip_of}
-use Rattle.chip.proofs.Attempted.{begin, turn, end, of_attempted}
+-- `chip::attempt` meets its contract: a copy and a fill, each over a part of a list. Assumes nothing.
+use Rattle.std.proofs.Common.{◌≡◌, ℕ, ◌+◌, ◌-◌, ◌≤◌, not, ap, ◌∙◌, replicate, drop, get_or, length, arith, length-take-le, length-drop}
+use Rattle.std.proofs.lemmas.List.{length-replicate}
+use Rattle.chip.proofs.Attempted.{laid}
 use Rattle.chip.proofs.attempt.Goals as goal
-
-pub loop-i-init : goal.loop-i-init
-loop-i-init c = (search rules, (refl, (search rules, begin _ _ _ _ _ refl)))
-
-pub loop-i-preserved : goal.loop-i-preserved
-loop-i-preserved c = (search rules, (refl, (c.loop-i.invariant.1.1.0, turn _ _ _ _ _ _ (search rules) (search rules) ∙ c.loop-i.invariant.1.1.1)))
 
 pub returns : goal.returns
 returns c =
-    let loop = c.loop-i in
-    let args = c.args in
-    of_attempted (chip_of 0 _ _) (chip_of 0 _ _) _ _ _
-    (end _ (get_or args.bytes 0 0 - 5) args.n args.bytes args.ok loop.i (search rules) ∙ loop.invariant.1.1.1)
+    let n = c.args.n in
+    let ok = c.args.ok in
+    let first = get_or c.args.bytes 0 0 - 5 in
+    let k : ℕ = first + n - 1 - first in
+    let many : n - 1 ≡ k = omega arith in
+    let part = drop first c.args.doubtful.now in
+    let fits : k ≤ length part = omega (arith, length-drop first c.args.doubtful.now) in
+    let there : n - 1 ≤ length (drop 1 c.args.bytes) = omega (arith, length-drop 1 c.args.bytes) in (
+      laid _ _ _ _ _ c.copy_from_slice.ensures.after (length-take-le (n - 1) (drop 1 c.args.bytes) there ∙ many) (omega arith),
+      laid _ _ (replicate (n - 1) (not ok)) _ _ (c.fill.ensures.after (λ y e. e) ∙ ap (λ (m : ℕ). replicate m (not ok)) (length-take-le k part fits ∙ omega arith)) (length-replicate (n - 1) (not ok) ∙ many) (omega arith),
+    )

@@ -5,27 +5,6 @@ use Rattle.chip.specs.InCode.{in_room}
 use Rattle.chip.proofs.Chunks.{some, seven, inside, first_register}
 use Rattle.chip.proofs.send_chunk.Goals as goal
 
-pub chunk_bytes-bytes-requires : goal.chunk_bytes-bytes-requires
-chunk_bytes-bytes-requires c =
-    let args = c.args in
-    let pre = c.requires in
-    let k = args.k in
-    let s : 1 ≤ k.size = some k pre.0 in let t : k.size ≤ 7 = seven k pre.0 in let u : k.at + k.size ≤ 27 = inside k pre.0 in omega arith
-
-pub overflow_cast-size : goal.overflow_cast-size
-overflow_cast-size c =
-    let args = c.args in
-    let pre = c.requires in
-    let k = args.k in
-    let s : 1 ≤ k.size = some k pre.0 in let t : k.size ≤ 7 = seven k pre.0 in let u : k.at + k.size ≤ 27 = inside k pre.0 in omega arith
-
-pub overflow_add-size : goal.overflow_add-size
-overflow_add-size c =
-    let args = c.args in
-    let pre = c.requires in
-    let k = args.k in
-    let s : 1 ≤ k.size = some k pre.0 in let t : k.size ≤ 7 = seven k pre.0 in let u : k.at + k.size ≤ 27 = inside k pre.0 in omega arith
-
 pub send-requires : goal.send-requires
 send-requires c =
     let chunk_bytes_lem = c.chunk_bytes-bytes in
@@ -36,7 +15,3 @@ send-requires c =
     let t : k.size ≤ 7 = seven k pre.0 in
     let u : k.at + k.size ≤ 27 = inside k pre.0 in
     let r : get_or chunk_bytes_lem.result 0 0 ≡ 5 + k.at = ap (λ (l : List ℕ). get_or l 0 0) chunk_bytes_lem.ensures ∙ first_register _ _ _ in omega arith
-
-pub returns : goal.returns
-returns c =
-    record { room_after = by_bytes in_room _ _ _ _ _ _ c.chunk_bytes-bytes.ensures c.send.ensures.room_after; bounds = search rules }

@@ -8,19 +8,19 @@ use Rattle.tuning.specs.Mux.{last_at, range_of, ranges}
 use Rattle.tuning.proofs.Rows.{range_turn, range_end}
 use Rattle.tuning.proofs.freq_range.Goals as goal
 
-pub loop-i-init : goal.loop-i-init
+pub loop-r-init : goal.loop-r-init
 unfolding range_of
-loop-i-init c = refl
+loop-r-init c = refl
 
-pub loop-i-preserved : goal.loop-i-preserved
-loop-i-preserved c =
-    let loop = c.loop-i in
-    let args = c.args in
-    ap (λ (r : FreqRange). last_at args.hz r (drop (loop.i + 1) ranges)) c.later-best.ensures
-    ∙ range_turn args.hz loop.best _ loop.i (search rules)
+pub loop-r-preserved : goal.loop-r-preserved
+loop-r-preserved c =
+    let loop = c.loop-r in
+    let hz = c.args.hz in
+    ap (λ (r : FreqRange). last_at hz r (drop (loop.r-index + 1) ranges)) c.later-best.ensures
+    ∙ range_turn hz loop.best _ loop.r-index (search rules)
     ∙ loop.invariant
 
 pub returns : goal.returns
 returns c =
-    let loop = c.loop-i in
-    range_end c.args.hz loop.best loop.i (search rules) ∙ loop.invariant
+    let loop = c.loop-r in
+    range_end c.args.hz loop.best loop.r-index (search rules) ∙ loop.invariant

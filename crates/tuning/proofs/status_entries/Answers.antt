@@ -1,89 +1,26 @@
--- `tuning::status_entries` meets its contract. Its steps one after the other, each looked at. Assumes nothing.
+-- `tuning::status_entries` meets its contract: its steps one after the other, each looked at. Assumes nothing.
 use mathlib.Core.Path.{refl, ap}
-use native.Mathlib.Omega.{arith}
 use Rattle.chip.specs.InCode.{in_room}
 use Rattle.chip.specs.Steps.{every, goes}
 use Rattle.chip.proofs.Laws.{by_entry, cut_here, ended_here, progress_on}
 use Rattle.tuning.proofs.status_entries.Goals as goal
 
-pub log_close-requires : goal.log_close-requires
-log_close-requires c =
-    let log-plain = c.log_plain-waited in
-    omega (arith, log-plain.ensures.bounds, log-plain.auto, c.requires)
-
-pub returns-in_default : goal.returns-in_default
+pub returns-in_default-clause-room_after : goal.returns-in_default-clause-room_after
 unfolding every
-returns-in_default c =
-    let log-close = c.log_close in
-    let log-plain = c.log_plain-waited in
-    record {
-      room_after = λ chip. cut_here in_room _ _ _ _ _ _ (by_entry in_room _ _ _ _ _ c.wait.ensures (log-plain.ensures.room_after chip))
-          (ap goes c.in_default.is) refl (log-close.ensures.room_after chip);
-      bounds = omega (arith, log-plain.ensures.bounds, log-plain.auto, log-close.ensures.bounds, log-close.auto, c.requires);
-    }
+returns-in_default-clause-room_after c = λ chip.
+    cut_here in_room _ _ _ _ _ _ (by_entry in_room _ _ _ _ _ c.wait.ensures (c.log_plain-waited.ensures.room_after chip))
+    (ap goes c.in_default.is) refl (c.log_close.ensures.room_after chip)
 
-pub log_plain-pointed-requires : goal.log_plain-pointed-requires
-log_plain-pointed-requires c =
-    let log-plain = c.log_plain-waited in
-    omega (arith, log-plain.ensures.bounds, log-plain.auto, c.requires)
-
-pub log_close-requires-in_default-progress : goal.log_close-requires-in_default-progress
-log_close-requires-in_default-progress c =
-    let log-plain2 = c.log_plain-pointed in
-    let log-plain = c.log_plain-waited in
-    omega (arith, log-plain.ensures.bounds, log-plain.auto, log-plain2.ensures.bounds, log-plain2.auto, c.requires)
-
-pub returns-in_default-progress : goal.returns-in_default-progress
+pub returns-in_default-progress-clause-room_after : goal.returns-in_default-progress-clause-room_after
 unfolding every
-returns-in_default-progress c =
-    let log-close2 = c.log_close-in_default-progress in
-    let log-plain2 = c.log_plain-pointed in
-    let log-plain = c.log_plain-waited in
-    record {
-      room_after = λ chip. progress_on in_room _ _ _ _ _ _ (by_entry in_room _ _ _ _ _ c.wait.ensures (log-plain.ensures.room_after chip))
-          (cut_here in_room _ _ _ _ _ _ (by_entry in_room _ _ _ _ _ c.pointer.ensures (log-plain2.ensures.room_after chip))
-          (ap goes c.in_default-progress.is) refl (log-close2.ensures.room_after chip));
-      bounds = omega (arith, log-plain.ensures.bounds, log-plain.auto, log-plain2.ensures.bounds, log-plain2.auto, log-close2.ensures.bounds, log-close2.auto, c.requires);
-    }
+returns-in_default-progress-clause-room_after c = λ chip.
+    progress_on in_room _ _ _ _ _ _ (by_entry in_room _ _ _ _ _ c.wait.ensures (c.log_plain-waited.ensures.room_after chip))
+    (cut_here in_room _ _ _ _ _ _ (by_entry in_room _ _ _ _ _ c.pointer.ensures (c.log_plain-pointed.ensures.room_after chip))
+    (ap goes c.in_default-progress.is) refl (c.log_close-in_default-progress.ensures.room_after chip))
 
-pub log_plain-read-requires : goal.log_plain-read-requires
-log_plain-read-requires c =
-    let log-plain2 = c.log_plain-pointed in
-    let log-plain = c.log_plain-waited in
-    omega (arith, log-plain.ensures.bounds, log-plain.auto, log-plain2.ensures.bounds, log-plain2.auto, c.requires)
-
-pub log_end-requires : goal.log_end-requires
-log_end-requires c =
-    let log-plain3 = c.log_plain-read in
-    let log-plain2 = c.log_plain-pointed in
-    let log-plain = c.log_plain-waited in
-    omega (arith, log-plain.ensures.bounds, log-plain.auto, log-plain2.ensures.bounds, log-plain2.auto, log-plain3.ensures.bounds, log-plain3.auto, c.requires)
-
-pub shape_of-room : goal.shape_of-room
-shape_of-room c =
-    omega (arith, c.log_plain-waited.auto, c.log_plain-pointed.auto, c.log_plain-read.auto, c.log_end.auto)
-
-pub returns : goal.returns
-returns c =
-    let log-end = c.log_end in
-    let log-plain3 = c.log_plain-read in
-    let log-plain2 = c.log_plain-pointed in
-    let log-plain = c.log_plain-waited in
-    record {
-      room_after = λ chip. progress_on in_room _ _ _ _ _ _ (by_entry in_room _ _ _ _ _ c.wait.ensures (log-plain.ensures.room_after chip))
-          (progress_on in_room _ _ _ _ _ _ (by_entry in_room _ _ _ _ _ c.pointer.ensures (log-plain2.ensures.room_after chip))
-          (ended_here in_room _ _ _ _ _ (by_entry in_room _ _ _ _ _ c.read_entry.ensures (log-plain3.ensures.room_after chip))
-          (log-end.ensures.room_after chip)));
-      bounds = omega (
-        arith,
-        log-plain.ensures.bounds,
-        log-plain.auto,
-        log-plain2.ensures.bounds,
-        log-plain2.auto,
-        log-plain3.ensures.bounds,
-        log-plain3.auto,
-        log-end.ensures.bounds,
-        log-end.auto,
-        c.requires,
-      );
-    }
+pub returns-clause-room_after : goal.returns-clause-room_after
+returns-clause-room_after c = λ chip.
+    progress_on in_room _ _ _ _ _ _ (by_entry in_room _ _ _ _ _ c.wait.ensures (c.log_plain-waited.ensures.room_after chip))
+    (progress_on in_room _ _ _ _ _ _ (by_entry in_room _ _ _ _ _ c.pointer.ensures (c.log_plain-pointed.ensures.room_after chip))
+    (ended_here in_room _ _ _ _ _ (by_entry in_room _ _ _ _ _ c.read_entry.ensures (c.log_plain-read.ensures.room_after chip))
+    (c.log_end.ensures.room_after chip)))

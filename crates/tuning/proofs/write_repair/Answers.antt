@@ -1,23 +1,18 @@
 -- `tuning::write_repair` meets its contract: the one write, or none. Assumes nothing.
-use mathlib.Core.Path.{ap}
-use native.Mathlib.Omega.{arith}
+use mathlib.Core.Path.{ap, sym, ◌∙◌}
+use mathlib.Core.List.{List, [], ◌∷◌}
+use Prim.Native.Nat.{ℕ}
+use Rattle.std.specs.Prelude.{Option}
 use Rattle.chip.specs.InCode.{in_room}
-use Rattle.chip.specs.Steps.{in_range}
-use Rattle.chip.proofs.Laws.{swap}
-use Rattle.tuning.proofs.Turns.{fix_made, no_fix}
+use Rattle.chip.specs.Steps.{updates}
+use Rattle.chip.proofs.Laws.{ended, swap}
+use Rattle.tuning.specs.InCode.{fix_updates}
 use Rattle.tuning.proofs.write_repair.Goals as goal
 
-pub write_one-requires : goal.write_one-requires
-write_one-requires c =
-    let pre = c.requires in
-    (ap in_range c.masked-u.ensures, omega (arith, pre.0), omega (arith, pre.1))
+pub returns-in_default-clause-room_after : goal.returns-in_default-clause-room_after
+returns-in_default-clause-room_after c =
+    swap in_room _ _ _ _ _ (sym (ap (λ (o : Option ℕ). updates (fix_updates o)) c.in_default.is)) (ended in_room _ _ _ (c.log_end.ensures.room_after _))
 
-pub returns-then-fix : goal.returns-then-fix
-returns-then-fix c =
-    let write-one = c.write_one in
-    record { room_after = swap in_room _ _ _ _ _ (fix_made _ _ c.if-fix.true c.masked-u.ensures) write-one.ensures.room_after; bounds = write-one.ensures.bounds }
-
-pub returns : goal.returns
-returns c =
-    let log-end = c.log_end in
-    record { room_after = no_fix in_room _ _ _ _ c.if-fix.false (log-end.ensures.room_after _); bounds = omega (arith, log-end.ensures.bounds) }
+pub returns-clause-room_after : goal.returns-clause-room_after
+returns-clause-room_after c =
+    swap in_room _ _ _ _ _ ((λ i. updates (c.masked-u.ensures i ∷ [])) ∙ sym (ap (λ (o : Option ℕ). updates (fix_updates o)) c.in-Some.is)) c.write_one.ensures.room_after

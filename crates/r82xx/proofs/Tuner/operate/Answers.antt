@@ -6,7 +6,7 @@ use Rattle.r82xx.specs.Record.{ended_by, sound}
 use Rattle.chip.proofs.Refusals.{taken_by}
 use Rattle.r82xx.proofs.Whole.{bracket_eight, perform_by, refuse_by, same_ended}
 use lib.ListN.{length}
-use Rattle.chip.specs.InCode.{Logged, in_room, meant_of}
+use Rattle.chip.specs.InCode.{Logged, in_room}
 use Rattle.chip.specs.Steps.{Line, run, while_open, updates}
 use Rattle.r82xx.specs.Orders.{bracket}
 use Rattle.chip.specs.Courses.{left_by}
@@ -27,7 +27,7 @@ with_repeater-f-requires c =
     let args = c.args in
     let pre = c.requires in
     let z =
-    taken_by (sound args.self) 0 (args.us.n + 2) 0 (length args.room.now) (length args.outcomes.now) 0
+    taken_by (sound args.self) 0 (length args.us.now + 2) 0 (length args.room.now) (length args.outcomes.now) 0
     (sym c.refusal-number.ensures ∙ c.if-number-ne0.false) in
     let one = z.lent.rooms in let two = z.lent.outs in (omega (arith, pre.0), pre.1, omega arith, omega arith)
 
@@ -36,7 +36,7 @@ ended-requires c =
     let with-repeater = c.with_repeater-f in
     let args = c.args in
     let z =
-    taken_by (sound args.self) 0 (args.us.n + 2) 0 (length args.room.now) (length args.outcomes.now) 0
+    taken_by (sound args.self) 0 (length args.us.now + 2) 0 (length args.room.now) (length args.outcomes.now) 0
     (sym c.refusal-number.ensures ∙ c.if-number-ne0.false) in
     let one = z.lent.rooms in
     let two = z.lent.outs in (omega (arith, c.requires.0, with-repeater.ensures.bounds), omega (arith, with-repeater.ensures.bounds, with-repeater.auto))
@@ -46,7 +46,7 @@ unfolding left_by bracket
 returns c =
     let with-repeater = c.with_repeater-f in
     let args = c.args in
-    let us = meant_of args.us in
+    let us = args.us.now in
     let next = args.next in
     c.ended.ensures
     ∙ perform_by _ _ _ _ (while_open (updates us)) _ _ (λ (w : Line Logged). ended_by next next w.progress w.chip) _ _ _ with-repeater.result _ _ _

@@ -1,7 +1,8 @@
 -- `r82xx::Tuner::set_bandwidth` meets its contract. Each return is one law of the definition, with what the calls before it ensure. Assumes nothing.
-use mathlib.Core.Path.{refl}
+use mathlib.Core.Path.{refl, ap, ◌∙◌}
 use native.Mathlib.Omega.{arith}
-use Rattle.chip.proofs.Lists.{meant_count, meant_in}
+use lib.ListN.{length}
+use Rattle.chip.specs.Steps.{all_in}
 use Rattle.writes.specs.Lists.{bandwidth_updates}
 use Rattle.writes.proofs.Lists.{bandwidth_in}
 use Rattle.r82xx.proofs.Whole.{bracket_by}
@@ -11,12 +12,8 @@ use Rattle.r82xx.proofs.Tuner.set_bandwidth.Goals as goal
 
 pub operate-requires : goal.operate-requires
 operate-requires c =
-    let bandwidth-updates = c.bandwidth_updates-us in
-    let args = c.args in
-    let the-bandwidth-updates = bandwidth_updates args.hz in (
-      omega (arith, meant_count the-bandwidth-updates _ bandwidth-updates.ensures),
-      meant_in the-bandwidth-updates _ bandwidth-updates.ensures (bandwidth_in args.hz),
-    )
+    let us = c.bandwidth_updates-us.ensures in
+    (omega (arith, ap length us), ap all_in us ∙ bandwidth_in c.args.hz)
 
 pub returns : goal.returns
 unfolding result_of

@@ -1,7 +1,8 @@
 -- `r82xx::Tuner::set_if_freq` meets its contract. Each return is one law of the definition, with what the calls before it ensure. Assumes nothing.
-use mathlib.Core.Path.{refl}
+use mathlib.Core.Path.{refl, ap, ◌∙◌}
 use native.Mathlib.Omega.{arith}
-use Rattle.chip.proofs.Lists.{meant_count, meant_in}
+use lib.ListN.{length}
+use Rattle.chip.specs.Steps.{all_in}
 use Rattle.writes.specs.Lists.{if_updates}
 use Rattle.writes.proofs.Lists.{if_in}
 use Rattle.r82xx.proofs.Whole.{bracket_by}
@@ -12,9 +13,8 @@ use Rattle.r82xx.proofs.Tuner.set_if_freq.Goals as goal
 
 pub operate-requires : goal.operate-requires
 operate-requires c =
-    let if-updates = c.if_updates-us in
-    let args = c.args in
-    (omega (arith, meant_count (if_updates args.hz) _ if-updates.ensures), meant_in (if_updates args.hz) _ if-updates.ensures (if_in args.hz))
+    let us = c.if_updates-us.ensures in
+    (omega (arith, ap length us), ap all_in us ∙ if_in c.args.hz)
 
 pub returns : goal.returns
 unfolding result_of

@@ -1,7 +1,9 @@
 -- `r82xx::Tuner::set_input_path` meets its contract. Each return is one law of the definition, with what the calls before it ensure. Assumes nothing.
-use mathlib.Core.Path.{sym, ◌∙◌}
+use mathlib.Core.Path.{sym, ap, ◌∙◌}
 use native.Mathlib.Omega.{arith}
-use Rattle.writes.proofs.Lists.{path_meant_in, path_meant_two}
+use lib.ListN.{length}
+use Rattle.chip.specs.Steps.{all_in}
+use Rattle.writes.proofs.Lists.{path_in, path_two}
 use Rattle.r82xx.proofs.Tuned.{path_by, path_none, path_still}
 use Rattle.r82xx.specs.Orders.{result_of}
 use Rattle.r82xx.proofs.Tuner.set_input_path.Goals as goal
@@ -13,8 +15,8 @@ returns-in_default c =
 
 pub operate-requires : goal.operate-requires
 operate-requires c =
-    let path-updates = c.path_updates in
-    (omega (arith, path_meant_two c.in-Some.by _ path-updates.ensures), path_meant_in c.in-Some.by _ path-updates.ensures)
+    let us = c.path_updates.ensures in
+    (omega (arith, ap length us ∙ path_two c.in-Some.by), ap all_in us ∙ path_in c.in-Some.by)
 
 pub returns-in-R820T : goal.returns-in-R820T
 unfolding result_of
