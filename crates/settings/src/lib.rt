@@ -170,7 +170,7 @@ pub fn read_1(s: &[u8]) -> Read
     }
     Read {
         refusal: 0,
-        settings: settings,
+        settings,
     }
 }
 
@@ -195,6 +195,7 @@ fn seal(image: &mut [u8], at: usize, edition: u8)
     wire::put(image, at, edition as u64 + 65536 * (at as u64), 4);
 }
 
+// Beside image_2: one function over the size is no plainer, since edition 2 puts its IF between the two calls that they share.
 fn image_1(s: Settings) -> [u8; 23]
     ensures { result ≡ image1 s }
 {
@@ -212,6 +213,7 @@ pub fn write_1(s: Settings, out: &mut [u8]) -> Answer
     refusals::lend(s.refusal(), IMAGE_1 as u64, &image, out)
 }
 
+// Beside told_2: what each fills is a struct of the C interface.
 pub fn told_1(read: Read) -> Reply1
     ensures { result ≡ told_of1 read }
 {
@@ -259,7 +261,7 @@ fn read_only_2(s: &[u8]) -> Read2
     Read2 {
         refusal: 0,
         settings: Settings2 {
-            settings: settings,
+            settings,
             ifreq: wire::four(s, at + FIELDS_1),
         },
     }
@@ -276,7 +278,7 @@ fn widen(read: Read) -> Read2
     Read2 {
         refusal: 0,
         settings: Settings2 {
-            settings: settings,
+            settings,
             ifreq: USUAL_IF,
         },
     }
@@ -337,7 +339,7 @@ pub fn move_1_to_2(s: &[u8], out: &mut [u8]) -> Answer
     let read = read_1(s);
     let settings = read.settings;
     let image = image_2(Settings2 {
-        settings: settings,
+        settings,
         ifreq: USUAL_IF,
     });
     refusals::lend(read.refusal, IMAGE_2 as u64, &image, out)

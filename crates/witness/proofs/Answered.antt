@@ -30,6 +30,7 @@ use Rattle.evidence.specs.Evidence.{chip_byte, demod_byte, if_mark, if_places, i
 use Rattle.witness.specs.declared.Marks.{Marks}
 use Rattle.witness.specs.declared.Numbers.{Numbers}
 use Rattle.witness.specs.declared.Seen.{Seen}
+use Rattle.witness.specs.declared.Stage.TheVariants.{Open}
 use Rattle.witness.specs.declared.Waiting.{Waiting}
 use Rattle.witness.specs.Walk.{demod_in, place_of, seen, seen_all, waited_all, waiting}
 use Rattle.witness.specs.Answer.{answer_bytes, evidence_bytes, evidence_into, marks_of, numbers_of, parts, refusal_by, widths}
@@ -155,7 +156,7 @@ module _ (es : List Entry) (demod : List Known) (long : length demod ≡ 32) (af
 -- ---- the call
 
 abbrev pub nothing : Seen
-nothing = seen blank blank (waiting 0 0 0)
+nothing = seen blank blank (waiting Open 0 0)
 
 module _ (address : ℕ) (es : List Entry) (all : Seen) (after : all ≡ seen_all address es nothing) where
   chip_after_lem : all.chip ≡ over (known_in address es) 0 blank
@@ -172,7 +173,7 @@ module _ (address : ℕ) (es : List Entry) (all : Seen) (after : all ≡ seen_al
   ld : length all.demod ≡ 32
   ld = ap length demod_after ∙ over_long (demod_in es) 0 blank
 
-  waiting_after : all.waiting ≡ waited_all address es (waiting 0 0 0)
+  waiting_after : all.waiting ≡ waited_all address es (waiting Open 0 0)
   unfolding seen_all
   waiting_after = ap (λ (s : Seen). s.waiting) after
 

@@ -12,7 +12,9 @@ use Rattle.attempts.specs.Attempts.{names}
 use Rattle.chip.specs.Entries.{lock_bit}
 use Rattle.evidence.specs.Evidence.{lock_from, lock_mark, oscillator, planned, touches, tries_from, tries_of, try_of}
 use Rattle.witness.specs.declared.Waiting.{Waiting}
-use Rattle.witness.specs.Walk.{most, waited_all, waited_by, waiting}
+use Rattle.witness.specs.declared.Stage.TheVariants.{Open, Ended, Counted}
+use Rattle.witness.specs.declared.Stage.{Stage}
+use Rattle.witness.specs.Walk.{is_counted, is_open, most, waited_all, waited_by, waiting}
 
 pub waits_both : (address : ℕ) (xs ys : List Entry) (w : Waiting) → waited_all address xs (waited_all address ys w) ≡ waited_all address (xs ++ ys) w
 unfolding waited_all
@@ -36,45 +38,43 @@ writes_same address e = written (names address e 0x10) (names address e 0x12) (n
 
 -- ---- one entry, by its tests: a write of the plan's registers (p), of 0x12 (n), a try (t) and its bit
 
-abbrev after : ℕ → ℕ → ℕ → Bool → Bool → Bool → Bool → Waiting
+abbrev after : Stage → ℕ → ℕ → Bool → Bool → Bool → Bool → Waiting
 after stage lock tries p n t bit =
-    cond (eqb stage 2) (waiting stage lock tries)
-    (waiting (cond p 2 (cond ((p || n) || t) 1 stage))
-    (cond (eqb stage 0) (cond (p || n) 0 (cond t (cond bit 2 1) 0)) lock)
+    cond (is_counted stage) (waiting stage lock tries)
+    (waiting (cond p Counted (cond ((p || n) || t) Ended stage))
+    (cond (is_open stage) (cond (p || n) 0 (cond t (cond bit 2 1) 0)) lock)
     (cond p tries (cond t (most (tries + 1)) tries)))
 
 -- what is told of the lock, where `mark` was before; and of the tries, where `count` were
 abbrev lock_or : ℕ → Waiting → ℕ
-lock_or mark w = cond (eqb w.stage 0) mark w.lock
+lock_or mark w = cond (is_open w.stage) mark w.lock
 
 abbrev tries_or : ℕ → Waiting → ℕ
-tries_or count w = cond (eqb w.stage 2) w.tries (most (count + w.tries))
+tries_or count w = cond (is_counted w.stage) w.tries (most (count + w.tries))
 
-lock_after : (stage lock tries mark : ℕ) (p n t bit : Bool) → stage ≤ 2
-    → cond (eqb stage 0) (cond (p || n) 0 (cond t (cond bit 2 1) mark)) lock ≡ lock_or mark (after stage lock tries p n t bit)
-lock_after zero lock tries mark true n t bit h = refl
-lock_after zero lock tries mark false true t bit h = refl
-lock_after zero lock tries mark false false true bit h = refl
-lock_after zero lock tries mark false false false bit h = refl
-lock_after (suc zero) lock tries mark true n t bit h = refl
-lock_after (suc zero) lock tries mark false true t bit h = refl
-lock_after (suc zero) lock tries mark false false true bit h = refl
-lock_after (suc zero) lock tries mark false false false bit h = refl
-lock_after (suc (suc zero)) lock tries mark p n t bit h = refl
-lock_after (suc (suc (suc k))) lock tries mark p n t bit h = absurd (omega arith)
+lock_after : (stage : Stage) (lock tries mark : ℕ) (p n t bit : Bool)
+    → cond (is_open stage) (cond (p || n) 0 (cond t (cond bit 2 1) mark)) lock ≡ lock_or mark (after stage lock tries p n t bit)
+lock_after Open lock tries mark true n t bit = refl
+lock_after Open lock tries mark false true t bit = refl
+lock_after Open lock tries mark false false true bit = refl
+lock_after Open lock tries mark false false false bit = refl
+lock_after Ended lock tries mark true n t bit = refl
+lock_after Ended lock tries mark false true t bit = refl
+lock_after Ended lock tries mark false false true bit = refl
+lock_after Ended lock tries mark false false false bit = refl
+lock_after Counted lock tries mark p n t bit = refl
 
 -- a lock of which nothing is told is 0
-lock_idle : (stage lock tries : ℕ) (p n t bit : Bool) → stage ≤ 2 → lock_or 0 (after stage lock tries p n t bit) ≡ (after stage lock tries p n t bit).lock
-lock_idle zero lock tries true n t bit h = refl
-lock_idle zero lock tries false true t bit h = refl
-lock_idle zero lock tries false false true bit h = refl
-lock_idle zero lock tries false false false bit h = refl
-lock_idle (suc zero) lock tries true n t bit h = refl
-lock_idle (suc zero) lock tries false true t bit h = refl
-lock_idle (suc zero) lock tries false false true bit h = refl
-lock_idle (suc zero) lock tries false false false bit h = refl
-lock_idle (suc (suc zero)) lock tries p n t bit h = refl
-lock_idle (suc (suc (suc k))) lock tries p n t bit h = absurd (omega arith)
+lock_idle : (stage : Stage) (lock tries : ℕ) (p n t bit : Bool) → lock_or 0 (after stage lock tries p n t bit) ≡ (after stage lock tries p n t bit).lock
+lock_idle Open lock tries true n t bit = refl
+lock_idle Open lock tries false true t bit = refl
+lock_idle Open lock tries false false true bit = refl
+lock_idle Open lock tries false false false bit = refl
+lock_idle Ended lock tries true n t bit = refl
+lock_idle Ended lock tries false true t bit = refl
+lock_idle Ended lock tries false false true bit = refl
+lock_idle Ended lock tries false false false bit = refl
+lock_idle Counted lock tries p n t bit = refl
 
 most_more : (count m : ℕ) → most (count + most m) ≡ most (count + m)
 most_more count m = go (ltb m 4_294_967_295) refl
@@ -93,46 +93,32 @@ more count tries =
 most_twice : (m : ℕ) → most (most m) ≡ most m
 most_twice m = ap most (sym (zero-add (most m))) ∙ most_more 0 m ∙ ap most (zero-add m)
 
-tries_after : (stage lock tries count : ℕ) (p n t bit : Bool) → stage ≤ 2 → most tries ≡ tries
+tries_after : (stage : Stage) (lock tries count : ℕ) (p n t bit : Bool) → most tries ≡ tries
     → tries_or (cond p 0 (cond t (count + 1) count)) (waiting stage lock tries) ≡ tries_or count (after stage lock tries p n t bit)
-tries_after zero lock tries count true n t bit h m = ap most (zero-add tries) ∙ m
-tries_after zero lock tries count false true true bit h m = more count tries
-tries_after zero lock tries count false true false bit h m = refl
-tries_after zero lock tries count false false true bit h m = more count tries
-tries_after zero lock tries count false false false bit h m = refl
-tries_after (suc zero) lock tries count true n t bit h m = ap most (zero-add tries) ∙ m
-tries_after (suc zero) lock tries count false true true bit h m = more count tries
-tries_after (suc zero) lock tries count false true false bit h m = refl
-tries_after (suc zero) lock tries count false false true bit h m = more count tries
-tries_after (suc zero) lock tries count false false false bit h m = refl
-tries_after (suc (suc zero)) lock tries count p n t bit h m = refl
-tries_after (suc (suc (suc k))) lock tries count p n t bit h m = absurd (omega arith)
+tries_after Open lock tries count true n t bit m = ap most (zero-add tries) ∙ m
+tries_after Open lock tries count false true true bit m = more count tries
+tries_after Open lock tries count false true false bit m = refl
+tries_after Open lock tries count false false true bit m = more count tries
+tries_after Open lock tries count false false false bit m = refl
+tries_after Ended lock tries count true n t bit m = ap most (zero-add tries) ∙ m
+tries_after Ended lock tries count false true true bit m = more count tries
+tries_after Ended lock tries count false true false bit m = refl
+tries_after Ended lock tries count false false true bit m = more count tries
+tries_after Ended lock tries count false false false bit m = refl
+tries_after Counted lock tries count p n t bit m = refl
 
 -- ---- all entries
 
 record Proper (w : Waiting) : Type 0 where
-  stage : w.stage ≤ 2
   tries : most w.tries ≡ w.tries
   idle : lock_or 0 w ≡ w.lock
 
-stage_after : (stage lock tries : ℕ) (p n t bit : Bool) → stage ≤ 2 → (after stage lock tries p n t bit).stage ≤ 2
-stage_after zero lock tries true n t bit h = omega arith
-stage_after zero lock tries false true t bit h = omega arith
-stage_after zero lock tries false false true bit h = omega arith
-stage_after zero lock tries false false false bit h = omega arith
-stage_after (suc zero) lock tries true n t bit h = omega arith
-stage_after (suc zero) lock tries false true t bit h = omega arith
-stage_after (suc zero) lock tries false false true bit h = omega arith
-stage_after (suc zero) lock tries false false false bit h = omega arith
-stage_after (suc (suc zero)) lock tries p n t bit h = omega arith
-stage_after (suc (suc (suc k))) lock tries p n t bit h = absurd (omega arith)
-
-count_after : (stage lock tries : ℕ) (p n t bit : Bool) → most tries ≡ tries → most (after stage lock tries p n t bit).tries ≡ (after stage lock tries p n t bit).tries
-count_after stage lock tries p n t bit m = go (eqb stage 2) p t
+count_after : (stage : Stage) (lock tries : ℕ) (p n t bit : Bool) → most tries ≡ tries → most (after stage lock tries p n t bit).tries ≡ (after stage lock tries p n t bit).tries
+count_after stage lock tries p n t bit m = go (is_counted stage) p t
   where
     go : (b p t : Bool)
-        → most (cond b (waiting stage lock tries) (waiting (cond p 2 (cond ((p || n) || t) 1 stage)) (cond (eqb stage 0) (cond (p || n) 0 (cond t (cond bit 2 1) 0)) lock) (cond p tries (cond t (most (tries + 1)) tries)))).tries
-        ≡ (cond b (waiting stage lock tries) (waiting (cond p 2 (cond ((p || n) || t) 1 stage)) (cond (eqb stage 0) (cond (p || n) 0 (cond t (cond bit 2 1) 0)) lock) (cond p tries (cond t (most (tries + 1)) tries)))).tries
+        → most (cond b (waiting stage lock tries) (waiting (cond p Counted (cond ((p || n) || t) Ended stage)) (cond (is_open stage) (cond (p || n) 0 (cond t (cond bit 2 1) 0)) lock) (cond p tries (cond t (most (tries + 1)) tries)))).tries
+        ≡ (cond b (waiting stage lock tries) (waiting (cond p Counted (cond ((p || n) || t) Ended stage)) (cond (is_open stage) (cond (p || n) 0 (cond t (cond bit 2 1) 0)) lock) (cond p tries (cond t (most (tries + 1)) tries)))).tries
     go true p t = m
     go false true t = m
     go false false true = most_twice (tries + 1)
@@ -140,7 +126,7 @@ count_after stage lock tries p n t bit m = go (eqb stage 2) p t
 
 module _ (address : ℕ) where
   abbrev pub told : List Entry → Waiting
-  told es = waited_all address es (waiting 0 0 0)
+  told es = waited_all address es (waiting Open 0 0)
 
   by_tests : (e : Entry) (w : Waiting) → waited_by address e w ≡ after w.stage w.lock w.tries (touches address planned e) (names address e 0x12) (try_of address e) (lock_bit e)
   unfolding waited_by
@@ -148,7 +134,7 @@ module _ (address : ℕ) where
 
   proper : (es : List Entry) → Proper (told es)
   unfolding waited_all
-  proper [] = record { stage = omega arith; tries = refl; idle = refl }
+  proper [] = record { tries = refl; idle = refl }
   proper (e ∷ es) = step (told es) (proper es)
     where
       step : (w : Waiting) → Proper w → Proper (waited_by address e w)
@@ -159,9 +145,8 @@ module _ (address : ℕ) where
           let b = lock_bit e in
           rw (by_tests e w)
           record {
-            stage = stage_after w.stage w.lock w.tries s n t b p.stage;
             tries = count_after w.stage w.lock w.tries s n t b p.tries;
-            idle = lock_idle w.stage w.lock w.tries s n t b p.stage;
+            idle = lock_idle w.stage w.lock w.tries s n t b;
           }
 
   locks : (es : List Entry) (mark : ℕ) → lock_from address mark es ≡ lock_or mark (told es)
@@ -171,7 +156,7 @@ module _ (address : ℕ) where
       let w = told es in
       locks es (cond (touches address oscillator e) 0 (cond (try_of address e) (cond (lock_bit e) 2 1) mark))
       ∙ ap (λ (x : Bool). lock_or (cond x 0 (cond (try_of address e) (cond (lock_bit e) 2 1) mark)) w) (sym (writes_same address e))
-      ∙ lock_after w.stage w.lock w.tries mark (touches address planned e) (names address e 0x12) (try_of address e) (lock_bit e) (proper es).stage
+      ∙ lock_after w.stage w.lock w.tries mark (touches address planned e) (names address e 0x12) (try_of address e) (lock_bit e)
       ∙ ap (lock_or mark) (sym (by_tests e w))
 
   counts : (es : List Entry) (count : ℕ) → most (tries_from address count es) ≡ tries_or count (told es)
@@ -182,14 +167,14 @@ module _ (address : ℕ) where
   counts (e ∷ es) count =
       let w = told es in
       counts es (cond (touches address planned e) 0 (cond (try_of address e) (count + 1) count))
-      ∙ tries_after w.stage w.lock w.tries count (touches address planned e) (names address e 0x12) (try_of address e) (lock_bit e) (proper es).stage (proper es).tries
+      ∙ tries_after w.stage w.lock w.tries count (touches address planned e) (names address e 0x12) (try_of address e) (lock_bit e) (proper es).tries
       ∙ ap (tries_or count) (sym (by_tests e w))
 
   pub lock_told : (es : List Entry) → (told es).lock ≡ lock_mark address es
   lock_told es = sym (locks es 0 ∙ (proper es).idle)
 
   pub tries_told : (es : List Entry) → (told es).tries ≡ most (tries_of address es)
-  tries_told es = sym (counts es 0 ∙ go (eqb (told es).stage 2))
+  tries_told es = sym (counts es 0 ∙ go (is_counted (told es).stage))
     where
       go : (b : Bool) → cond b (told es).tries (most (0 + (told es).tries)) ≡ (told es).tries
       go true = refl

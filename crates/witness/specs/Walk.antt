@@ -1,7 +1,7 @@
 -- What the walk from the end of sections gathers, newest first: of the chip's registers as crate restoring's walk, of the demodulator's beside it, and how
 -- the waiting for the lock ended. What the entries tell stands in crate evidence.
 -- Assumes nothing.
-use Rattle.std.specs.Prelude.{ℕ, ◌+◌, cond, ◌&&◌, ◌||◌, List, [], ◌∷◌, eqb, leb, ltb, get_or, None}
+use Rattle.std.specs.Prelude.{ℕ, ◌+◌, Bool, true, false, cond, ◌&&◌, ◌||◌, List, [], ◌∷◌, eqb, leb, ltb, get_or, None}
 use Rattle.transcript.specs.declared.Entry.{Entry}
 use Rattle.attempts.specs.Attempts.{names}
 use Rattle.chip.specs.Entries.{lock_bit}
@@ -9,6 +9,8 @@ use Rattle.restoring.specs.Standing.{Known, known_in, known_of, over}
 use Rattle.evidence.specs.Demodulator.{last_at}
 use Rattle.evidence.specs.Evidence.{planned, touches, try_of}
 use Rattle.witness.specs.declared.Seen.{Seen}
+use Rattle.witness.specs.declared.Stage.{Stage}
+use Rattle.witness.specs.declared.Stage.TheVariants.{Open, Ended, Counted}
 use Rattle.witness.specs.declared.Waiting.{Waiting}
 
 -- ---- the demodulator's registers, in slots 8 to 15
@@ -24,8 +26,18 @@ demod_in es k = cond (leb 8 k && ltb k 16) (known_of (last_at es (place_of k))) 
 
 -- ---- the waiting
 
--- stage 0: nothing is told yet; 1: how it ended; 2: how many tries it took too, so that nothing older counts
-abbrev pub waiting : ℕ → ℕ → ℕ → Waiting
+-- nothing is told yet: Open; how it ended: Ended; how many tries it took too, so that nothing older counts: Counted
+abbrev pub is_open : Stage → Bool
+is_open Open = true
+is_open Ended = false
+is_open Counted = false
+
+abbrev pub is_counted : Stage → Bool
+is_counted Open = false
+is_counted Ended = false
+is_counted Counted = true
+
+abbrev pub waiting : Stage → ℕ → ℕ → Waiting
 waiting stage lock tries = record { stage = stage; lock = lock; tries = tries }
 
 -- "a count past u32 saturates"
@@ -37,9 +49,9 @@ waited_by address e w =
     let plans = touches address planned e in
     let writes = plans || names address e 0x12 in
     let tries = try_of address e in
-    cond (eqb w.stage 2) w
-    (waiting (cond plans 2 (cond (writes || tries) 1 w.stage))
-    (cond (eqb w.stage 0) (cond writes 0 (cond tries (cond (lock_bit e) 2 1) 0)) w.lock)
+    cond (is_counted w.stage) w
+    (waiting (cond plans Counted (cond (writes || tries) Ended w.stage))
+    (cond (is_open w.stage) (cond writes 0 (cond tries (cond (lock_bit e) 2 1) 0)) w.lock)
     (cond plans w.tries (cond tries (most (w.tries + 1)) w.tries)))
 
 -- the last entry first

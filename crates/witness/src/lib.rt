@@ -19,7 +19,8 @@ ghost use Rattle.status.specs.Reversal.{locked_by};
 ghost use Rattle.restoring.specs.Standing.{byte_of, only, over};
 ghost use Rattle.evidence.specs.Demodulator as demod;
 ghost use Rattle.evidence.specs.Evidence.{centre_of, lo_units, planned, touches, try_of};
-ghost use Rattle.witness.specs.Walk.{demod_in, most, place_of, seen_all, waited_by};
+ghost use Rattle.witness.specs.Walk.{demod_in, is_open, most, place_of, seen_all, waited_by};
+ghost use Rattle.witness.specs.declared.Stage.TheVariants.{Counted, Ended};
 ghost use Rattle.witness.specs.Answer.{answer_bytes, centre_mark, evidence_into, if_sure};
 ghost use Rattle.witness.specs.InCode.{all_are, mark_from, mark_known, marks_in, numbers_in};
 
@@ -105,10 +106,18 @@ fn noted_demod(e: Entry, known: &mut [Option<Sent>; 32])
     }
 }
 
+// How far back the waiting is told: nothing yet; how it ended; how many tries it took too, so that nothing older counts.
+#[derive(Clone, Copy)]
+pub enum Stage {
+    Open,
+    Ended,
+    Counted,
+}
+
 // How the waiting for the lock ended.
 #[derive(Clone, Copy)]
 pub struct Waiting {
-    pub stage: u8,
+    pub stage: Stage,
     pub lock: u8,
     pub tries: u32,
 }
@@ -157,13 +166,13 @@ fn tried(e: Entry, address: u8) -> bool
     (e.kind == transcript::I2C_READ) & (e.n == 3) & (e.outcome == 0) & (e.target == address)
 }
 
-fn stage_after(stage: u8, plan: bool, told: bool) -> u8
-    ensures { result ≡ cond plan 2 (cond told 1 stage) }
+fn stage_after(stage: Stage, plan: bool, told: bool) -> Stage
+    ensures { result ≡ cond plan Counted (cond told Ended stage) }
 {
     if plan {
-        return 2;
+        return Stage::Counted;
     }
-    if told { 1 } else { stage }
+    if told { Stage::Ended } else { stage }
 }
 
 fn lock_told(write: bool, read: bool, bit: bool) -> u8
@@ -196,19 +205,19 @@ fn tries_after(count: u32, plan: bool, read: bool) -> u32
 }
 
 fn lock_after(w: Waiting, write: bool, read: bool, byte: u8) -> u8
-    ensures { result ≡ cond (eqb w.stage 0) (cond write 0 (cond read (cond (locked_by byte) 2 1) 0)) w.lock }
+    ensures { result ≡ cond (is_open w.stage) (cond write 0 (cond read (cond (locked_by byte) 2 1) 0)) w.lock }
 {
-    if w.stage != 0 {
-        return w.lock;
+    match w.stage {
+        Stage::Open => lock_told(write, read, status::locks(byte)),
+        _ => w.lock,
     }
-    lock_told(write, read, status::locks(byte))
 }
 
 // One entry more, older than those before it.
 fn waited(w: Waiting, e: Entry, address: u8) -> Waiting
     ensures { result ≡ waited_by address e w }
 {
-    if w.stage == 2 {
+    if let Stage::Counted = w.stage {
         return w;
     }
     let plan = plans(e, address);
@@ -394,8 +403,8 @@ fn numbers_in(seen: &Seen, r: u32, xtal: u32) -> Numbers
     Numbers {
         tries: seen.waiting.tries,
         ddc: byte_of(demod[8]),
-        word: word,
-        ratio: ratio,
+        word,
+        ratio,
         rate: rate_of(xtal, ratio),
         oscillator: units(
             r,
@@ -481,7 +490,7 @@ pub fn evidence(sections: &[u8], address: u8, r: u32, xtal: u32, out: &mut [u8])
         chip: [None; 32],
         demod: [None; 32],
         waiting: Waiting {
-            stage: 0,
+            stage: Stage::Open,
             lock: 0,
             tries: 0,
         },

@@ -1,17 +1,24 @@
 -- `witness::waited` meets its contract.
 -- Assumes nothing.
-use borrow.Author.Tests.{eq-eqb, ne_eqb}
-use Rattle.witness.specs.Walk.{waited_by}
+use mathlib.Core.Path.{◌≡◌, refl}
+use mathlib.Core.Bool.{false}
+use Rattle.witness.specs.declared.Stage.{Stage}
+use Rattle.witness.specs.declared.Stage.TheVariants.{Counted, Ended, Open}
+use Rattle.witness.specs.Walk.{is_counted, waited_by}
 use Rattle.witness.proofs.waited.Goals as goal
 
-pub returns-then-w-eq2 : goal.returns-then-w-eq2
+not_counted : (s : Stage) → (s ≡ Counted → ⊥) → is_counted s ≡ false
+not_counted Open h = refl
+not_counted Ended h = refl
+not_counted Counted h = absurd (h refl)
+
+pub returns-in-Counted : goal.returns-in-Counted
 unfolding waited_by
-returns-then-w-eq2 c = rw (eq-eqb c.args.w.stage 2 c.if-w-eq2.true)
+returns-in-Counted c = rw c.in-Counted.is
 
 pub returns : goal.returns
 unfolding waited_by
 returns c =
-    let a = c.args in
     rw (
       c.tries_after.ensures,
       c.lock_after.ensures,
@@ -19,5 +26,5 @@ returns c =
       c.tried-read.ensures,
       c.names.ensures,
       c.plans-plan.ensures,
-      ne_eqb a.w.stage 2 c.if-w-eq2.false,
+      not_counted c.args.w.stage c.in_default.not-Counted,
     )
