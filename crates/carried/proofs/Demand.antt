@@ -42,7 +42,7 @@ use Rattle.r82xx.specs.Orders.Order.{Reload, Tune}
 use Rattle.records.specs.Drivers.{driver_of}
 use Rattle.records.specs.Fields.{flag_byte}
 use Rattle.records.specs.Tuners.{tuner_bytes, tuner_of, tuner_parts, tuner_read, tuner_widths}
-use Rattle.records.specs.declared.TunerRead.{TunerRead}
+use Rattle.records.specs.Tuners.{TunerRead}
 use Rattle.records.proofs.Exact.{Ranged, read_written}
 use Rattle.records.proofs.Made.{sized}
 use Rattle.reply.specs.declared.Reply.{Reply}

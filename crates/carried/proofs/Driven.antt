@@ -42,7 +42,7 @@ use Rattle.r82xx.specs.Record.{sound, with_corrected}
 use Rattle.r82xx.specs.Calls.{plan_for}
 use Rattle.records.specs.Drivers.{driver_bytes, driver_fits, driver_from, driver_of, driver_widths, is_driver}
 use Rattle.records.specs.Tuners.{tuner_of}
-use Rattle.records.specs.declared.DriverRead.{DriverRead}
+use Rattle.records.specs.Drivers.{DriverRead}
 use Rattle.records.proofs.Driven.{RangedDriver, driver_read_lem}
 use Rattle.records.proofs.Exact.{both as and_both}
 use Rattle.reply.specs.Replies.{reply_of}

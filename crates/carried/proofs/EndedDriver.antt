@@ -16,7 +16,7 @@ use Rattle.driver.specs.Record.{sound_driver}
 use Rattle.drivers.specs.Drivers.{both_ready, hop_argument, hop_over, over_both, rate_over, rates_made, rates_refused}
 use Rattle.r82xx.specs.declared.Tuner.{Tuner}
 use Rattle.r82xx.specs.Record.{sound}
-use Rattle.records.specs.declared.DriverRead.{DriverRead}
+use Rattle.records.specs.Drivers.{DriverRead}
 use Rattle.records.specs.Drivers.{driver_bytes, driver_of}
 use Rattle.records.specs.Tuners.{tuner_bytes}
 use Rattle.records.proofs.Driven.{RangedDriver, driver_read_lem}

@@ -28,7 +28,7 @@ use Rattle.evidence.proofs.Cuts.{marked}
 use Rattle.history.specs.Histories.{Cut}
 use Rattle.records.specs.Drivers.{driver_of}
 use Rattle.records.specs.Tuners.{tuner_bytes, tuner_of}
-use Rattle.records.specs.declared.TunerRead.{TunerRead}
+use Rattle.records.specs.Tuners.{TunerRead}
 use Rattle.records.proofs.Exact.{Ranged, read_written}
 use Rattle.reply.specs.declared.Reply.{Reply}
 use Rattle.reply.specs.declared.TuneReply.{TuneReply}

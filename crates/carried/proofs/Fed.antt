@@ -33,7 +33,7 @@ use Rattle.drivers.specs.Drivers.{Hops, Rates, correct_over, rate_over}
 use Rattle.r82xx.specs.declared.Tuner.{Tuner}
 use Rattle.r82xx.specs.Orders as order
 use Rattle.r82xx.specs.Record.{sound}
-use Rattle.records.specs.declared.TunerRead.{TunerRead}
+use Rattle.records.specs.Tuners.{TunerRead}
 use Rattle.records.specs.Drivers.{driver_of}
 use Rattle.records.specs.Tuners.{tuner_bytes, tuner_of}
 use Rattle.reply.specs.Replies.{call_reply, reply_of, tuned_of}

@@ -15,7 +15,7 @@ use Rattle.restore.specs.Restore.{list_of, sure_in}
 use Rattle.restore.proofs.Listed.{sent}
 use Rattle.history.specs.Holding as chips
 use Rattle.r82xx.specs.declared.Tuner.{Tuner}
-use Rattle.records.specs.declared.TunerRead.{TunerRead}
+use Rattle.records.specs.Tuners.{TunerRead}
 use Rattle.records.specs.Fields.{flag_byte}
 use Rattle.records.specs.Tuners.{is_tuner, pick_tuner, tuner_bytes, tuner_from, tuner_of, tuner_widths}
 use Rattle.records.proofs.Exact.{Ranged, read_written, written_read}

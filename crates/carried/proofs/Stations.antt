@@ -21,7 +21,7 @@ use Rattle.r82xx.specs.declared.Tuner.{Tuner}
 use Rattle.r82xx.specs.Orders.Order.{Reload, Tune}
 use Rattle.records.specs.Drivers.{driver_of}
 use Rattle.records.specs.Tuners.{tuner_of}
-use Rattle.records.specs.declared.TunerRead.{TunerRead}
+use Rattle.records.specs.Tuners.{TunerRead}
 use Rattle.records.proofs.Exact.{Ranged, read_written}
 use Rattle.tuning.specs.Tries.{fine_of, power_of}
 use Rattle.sequences.specs.Calls.{is_byte, tuner_after}

@@ -1,7 +1,7 @@
 -- What a command over bytes and a call that feeds a chunk come to, as the code has read them. Assumes nothing.
 use Prim.Native.Nat.{ℕ, zero, suc, ◌+◌, ◌-◌, ◌<◌, ◌≤◌}
 use mathlib.Core.Path.{◌≡◌, refl, sym, ap, ap₂, ◌∙◌}
-use mathlib.Core.Bool.{Bool, true, false, ◌&&◌, cond}
+use mathlib.Core.Bool.{Bool, true, false, false≢true, ◌&&◌, cond}
 use mathlib.Core.List.{List, [], ◌∷◌, ◌++◌, append_assoc, append-nil}
 use native.Mathlib.Omega.{arith}
 use borrow.Author.Tests.{eq-eqb, ne_eqb, le-leb, leb-false, lt-leb}
@@ -15,12 +15,14 @@ use Rattle.refusals.specs.declared.Answer.TheVariants.{Done, Refused}
 use Rattle.refusals.specs.Table.{SETUP, COMMAND}
 use Rattle.chip.proofs.Laws.{and_left, and_right}
 use Rattle.drivers.specs.Drivers.{Hops, hops}
-use Rattle.records.specs.declared.DriverRead.{DriverRead}
-use Rattle.records.specs.declared.TunerRead.{TunerRead}
+use Rattle.std.specs.Prelude.{Option, None, Some, MatchOption}
+use Rattle.std.specs.Option.{is_some}
+use Rattle.driver.specs.declared.Driver.{Driver}
+use Rattle.r82xx.specs.declared.Tuner.{Tuner}
+use Rattle.drivers.proofs.Passed.{Both_read}
 use Rattle.records.specs.Drivers.{driver_of}
 use Rattle.records.specs.Tuners.{tuner_of}
 use Rattle.reply.specs.declared.TuneReply.{TuneReply}
-use Rattle.records.proofs.Turns.{sets_whole}
 use Rattle.stream.specs.declared.Command.{Command}
 use Rattle.stream.specs.declared.Gathered.{Gathered}
 use Rattle.stream.specs.Commands.{command_of}
@@ -31,6 +33,18 @@ use Rattle.commands.specs.declared.FeedReply.{FeedReply}
 use Rattle.commands.specs.Over.{feed_over, feeds, fed_of, no_command, pending_answer, run_over}
 use Rattle.commands.proofs.Runs.{driver_exact, tuner_exact}
 
+-- ---- both records' bytes, as `drivers::read_both` reads them
+
+none_by : (d t : List ℕ) (o : Option (Driver × Tuner)) → MatchOption o (((driver_of d).ok && (tuner_of t).ok) ≡ false) (Both_read d t)
+    → is_some o ≡ false → ((driver_of d).ok && (tuner_of t).ok) ≡ false
+none_by d t None read h = read
+none_by d t (Some r) read h = absurd (false≢true (sym h))
+
+both_by : (d t : List ℕ) (o : Option (Driver × Tuner)) → MatchOption o (((driver_of d).ok && (tuner_of t).ok) ≡ false) (Both_read d t)
+    → is_some o ≡ true → ((driver_of d).ok && (tuner_of t).ok) ≡ true
+both_by d t None read h = absurd (false≢true h)
+both_by d t (Some r) read h = sym (λ i. (read.0 i).ok && (read.1 i).ok)
+
 -- ---- a command over both records' bytes
 
 module _ (x : Option Command) (table rs os d t room : List ℕ) where
@@ -38,27 +52,24 @@ module _ (x : Option Command) (table rs os d t room : List ℕ) where
   unfolding run_over
   unknown_run u r e = ap (λ (q : TuneReply). hops q room d t) e ∙ rw u
 
-  module _ (dr : DriverRead) (tr : TunerRead) (is-driver : dr ≡ driver_of d) (is-tuner : tr ≡ tuner_of t) (known : is_none x ≡ false) where
-    read_is : (dr.ok && tr.ok) ≡ ((driver_of d).ok && (tuner_of t).ok)
-    read_is = λ i. (is-driver i).ok && (is-tuner i).ok
+  -- what is read of both, where the command is known
+  module _ (o : Option (Driver × Tuner)) (read : MatchOption o (((driver_of d).ok && (tuner_of t).ok) ≡ false) (Both_read d t)) where
+    none_ok : is_some o ≡ false → ((driver_of d).ok && (tuner_of t).ok) ≡ false
+    none_ok = none_by d t o read
 
-    pub no_records : (dr.ok && tr.ok) ≡ false → (r : TuneReply) → r ≡ no_command (Refused SETUP) → hops r room d t ≡ run_over x table rs os d t room
+    pub no_records : is_none x ≡ false → is_some o ≡ false → (r : TuneReply) → r ≡ no_command (Refused SETUP) → hops r room d t ≡ run_over x table rs os d t room
     unfolding run_over
-    no_records h r e = ap (λ (q : TuneReply). hops q room d t) e ∙ rw (known, sym read_is ∙ h)
+    no_records known h r e = ap (λ (q : TuneReply). hops q room d t) e ∙ rw (known, none_ok h)
 
     -- what the copies and the call ask
-    pub both_ok : (dr.ok && tr.ok) ≡ true → ((driver_of d).ok && (tuner_of t).ok) ≡ true
-    both_ok h = sym read_is ∙ h
+    pub both_ok : is_some o ≡ true → ((driver_of d).ok && (tuner_of t).ok) ≡ true
+    both_ok = both_by d t o read
 
-    pub driver_size : (dr.ok && tr.ok) ≡ true → length d ≡ 29
+    pub driver_size : is_some o ≡ true → length d ≡ 29
     driver_size h = driver_exact d (and_left (driver_of d).ok (tuner_of t).ok (both_ok h))
 
-    pub tuner_size : (dr.ok && tr.ok) ≡ true → length t ≡ 78
+    pub tuner_size : is_some o ≡ true → length t ≡ 78
     tuner_size h = tuner_exact t (and_right (driver_of d).ok (tuner_of t).ok (both_ok h))
-
--- all of a slice, copied over as many bytes
-pub copied : (l zeros wrote : List ℕ) → length l ≡ length zeros → wrote ≡ sets zeros 0 l → wrote ≡ l
-copied l zeros wrote n e = e ∙ sets_whole zeros l n
 
 -- ---- what the stream holds after a call
 

@@ -53,25 +53,6 @@ fn still(told: Reply) -> TuneReply
     reply::tuned(told, 0, false)
 }
 
-// A call reads the given record and writes the next one into a slice of its own: so the given bytes are copied where both lie in one place.
-fn driver_copy(driver: &[u8]) -> [u8; 29]
-    requires { length driver.now ≡ 29 }
-    ensures { result ≡ driver.now }
-{
-    let mut before = [0u8; 29];
-    wire::copy(&mut before, 0, driver);
-    before
-}
-
-fn tuner_copy(tuner: &[u8]) -> [u8; 78]
-    requires { length tuner.now ≡ 78 }
-    ensures { result ≡ tuner.now }
-{
-    let mut given = [0u8; 78];
-    wire::copy(&mut given, 0, tuner);
-    given
-}
-
 // The exported call that a command makes, on the bytes of records that are in their ranges. Both records' copies stand beside them.
 fn call_over(
     command: Command,
@@ -119,14 +100,12 @@ fn run_over(
     let Some(known) = command else {
         return refuse(refusals::COMMAND);
     };
-    let d = records::decode_driver(driver);
-    let t = records::decode_tuner(tuner);
-    let whole = d.ok & t.ok;
-    if !whole {
+    if drivers::read_both(driver, tuner).is_none() {
         return refuse(refusals::SETUP);
     }
-    let before = driver_copy(driver);
-    let given = tuner_copy(tuner);
+    // A call reads the given record and writes the next one into a slice of its own: so the given bytes are copied where both lie in one place.
+    let before = <[u8; 29]>::try_from(&*driver).unwrap();
+    let given = <[u8; 78]>::try_from(&*tuner).unwrap();
     call_over(
         known, &before, &given, driver, tuner, table, outcomes, replies, room,
     )

@@ -2,7 +2,7 @@
 -- Assumes nothing.
 use Prim.Native.Nat.{ℕ, ◌<◌, ◌≤◌}
 use mathlib.Core.Path.{◌≡◌, refl, sym, ap, ◌∙◌}
-use mathlib.Core.Bool.{Bool, true, false, ◌&&◌, ◌||◌, false≢true}
+use mathlib.Core.Bool.{Bool, true, false, cond, ◌&&◌, ◌||◌, false≢true}
 use mathlib.Core.List.{List, []}
 use native.Mathlib.Omega.{arith}
 use borrow.Author.Tests.{eqb-true, lt-ltb, le-ltb, ltb-false}
@@ -27,14 +27,17 @@ use Rattle.tuners.specs.Over.{path_refusal}
 use Rattle.tuners.proofs.Passed.{path_argued}
 use Rattle.driver.specs.Calls.{board_row, Both, both, correction_call}
 use Rattle.r82xx.specs.declared.Tuner.{Tuner}
-use Rattle.records.specs.declared.DriverRead.{DriverRead}
-use Rattle.records.specs.declared.TunerRead.{TunerRead}
+use Rattle.records.specs.Drivers.{DriverRead, driver_meant, driver_read}
+use Rattle.records.specs.Tuners.{TunerRead, tuner_read}
 use Rattle.records.specs.Drivers.{driver_bytes, driver_fits, driver_from, driver_of, driver_widths, is_driver, pick_driver}
 use Rattle.records.specs.Tuners.{is_tuner, pick_tuner, tuner_bytes, tuner_fits, tuner_from, tuner_of, tuner_widths}
 use Rattle.reply.specs.declared.Reply.{Reply}
 use Rattle.reply.specs.declared.TuneReply.{TuneReply}
 use Rattle.reply.specs.Replies.{reply_of, tuned_of}
+use Rattle.std.specs.Prelude.{Option, None, Some, MatchOption}
 use Rattle.tuners.specs.Over.{next_of}
+use Rattle.tuners.specs.Still.{of_record}
+use Rattle.tuners.proofs.Record.{no_record, of_record_lem}
 use Rattle.tuners.proofs.Passed.{none_refused, not_refused, refused}
 use Rattle.drivers.specs.Drivers.{Rates, both_ready, centre_over, correct_over, corrects, corrects_made, hops, hops_by, over_both, rates, rates_made, rates_refused, lock_tries_both}
 
@@ -106,6 +109,21 @@ module _ (argument : Tuner → Driver → ℕ) (result : Tuner → Driver → Ca
       told z s e =
           e ∙ (λ i. seen (is-tuner i).tuner (is-driver i).driver) ∙ not_refused number (λ n. no_tries) (seen (tuner_of t).tuner (driver_of d).driver) (sym number_is ∙ z)
 
+  -- bytes of which either are no record
+  module _ (none : ((driver_of d).ok && (tuner_of t).ok) ≡ false) where
+    unready : 1 ≡ number
+    unfolding both_ready
+    unready = rw none
+
+    pub no_both : (r : Reply) → r ≡ reply_of (Refused SETUP) 0 → rates r room driver tuner ≡ over_both argument result d t room driver tuner
+    unfolding over_both
+    no_both r e =
+        ap (λ (x : Reply). rates x room driver tuner) e ∙ refused number (λ n. rates_refused n room driver tuner) made 1 unready (λ z. omega arith)
+
+    pub none_tried : (seen : Tuner → Driver → LockTries) → no_tries ≡ lock_tries_both argument seen d t driver tuner
+    unfolding lock_tries_both
+    none_tried seen = refused number (λ n. no_tries) (seen (tuner_of t).tuner (driver_of d).driver) 1 unready (λ z. omega arith)
+
 -- a hop's reply is a rate's with what is told of the lock
 pub hop_told : (r : TuneReply) (q : Reply) (s : LockTries) (room driver tuner : List ℕ) (o : Rates) (all : LockTries) → r ≡ tuned_of q s → rates q room driver tuner ≡ o → s ≡ all
     → hops r room driver tuner ≡ hops_by o all
@@ -129,39 +147,53 @@ driver_long b h = go (is_driver b) refl h
     go false e k = absurd (false≢true k)
 
 -- a correction of both records, as the code has read them
-module _ (ppm : ℤ) (t d : List ℕ) (tr : TunerRead) (dr : DriverRead) (is-tuner : tr ≡ tuner_of t) (is-driver : dr ≡ driver_of d) where
-  read_is : (tr.ok && dr.ok) ≡ ((tuner_of t).ok && (driver_of d).ok)
-  read_is = λ i. (is-tuner i).ok && (is-driver i).ok
+no_two : (a b : Bool) → (a && b) ≡ false → (b && a) ≡ false
+no_two true false e = refl
+no_two false true e = refl
+no_two false false e = refl
+no_two true true e = e
 
-  pub no_records : (tr.ok && dr.ok) ≡ false → (r : Reply) → r ≡ reply_of (Refused SETUP) 0 → corrects r t d ≡ correct_over ppm t d
+module _ (ppm : ℤ) (t d : List ℕ) where
+  pub no_records : ((driver_of d).ok && (tuner_of t).ok) ≡ false → (r : Reply) → r ≡ reply_of (Refused SETUP) 0 → corrects r t d ≡ correct_over ppm t d
   unfolding correct_over
-  no_records h r e = ap (λ (x : Reply). corrects x t d) e ∙ rw (sym read_is ∙ h)
+  no_records h r e = ap (λ (x : Reply). corrects x t d) e ∙ rw (no_two (driver_of d).ok (tuner_of t).ok h)
 
-  pub lengths : (tr.ok && dr.ok) ≡ true → (78 ≤ length t) × (29 ≤ length d)
-  lengths h =
-      (tuner_long t (and_left (tuner_of t).ok (driver_of d).ok (sym read_is ∙ h)), driver_long d (and_right (tuner_of t).ok (driver_of d).ok (sym read_is ∙ h)))
+  module _ (tr : Tuner) (dr : Driver) (is-tuner : tuner_read true tr ≡ tuner_of t) (is-driver : driver_read true dr ≡ driver_of d) where
+    there : ((tuner_of t).ok && (driver_of d).ok) ≡ true
+    there = sym (λ i. (is-tuner i).ok && (is-driver i).ok)
 
-  pub corrected_back : (tr.ok && dr.ok) ≡ true → (t' : Tuner) (d' : Driver) (a : Answer) → called (both t' d') [] 0 a ≡ correction_call ppm tr.tuner dr.driver
-      → (r : Reply) (wrote-tuner wrote-driver : List ℕ) → r ≡ reply_of a 0 → wrote-tuner ≡ next_of tuner_bytes a 0 t' t → wrote-driver ≡ next_of driver_bytes a 0 d' d
-      → corrects r wrote-tuner wrote-driver ≡ correct_over ppm t d
-  unfolding correct_over
-  corrected_back h t' d' a e r wt wd by-reply by_tuner by-driver =
-      (λ i. corrects (by-reply i) (by_tuner i) (by-driver i))
-      ∙ ap (λ (x : Called Both). corrects_made x t d) (e ∙ (λ i. correction_call ppm (is-tuner i).tuner (is-driver i).driver))
-      ∙ rw (sym read_is ∙ h)
+    pub lengths : (29 ≤ length d) × (78 ≤ length t)
+    lengths = (
+      driver_long d (and_right (tuner_of t).ok (driver_of d).ok there),
+      tuner_long t (and_left (tuner_of t).ok (driver_of d).ok there),
+    )
+
+    pub corrected_back : (t' : Tuner) (d' : Driver) (a : Answer) → called (both t' d') [] 0 a ≡ correction_call ppm tr dr
+        → (r : Reply) (wrote-tuner wrote-driver : List ℕ) → r ≡ reply_of a 0 → wrote-tuner ≡ next_of tuner_bytes a 0 t' t → wrote-driver ≡ next_of driver_bytes a 0 d' d
+        → corrects r wrote-tuner wrote-driver ≡ correct_over ppm t d
+    unfolding correct_over
+    corrected_back t' d' a e r wt wd by-reply by_tuner by-driver =
+        (λ i. corrects (by-reply i) (by_tuner i) (by-driver i))
+        ∙ ap (λ (x : Called Both). corrects_made x t d) (e ∙ (λ i. correction_call ppm (is-tuner i).tuner (is-driver i).driver))
+        ∙ rw there
+
+-- an answer that is told of a driver's record
+pub told_of_driver : (b : List ℕ) (make : Driver → Answer) (o : Option Driver) → driver_meant o ≡ driver_of b → (P : Driver → Type 0) (a : Answer)
+    → MatchOption o (a ≡ Refused SETUP) P → ((d : Driver) → P d → a ≡ make d) → a ≡ of_record (driver_of b).ok (driver_of b).driver make (Refused SETUP)
+told_of_driver b make None is P a m each = m ∙ no_record (λ (x : DriverRead). x.ok) (λ (x : DriverRead). x.driver) _ _ is make (Refused SETUP) refl
+told_of_driver b make (Some d) is P a m each = of_record_lem (λ (x : DriverRead). x.ok) (λ (x : DriverRead). x.driver) _ _ is make (Refused SETUP) refl a (each d m)
 
 -- the recording's centre
-module _ (table d t : List ℕ) (dr : DriverRead) (tr : TunerRead) (is-driver : dr ≡ driver_of d) (is-tuner : tr ≡ tuner_of t) where
-  both_read : (dr.ok && tr.ok) ≡ ((driver_of d).ok && (tuner_of t).ok)
-  both_read = λ i. (is-driver i).ok && (is-tuner i).ok
+abbrev pub Both_read : List ℕ → List ℕ → Driver × Tuner → Type 0
+Both_read d t r = (driver_read true r.0 ≡ driver_of d) × (tuner_read true r.1 ≡ tuner_of t)
 
-  pub no_centre : (dr.ok && tr.ok) ≡ false → Refused SETUP ≡ centre_over table d t
-  unfolding centre_over
-  no_centre h = rw (sym both_read ∙ h)
-
-  pub centred : (dr.ok && tr.ok) ≡ true → (a : Answer) → a ≡ centre_of table dr.driver tr.tuner → a ≡ centre_over table d t
-  unfolding centre_over
-  centred h a e = e ∙ (λ i. centre_of table (is-driver i).driver (is-tuner i).tuner) ∙ rw (sym both_read ∙ h)
+pub centred : (table d t : List ℕ) (o : Option (Driver × Tuner)) → MatchOption o (((driver_of d).ok && (tuner_of t).ok) ≡ false) (Both_read d t)
+    → (P : Driver × Tuner → Type 0) (a : Answer) → MatchOption o (a ≡ Refused SETUP) P → ((r : Driver × Tuner) → P r → a ≡ centre_of table r.0 r.1)
+    → a ≡ centre_over table d t
+unfolding centre_over
+centred table d t None none P a m each = m ∙ rw none
+centred table d t (Some r) read P a m each =
+    each r m ∙ (λ i. cond ((read.0 i).ok && (read.1 i).ok) (centre_of table (read.0 i).driver (read.1 i).tuner) (Refused SETUP))
 
 -- the board's path
 pub board_path_argued : (rs : List ℕ) (t : Tuner) (path : ℕ) → path_refusal path ≡ argument_of (board_row (path_of path) rs t)

@@ -3,19 +3,18 @@
 
 #![tactic(auto)]
 
-ghost use Rattle.std.specs.Prelude.{◌≡◌, ◌≤◌, length};
+ghost use Rattle.std.specs.Prelude.{◌≡◌, ◌≤◌, ◌&&◌, true, false, MatchOption, length};
 ghost use Rattle.refusals.specs.Lent.{answered_to, given};
 ghost use Rattle.board.specs.Numbers.{path_of};
 ghost use Rattle.driver.specs.Calls.{board_row};
-ghost use Rattle.records.specs.Drivers.{driver_bytes};
-ghost use Rattle.records.specs.Tuners.{tuner_bytes};
-ghost use Rattle.chip.specs.Entries.{lock_tries};
-ghost use Rattle.reply.specs.Replies.{reply_of, tuned_of};
+ghost use Rattle.records.specs.Drivers.{driver_bytes, driver_of, driver_read};
+ghost use Rattle.records.specs.Tuners.{tuner_bytes, tuner_of, tuner_read};
+ghost use Rattle.reply.specs.Replies.{reply_of};
 ghost use Rattle.tuners.specs.Over.{after, next_of, over_tuner};
 ghost use Rattle.drivers.specs.Drivers.{both_ready, centre_over, correct_over, corrects, fresh_into, hop_over, hops, rate_over, rates, xtal_over};
 
-use boards::Hopped;
-use driver::{Driver, Rated};
+use driver::Driver;
+use r82xx::Tuner;
 use records::{DRIVER, TUNER};
 use refusals::Answer;
 use reply::{Reply, TuneReply};
@@ -45,34 +44,34 @@ pub fn fresh(
 pub fn corrected_xtal_hz(driver: &[u8]) -> Answer
     ensures { result ≡ xtal_over driver.now }
 {
-    let read = records::decode_driver(driver);
-    if !read.ok {
-        return Answer::Refused(refusals::SETUP);
-    }
-    let given = read.driver;
-    given.corrected_xtal_hz()
+    records::decode_driver(driver).map_or(
+        Answer::Refused(refusals::SETUP),
+        |d| d.corrected_xtal_hz(),
+    )
+}
+
+// Both records; none where the bytes of either are not valid.
+pub fn read_both(driver: &[u8], tuner: &[u8]) -> Option<(Driver, Tuner)>
+    ensures { MatchOption result (((driver_of driver.now).ok && (tuner_of tuner.now).ok) ≡ false)
+        (λ r. (driver_read true r.0 ≡ driver_of driver.now) × (tuner_read true r.1 ≡ tuner_of tuner.now)) }
+{
+    records::decode_driver(driver).zip(records::decode_tuner(tuner))
 }
 
 // The recording's centre, which writes neither record: 1 for either, then 19, 20 and 2.
 pub fn centre(driver: &[u8], tuner: &[u8], table: &[u8]) -> Answer
     ensures { result ≡ centre_over table.now driver.now tuner.now }
 {
-    let d = records::decode_driver(driver);
-    let t = records::decode_tuner(tuner);
-    let whole = d.ok & t.ok;
-    if !whole {
-        return Answer::Refused(refusals::SETUP);
-    }
-    centre::centre(d.driver, t.tuner, table)
+    read_both(driver, tuner).map_or(
+        Answer::Refused(refusals::SETUP),
+        |(d, t)| centre::centre(d, t, table),
+    )
 }
 
-// Both records first, then the argument's number, 0 for none, then the two slices that the next ones go to.
-fn ready(ok: bool, argument: u8, driver: usize, tuner: usize) -> u8
-    ensures { result ≡ both_ready ok argument driver tuner }
+// Of a call on valid records: the argument's number, 0 for none, then the two slices that the next ones go to.
+fn ready(argument: u8, driver: usize, tuner: usize) -> u8
+    ensures { result ≡ both_ready true argument driver tuner }
 {
-    if !ok {
-        return refusals::SETUP;
-    }
     if argument != 0 {
         return argument;
     }
@@ -85,43 +84,34 @@ fn ready(ok: bool, argument: u8, driver: usize, tuner: usize) -> u8
     0
 }
 
-fn store(answer: Answer, count: usize, driver: Driver, next: &mut [u8])
-    requires { 29 ≤ length next.old }
-    ensures { next.new ≡ next_of driver_bytes answer count driver next.old }
-{
-    if tuners::is_written(answer, count) {
-        let image = records::driver_image(driver);
-        wire::copy(next, 0, &image);
-    }
-}
-
-fn hand(rated: Rated, driver: &mut [u8], tuner: &mut [u8]) -> Reply
+// What a call hands back: both next records' bytes into the slices, the rest as numbers.
+fn hand(
+    answer: Answer,
+    count: usize,
+    d: Driver,
+    t: Tuner,
+    driver: &mut [u8],
+    tuner: &mut [u8],
+) -> Reply
     requires { (29 ≤ length driver.old) × (78 ≤ length tuner.old) }
-    ensures { (result ≡ reply_of rated.answer rated.count)
-        × (driver.new ≡ next_of driver_bytes rated.answer rated.count rated.driver driver.old)
-        × (tuner.new ≡ next_of tuner_bytes rated.answer rated.count rated.tuner tuner.old) }
+    ensures { (result ≡ reply_of answer count)
+        × (driver.new ≡ next_of driver_bytes answer count d driver.old)
+        × (tuner.new ≡ next_of tuner_bytes answer count t tuner.old) }
 {
-    let answer = rated.answer;
-    store(answer, rated.count, rated.driver, driver);
-    tuners::store(answer, rated.count, rated.tuner, tuner);
-    reply::numbers(answer, rated.count)
+    tuners::store(answer, count, &records::driver_image(d), driver);
+    tuners::store(answer, count, &records::tuner_image(t), tuner);
+    reply::numbers(answer, count)
 }
 
 // Both records are changed where they lie, or neither: they are read and judged before either is stored.
 pub fn set_ppm(tuner: &mut [u8], driver: &mut [u8], ppm: i32) -> Reply
     ensures { corrects result tuner.new driver.new ≡ correct_over ppm tuner.old driver.old }
 {
-    let t = records::decode_tuner(tuner);
-    let d = records::decode_driver(driver);
-    let whole = t.ok & d.ok;
-    if !whole {
+    let Some((d, t)) = read_both(driver, tuner) else {
         return tuners::refuse(refusals::SETUP);
-    }
-    let told = driver::corrected(t.tuner, d.driver, ppm);
-    let answer = told.answer;
-    tuners::store(answer, 0, told.tuner, tuner);
-    store(answer, 0, told.driver, driver);
-    reply::numbers(answer, 0)
+    };
+    let told = driver::corrected(t, d, ppm);
+    hand(told.answer, 0, told.driver, told.tuner, driver, tuner)
 }
 
 pub fn set_sample_rate(
@@ -137,31 +127,24 @@ pub fn set_sample_rate(
     ensures { rates result room.new left.new next.new
         ≡ rate_over outcomes.now rate table.now driver.now tuner.now room.old left.old next.old }
 {
-    let d = records::decode_driver(driver);
-    let t = records::decode_tuner(tuner);
-    let given = d.driver;
+    let Some((given, t)) = read_both(driver, tuner) else {
+        return tuners::refuse(refusals::SETUP);
+    };
     let planned = bands::plan_by_table(table, given.frequency);
     let argument = given.rate_refusal(planned, rate);
-    let number = ready(d.ok & t.ok, argument, left.len(), next.len());
+    let number = ready(argument, left.len(), next.len());
     if number != 0 {
         return tuners::refuse(number);
     }
-    let rated = given.rate_planned(t.tuner, planned, rate, outcomes, room);
-    hand(rated, left, next)
-}
-
-// What a hop hands back, as a rate does, with what it tells of the lock.
-fn hand_hop(hopped: Hopped, driver: &mut [u8], tuner: &mut [u8]) -> TuneReply
-    requires { (29 ≤ length driver.old) × (78 ≤ length tuner.old) }
-    ensures { (result ≡ tuned_of (reply_of hopped.answer hopped.count) (lock_tries hopped.tries hopped.locked))
-        × (driver.new ≡ next_of driver_bytes hopped.answer hopped.count hopped.driver driver.old)
-        × (tuner.new ≡ next_of tuner_bytes hopped.answer hopped.count hopped.tuner tuner.old) }
-{
-    let answer = hopped.answer;
-    store(answer, hopped.count, hopped.driver, driver);
-    tuners::store(answer, hopped.count, hopped.tuner, tuner);
-    let plain = reply::numbers(answer, hopped.count);
-    reply::tuned(plain, hopped.tries, hopped.locked)
+    let rated = given.rate_planned(t, planned, rate, outcomes, room);
+    hand(
+        rated.answer,
+        rated.count,
+        rated.driver,
+        rated.tuner,
+        left,
+        next,
+    )
 }
 
 pub fn tune_board(
@@ -178,17 +161,25 @@ pub fn tune_board(
     ensures { hops result room.new left.new next.new
         ≡ hop_over table.now hz replies.now outcomes.now driver.now tuner.now room.old left.old next.old }
 {
-    let d = records::decode_driver(driver);
-    let t = records::decode_tuner(tuner);
+    let Some((d, given)) = read_both(driver, tuner) else {
+        return reply::tuned(tuners::refuse(refusals::SETUP), 0, false);
+    };
     let planned = bands::plan_by_table(table, hz);
-    let given = t.tuner;
     let refused = boards::hop_refusal(planned, given.ifreq);
-    let number = ready(d.ok & t.ok, refused, left.len(), next.len());
+    let number = ready(refused, left.len(), next.len());
     if number != 0 {
         return reply::tuned(tuners::refuse(number), 0, false);
     }
-    let hopped = boards::tune_planned(d.driver, given, planned, hz, outcomes, replies, room);
-    hand_hop(hopped, left, next)
+    let hopped = boards::tune_planned(d, given, planned, hz, outcomes, replies, room);
+    let plain = hand(
+        hopped.answer,
+        hopped.count,
+        hopped.driver,
+        hopped.tuner,
+        left,
+        next,
+    );
+    reply::tuned(plain, hopped.tries, hopped.locked)
 }
 
 // The board's input path, which takes the tuner's record alone.
@@ -203,12 +194,11 @@ pub fn apply_input_path(
     ensures { after result room.new next.new
         ≡ over_tuner (board_row (path_of path) replies.now) outcomes.now tuner.now room.old next.old }
 {
-    let read = records::decode_tuner(tuner);
-    let given = read.tuner;
-    let number = tuners::ready(read.ok, tuners::path_refusal(path), next.len(), TUNER);
-    if number != 0 {
-        return tuners::refuse(number);
-    }
-    let told = driver::apply_input_path(given, path as u8, outcomes, replies, room);
-    tuners::hand(told, next)
+    tuners::stepped(
+        tuner,
+        tuners::path_refusal(path),
+        |t, lent| driver::apply_input_path(t, path as u8, outcomes, replies, lent),
+        room,
+        next,
+    )
 }

@@ -13,13 +13,12 @@ use Rattle.wire.specs.Bytes.{le_value}
 use Rattle.wire.proofs.Widths.{length-le_bytes}
 use Rattle.chip.specs.declared.Chip.{Chip}
 use Rattle.pll.specs.declared.Kind.{Kind}
-use Rattle.r82xx.specs.declared.Made.{Made}
 use Rattle.r82xx.specs.declared.Tuner.{Tuner}
-use Rattle.r82xx.specs.Record.{made_of}
+use Rattle.std.specs.Prelude.{None}
 use Rattle.pll.specs.Plan.{kind_number}
 use Rattle.records.specs.Fields.{flag_byte, flag_read, flags_only, kind_of, proper_gain}
 use Rattle.wire.specs.Parts.{parts_from, laid, Sized}
-use Rattle.records.specs.Tuners.{chip_from, is_tuner, tuner_bytes, tuner_fits, tuner_from, tuner_of, tuner_parts, tuner_read, tuner_widths}
+use Rattle.records.specs.Tuners.{chip_from, is_tuner, tuner_bytes, tuner_fits, tuner_from, tuner_meant, tuner_of, tuner_parts, tuner_read, tuner_widths}
 use Rattle.records.proofs.Turns.{sets_whole}
 use Rattle.wire.proofs.Joins.{laid_joined, length_joined}
 
@@ -47,14 +46,13 @@ module _ (b : List ℕ) where
   fits_made k n c l g o p f ek en ec el eg ep eo ef = rw (ep, eg, ek, en, ec, el, eo, ef)
 
   -- another length; a part out of its range; a record
-  module _ (m : Made) (made : m ≡ made_of 0 0 1) where
-    pub no_length : (length b ≡ 78 → ⊥) → tuner_read false m.tuner ≡ tuner_of b
-    unfolding tuner_of is_tuner made_of
-    no_length h = rw (made, ne_eqb (length b) 78 h)
+  pub no_length : (length b ≡ 78 → ⊥) → tuner_meant None ≡ tuner_of b
+  unfolding tuner_of is_tuner
+  no_length h = rw (ne_eqb (length b) 78 h)
 
-    pub no_fit : (f : Bool) → length b ≡ 78 → f ≡ tuner_fits (parts_from 0 tuner_widths b) → f ≡ false → tuner_read false m.tuner ≡ tuner_of b
-    unfolding tuner_of is_tuner made_of
-    no_fit f h e never = rw (made, eq-eqb (length b) 78 h, ← e, never)
+  pub no_fit : (f : Bool) → length b ≡ 78 → f ≡ tuner_fits (parts_from 0 tuner_widths b) → f ≡ false → tuner_meant None ≡ tuner_of b
+  unfolding tuner_of is_tuner
+  no_fit f h e never = rw (eq-eqb (length b) 78 h, ← e, never)
 
   pub whole : (f : Bool) (t : Tuner) → length b ≡ 78 → f ≡ tuner_fits (parts_from 0 tuner_widths b) → f ≡ true → t ≡ tuner_from (parts_from 0 tuner_widths b)
       → tuner_read true t ≡ tuner_of b

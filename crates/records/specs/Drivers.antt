@@ -1,7 +1,7 @@
 -- The driver's record as 29 bytes. Document 01, "The record": "The driver's record holds board, nominal (1..4,294,967,295, else 1), ppm, frequency and rate".
 -- Document 02, #104: the true rate after them, any u64.
 -- Assumes nothing.
-use Rattle.std.specs.Prelude.{ℕ, Bool, true, false, ◌&&◌, List, [], ◌∷◌, eqb, leb, pos, length}
+use Rattle.std.specs.Prelude.{ℕ, Bool, true, false, ◌&&◌, List, [], ◌∷◌, eqb, leb, pos, length, Option, Some, None}
 use Rattle.std.specs.Int.{w32}
 use Rattle.std.proofs.Common.{of_z, to_z}
 use Rattle.wire.specs.Bytes.{le_bytes}
@@ -9,7 +9,6 @@ use Rattle.board.specs.Numbers.{board_number}
 use Rattle.board.specs.declared.Board.TheVariants.{Generic}
 use Rattle.driver.specs.Record.{driver, sound_driver}
 use Rattle.driver.specs.declared.Driver.{Driver}
-use Rattle.records.specs.declared.DriverRead.{DriverRead}
 use Rattle.records.specs.Fields.{board_from}
 use Rattle.wire.specs.Parts.{joined, num, parts_from}
 
@@ -40,6 +39,11 @@ driver_fits ps = leb (num ps 0) 1 && sound_driver (driver_from ps)
 unfoldable pub is_driver : List ℕ → Bool
 is_driver b = eqb (length b) 29 && driver_fits (parts_from 0 driver_widths b)
 
+-- a record that bytes are read as; where they are not valid, `driver` counts for nothing
+pub record DriverRead : Type 0 where
+  pub ok : Bool
+  pub driver : Driver
+
 abbrev pub driver_read : Bool → Driver → DriverRead
 driver_read ok d = record { ok = ok; driver = d }
 
@@ -49,3 +53,8 @@ pick_driver false d = driver_read false (driver Generic 1 (pos 0) 0 0 0)
 
 unfoldable pub driver_of : List ℕ → DriverRead
 driver_of b = pick_driver (is_driver b) (driver_from (parts_from 0 driver_widths b))
+
+-- what the code's answer means
+abbrev pub driver_meant : Option Driver → DriverRead
+driver_meant (Some d) = driver_read true d
+driver_meant None = driver_read false (driver Generic 1 (pos 0) 0 0 0)

@@ -1,7 +1,7 @@
 -- The tuner's record as 78 bytes. Document 01, "The record": "It holds kind, address, 27 shadow bytes for 0x05..0x1f, nominal and corrected
 -- reference, lock, gain, IF .., notch, and our attempt record"; #106: the shadow is the bytes last attempted, "and only the doubtful marks are kept beside it".
 -- Assumes nothing.
-use Rattle.std.specs.Prelude.{ℕ, Bool, true, false, ◌&&◌, List, [], ◌∷◌, map, eqb, leb, length}
+use Rattle.std.specs.Prelude.{ℕ, Bool, true, false, ◌&&◌, List, [], ◌∷◌, map, eqb, leb, length, Option, Some, None}
 use Rattle.std.specs.Float.{binary32}
 use Rattle.std.specs.Float.Ieee.{of_bits, to_bits}
 use Rattle.wire.specs.Bytes.{le_bytes}
@@ -9,7 +9,6 @@ use Rattle.chip.specs.declared.Chip.{Chip}
 use Rattle.pll.specs.declared.Kind.TheVariants.{R820T}
 use Rattle.r82xx.specs.declared.Tuner.{Tuner}
 use Rattle.r82xx.specs.Record.{fresh_tuner}
-use Rattle.records.specs.declared.TunerRead.{TunerRead}
 use Rattle.pll.specs.Plan.{kind_number}
 use Rattle.records.specs.Fields.{flag_byte, flag_read, flags_only, kind_of, proper_gain}
 use Rattle.wire.specs.Parts.{joined, num, part, parts_from}
@@ -66,6 +65,11 @@ tuner_fits ps =
 unfoldable pub is_tuner : List ℕ → Bool
 is_tuner b = eqb (length b) 78 && tuner_fits (parts_from 0 tuner_widths b)
 
+-- a record that bytes are read as; where they are not valid, `tuner` is a fresh one and counts for nothing
+pub record TunerRead : Type 0 where
+  pub ok : Bool
+  pub tuner : Tuner
+
 abbrev pub tuner_read : Bool → Tuner → TunerRead
 tuner_read ok tuner = record { ok = ok; tuner = tuner }
 
@@ -76,3 +80,8 @@ pick_tuner false t = tuner_read false (fresh_tuner R820T 0 1)
 -- "A given record out of its ranges .., or bytes that no record is written to, is refused"
 unfoldable pub tuner_of : List ℕ → TunerRead
 tuner_of b = pick_tuner (is_tuner b) (tuner_from (parts_from 0 tuner_widths b))
+
+-- what the code's answer means
+abbrev pub tuner_meant : Option Tuner → TunerRead
+tuner_meant (Some t) = tuner_read true t
+tuner_meant None = tuner_read false (fresh_tuner R820T 0 1)

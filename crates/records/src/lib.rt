@@ -5,13 +5,11 @@
 #![tactic(auto)]
 
 ghost use Rattle.std.specs.Prelude.{◌≡◌, map, ◌+◌, ◌≤◌, ◌<◌, length, take, drop};
-ghost use Rattle.std.proofs.lemmas.List.Edits.{sets};
-ghost use Rattle.wire.specs.Bytes.{le_bytes};
-ghost use Rattle.records.specs.Drivers.{driver_bytes, driver_from, driver_of, driver_widths};
+ghost use Rattle.records.specs.Drivers.{driver_bytes, driver_from, driver_meant, driver_of, driver_widths};
 ghost use Rattle.pll.specs.Plan.{kind_number};
 ghost use Rattle.records.specs.Fields.{board_from, flag_byte, flag_read, flags_only, kind_of, proper_gain};
 ghost use Rattle.wire.specs.Parts.{parts_from};
-ghost use Rattle.records.specs.Tuners.{chip_from, tuner_bytes, tuner_fits, tuner_from, tuner_of, tuner_widths};
+ghost use Rattle.records.specs.Tuners.{chip_from, tuner_bytes, tuner_fits, tuner_from, tuner_meant, tuner_of, tuner_widths};
 
 use board::Board;
 use chip::Chip;
@@ -53,41 +51,16 @@ const ACTUAL: usize = 21;
 
 pub const DRIVER: usize = 29;
 
-// A record that bytes were read as. Where they are not valid, `tuner` is a fresh one and counts for nothing.
-#[derive(Clone, Copy)]
-pub struct TunerRead {
-    pub ok: bool,
-    pub tuner: Tuner,
-}
-
-#[derive(Clone, Copy)]
-pub struct DriverRead {
-    pub ok: bool,
-    pub driver: Driver,
-}
-
-fn flag_byte(on: bool) -> u8
-    ensures { result ≡ flag_byte on }
-{
-    if on { 1 } else { 0 }
-}
-
 fn kind_number(kind: Kind) -> u8
     ensures { result ≡ kind_number kind }
 {
-    match kind {
-        Kind::R820T => 0,
-        Kind::R828D => 1,
-    }
+    kind as u8
 }
 
 fn kind_of(n: u64) -> Kind
     ensures { result ≡ kind_of n }
 {
-    if n == 1 {
-        return Kind::R828D;
-    }
-    Kind::R820T
+    if n == 1 { Kind::R828D } else { Kind::R820T }
 }
 
 // The bits of any NaN other than the one that a gain is written as are not valid.
@@ -101,23 +74,14 @@ fn bytes_at(b: &[u8], at: usize) -> [u8; 27]
     requires { at + 27 ≤ length b.now }
     ensures { result ≡ take 27 (drop at b.now) }
 {
-    let mut image = [0u8; 27];
-    wire::copy(&mut image, 0, &b[at..at + 27]);
-    image
+    <[u8; 27]>::try_from(&b[at..at + 27]).unwrap()
 }
 
 fn flags_at(b: &[u8], at: usize) -> [bool; 27]
     requires { at + 27 ≤ length b.now }
     ensures { result ≡ map flag_read (take 27 (drop at b.now)) }
 {
-    let image = bytes_at(b, at);
-    let mut flags = [false; 27];
-    let mut i = 0;
-    while i < 27 {
-        flags[i] = image[i] == 1;
-        i += 1;
-    }
-    flags
+    bytes_at(b, at).map(|x| x == 1)
 }
 
 // No early return: a loop without one is one that the compiler can run over several bytes at once.
@@ -127,10 +91,8 @@ fn flags_only(b: &[u8], at: usize) -> bool
 {
     let image = bytes_at(b, at);
     let mut ok = true;
-    let mut i = 0;
-    while i < 27 {
-        ok = ok & (image[i] <= 1);
-        i += 1;
+    for x in &image {
+        ok = ok & (*x <= 1);
     }
     ok
 }
@@ -138,13 +100,7 @@ fn flags_only(b: &[u8], at: usize) -> bool
 fn flag_bytes(flags: [bool; 27]) -> [u8; 27]
     ensures { result ≡ map flag_byte flags }
 {
-    let mut image = [0u8; 27];
-    let mut i = 0;
-    while i < 27 {
-        image[i] = flag_byte(flags[i]);
-        i += 1;
-    }
-    image
+    flags.map(|on| on as u8)
 }
 
 fn tuner_fits(b: &[u8]) -> bool
@@ -188,39 +144,16 @@ fn tuner_in(b: &[u8]) -> Tuner
 }
 
 // The record that valid bytes are written from.
-pub fn decode_tuner(b: &[u8]) -> TunerRead
-    ensures { result ≡ tuner_of b.now }
+pub fn decode_tuner(b: &[u8]) -> Option<Tuner>
+    ensures { tuner_meant result ≡ tuner_of b.now }
 {
-    let none = Tuner::new(0, 0, 1);
-    let fresh = none.tuner;
-    let refused = TunerRead {
-        ok: false,
-        tuner: fresh,
-    };
     if b.len() != TUNER {
-        return refused;
+        return None;
     }
     if !tuner_fits(b) {
-        return refused;
+        return None;
     }
-    TunerRead {
-        ok: true,
-        tuner: tuner_in(b),
-    }
-}
-
-fn number(image: &mut [u8; 78], at: usize, n: u64, k: usize)
-    requires { at + k ≤ 78 }
-    ensures { image.new ≡ sets image.old at (le_bytes k n) }
-{
-    wire::put(image, at, n, k);
-}
-
-fn list(image: &mut [u8; 78], at: usize, bytes: [u8; 27])
-    requires { at + 27 ≤ 78 }
-    ensures { (image.new ≡ sets image.old at bytes) × (length bytes ≡ 27) }
-{
-    wire::copy(image, at, &bytes);
+    Some(tuner_in(b))
 }
 
 // The record's 78 bytes.
@@ -232,26 +165,23 @@ pub fn tuner_image(t: Tuner) -> [u8; 78]
     let shadow = chip_state.shadow;
     let doubtful = chip_state.doubtful;
     let mut image = [0u8; 78];
-    number(&mut image, 0, kind_number(kind) as u64, 1);
-    number(&mut image, ADDRESS, chip_state.address as u64, 1);
-    list(&mut image, SHADOW, shadow);
-    number(&mut image, NOMINAL, t.nominal as u64, 4);
-    number(&mut image, CORRECTED, t.corrected as u64, 4);
-    number(&mut image, LOCK, flag_byte(t.lock) as u64, 1);
-    number(&mut image, GAIN, wire::bits_of(t.gain) as u64, 4);
-    number(&mut image, IFREQ, t.ifreq, 8);
-    number(&mut image, NOTCH, flag_byte(t.notch) as u64, 1);
-    list(&mut image, DOUBTFUL, flag_bytes(doubtful));
+    wire::put(&mut image, 0, kind_number(kind) as u64, 1);
+    wire::put(&mut image, ADDRESS, chip_state.address as u64, 1);
+    wire::copy(&mut image, SHADOW, &shadow);
+    wire::put(&mut image, NOMINAL, t.nominal as u64, 4);
+    wire::put(&mut image, CORRECTED, t.corrected as u64, 4);
+    wire::put(&mut image, LOCK, t.lock as u64, 1);
+    wire::put(&mut image, GAIN, wire::bits_of(t.gain) as u64, 4);
+    wire::put(&mut image, IFREQ, t.ifreq, 8);
+    wire::put(&mut image, NOTCH, t.notch as u64, 1);
+    wire::copy(&mut image, DOUBTFUL, &flag_bytes(doubtful));
     image
 }
 
 fn board_from(n: u64) -> Board
     ensures { result ≡ board_from n }
 {
-    if n == 1 {
-        return Board::V4;
-    }
-    Board::Generic
+    if n == 1 { Board::V4 } else { Board::Generic }
 }
 
 fn driver_in(b: &[u8]) -> Driver
@@ -269,39 +199,17 @@ fn driver_in(b: &[u8]) -> Driver
 }
 
 // "A given driver record whose nominal and ppm give a bad" corrected reference is not valid.
-pub fn decode_driver(b: &[u8]) -> DriverRead
-    ensures { result ≡ driver_of b.now }
+pub fn decode_driver(b: &[u8]) -> Option<Driver>
+    ensures { driver_meant result ≡ driver_of b.now }
 {
-    let none = Driver {
-        board: Board::Generic,
-        nominal: 1,
-        ppm: 0,
-        frequency: 0,
-        rate: 0,
-        actual: 0,
-    };
-    let refused = DriverRead {
-        ok: false,
-        driver: none,
-    };
     if b.len() != DRIVER {
-        return refused;
+        return None;
     }
     let d = driver_in(b);
     if !((wire::get(b, 0, 1) <= 1) & (1 <= driver::xtal_by(d.nominal, d.ppm))) {
-        return refused;
+        return None;
     }
-    DriverRead {
-        ok: true,
-        driver: d,
-    }
-}
-
-fn field(image: &mut [u8; 29], at: usize, n: u64, k: usize)
-    requires { at + k ≤ 29 }
-    ensures { image.new ≡ sets image.old at (le_bytes k n) }
-{
-    wire::put(image, at, n, k);
+    Some(d)
 }
 
 // The record's 29 bytes.
@@ -310,11 +218,11 @@ pub fn driver_image(d: Driver) -> [u8; 29]
 {
     let named = d.board;
     let mut image = [0u8; 29];
-    field(&mut image, 0, u8::from(named) as u64, 1);
-    field(&mut image, REFERENCE, d.nominal as u64, 4);
-    field(&mut image, PPM, wire::to_bits(d.ppm) as u64, 4);
-    field(&mut image, FREQUENCY, d.frequency, 8);
-    field(&mut image, RATE, d.rate as u64, 4);
-    field(&mut image, ACTUAL, d.actual, 8);
+    wire::put(&mut image, 0, u8::from(named) as u64, 1);
+    wire::put(&mut image, REFERENCE, d.nominal as u64, 4);
+    wire::put(&mut image, PPM, wire::to_bits(d.ppm) as u64, 4);
+    wire::put(&mut image, FREQUENCY, d.frequency, 8);
+    wire::put(&mut image, RATE, d.rate as u64, 4);
+    wire::put(&mut image, ACTUAL, d.actual, 8);
     image
 }

@@ -4,7 +4,7 @@ ghost use Rattle.replay.specs.Agreement.{NumbersAgree, Written, Valued, Agrees, 
 
 use crate::layout;
 
-#[derive(Clone, Copy)]
+#[derive(Clone, Copy, PartialEq, Eq)]
 pub enum Verdict {
     Same,
     Differ,
@@ -51,14 +51,7 @@ pub fn numbers(c: &[u8], a: Answer) -> bool
 fn untouched(s: &[u8]) -> bool
     ensures { result ≡ true → (k : ℕ) → k < length s.now → slice_index s.now k ≡ 165 }
 {
-    let mut i = 0;
-    while i < s.len() {
-        if s[i] != 0xa5 {
-            return false;
-        }
-        i += 1;
-    }
-    true
+    s.iter().all(|b| *b == 0xa5)
 }
 
 // Whether memory that was lent full of 0xa5 has these bytes at its start, and is as it was past them.

@@ -1,7 +1,5 @@
 // The driver's calls, over the records' bytes: fresh (16), the corrected reference (18), sample rate on both records (19), the board path (20), and the correction
 // of both records (41).
-ghost use Rattle.std.specs.Prelude.{◌≤◌, length};
-
 use crate::{compare, handed, layout};
 use boards::Hopped;
 use compare::Verdict;
@@ -29,40 +27,32 @@ pub fn fresh(c: &[u8]) -> Verdict {
 }
 
 pub fn corrected_xtal_hz(c: &[u8]) -> Verdict {
-    let read = records::decode_driver(layout::part(c, layout::DRIVER));
-    if !read.ok {
-        return handed::refused(c, &[]);
+    match records::decode_driver(layout::part(c, layout::DRIVER)) {
+        Some(d) => handed::bare(c, d.corrected_xtal_hz()),
+        None => handed::refused(c, &[]),
     }
-    let d = read.driver;
-    handed::bare(c, d.corrected_xtal_hz())
+}
+
+// Both records of a case, the driver's first.
+fn both(c: &[u8]) -> Option<(Driver, Tuner)> {
+    records::decode_driver(layout::part(c, layout::DRIVER)).zip(records::decode_tuner(layout::part(
+        c,
+        layout::TUNER,
+    )))
 }
 
 // The recording's centre (44), by both records and a table.
 pub fn centre(c: &[u8]) -> Verdict {
-    let d = records::decode_driver(layout::part(c, layout::DRIVER));
-    let t = records::decode_tuner(layout::part(c, layout::TUNER));
-    let whole = d.ok & t.ok;
-    if !whole {
+    let Some((d, t)) = both(c) else {
         return handed::refused(c, &[]);
-    }
-    handed::bare(
-        c,
-        centre::centre(d.driver, t.tuner, layout::part(c, layout::INPUT)),
-    )
+    };
+    handed::bare(c, centre::centre(d, t, layout::part(c, layout::INPUT)))
 }
 
-fn rate(c: &[u8], t: Tuner, d: Driver, n: usize, space: &mut [u8]) -> Rated
-    requires { n ≤ length space.old }
-{
+fn rate(c: &[u8], t: Tuner, d: Driver, room: &mut [u8]) -> Rated {
     let hz = layout::four(c, layout::A) as u32;
     let table = layout::part(c, layout::INPUT);
-    d.set_sample_rate(
-        t,
-        table,
-        hz,
-        layout::part(c, layout::OUTCOMES),
-        &mut space[0..n],
-    )
+    d.set_sample_rate(t, table, hz, layout::part(c, layout::OUTCOMES), room)
 }
 
 fn judged_both(
@@ -82,40 +72,32 @@ fn judged_both(
 
 // The tuner's slice first, then the driver's, as the call takes them; the ppm where call 10 had it.
 pub fn set_ppm(c: &[u8]) -> Verdict {
-    let read = records::decode_tuner(layout::part(c, layout::TUNER));
-    let given = records::decode_driver(layout::part(c, layout::DRIVER));
-    if !(read.ok & given.ok) {
+    let Some((d, t)) = both(c) else {
         return handed::refused(c, &[]);
-    }
-    let t = read.tuner;
-    let d = given.driver;
+    };
     let told = driver::corrected(t, d, ppm_of(c));
-    let answer = told.answer;
-    judged_both(c, answer, 0, told.tuner, told.driver, &[], &[])
+    judged_both(c, told.answer, 0, told.tuner, told.driver, &[], &[])
 }
 
 pub fn set_sample_rate(c: &[u8]) -> Verdict {
-    let mut space = [0xa5u8; 1088];
-    let n = layout::two(c, layout::ROOM);
-    if 1088 < n {
-        return Verdict::Differ;
-    }
-    let read = records::decode_tuner(layout::part(c, layout::TUNER));
-    let given = records::decode_driver(layout::part(c, layout::DRIVER));
-    if !(read.ok & given.ok) {
-        return handed::refused(c, handed::room(&space, n));
-    }
-    let t = read.tuner;
-    let d = given.driver;
-    let rated = rate(c, t, d, n, &mut space);
-    let answer = rated.answer;
-    let room = handed::room(&space, n);
-    judged_both(c, answer, rated.count, rated.tuner, rated.driver, room, &[])
+    handed::in_room(c, |room| {
+        let Some((d, t)) = both(c) else {
+            return handed::refused(c, room);
+        };
+        let rated = rate(c, t, d, room);
+        judged_both(
+            c,
+            rated.answer,
+            rated.count,
+            rated.tuner,
+            rated.driver,
+            room,
+            &[],
+        )
+    })
 }
 
-fn hop(c: &[u8], t: Tuner, d: Driver, n: usize, space: &mut [u8]) -> Hopped
-    requires { n ≤ length space.old }
-{
+fn hop(c: &[u8], t: Tuner, d: Driver, room: &mut [u8]) -> Hopped {
     let table = layout::part(c, layout::INPUT);
     let outcomes = layout::part(c, layout::OUTCOMES);
     let replies = layout::part(c, layout::REPLIES);
@@ -126,60 +108,44 @@ fn hop(c: &[u8], t: Tuner, d: Driver, n: usize, space: &mut [u8]) -> Hopped
         layout::eight(c, layout::A),
         outcomes,
         replies,
-        &mut space[0..n],
+        room,
     )
 }
 
 // The board-level tune (42), which tells its tries and whether it locked beside any answer, as a tuning does.
 pub fn tune_board(c: &[u8]) -> Verdict {
-    let mut space = [0xa5u8; 1088];
-    let n = layout::two(c, layout::ROOM);
-    if 1088 < n {
-        return Verdict::Differ;
-    }
-    let read = records::decode_tuner(layout::part(c, layout::TUNER));
-    let given = records::decode_driver(layout::part(c, layout::DRIVER));
-    let t = read.tuner;
-    let d = given.driver;
-    if !(read.ok & given.ok) {
-        let setup = Answer::Refused(refusals::SETUP);
-        return judged_both(c, setup, 0, t, d, handed::room(&space, n), &[0, 0]);
-    }
-    let hopped = hop(c, t, d, n, &mut space);
-    let answer = hopped.answer;
-    let seen = [(hopped.tries % 256) as u8, hopped.locked as u8];
-    let room = handed::room(&space, n);
-    judged_both(
-        c,
-        answer,
-        hopped.count,
-        hopped.tuner,
-        hopped.driver,
-        room,
-        &seen,
-    )
+    handed::in_room(c, |room| {
+        let Some((d, t)) = both(c) else {
+            let told = handed::numbers(Answer::Refused(refusals::SETUP), 0);
+            return compare::agrees(c, told, room, &[0xa5; 78], &[0xa5; 29], &[0, 0]);
+        };
+        let hopped = hop(c, t, d, room);
+        let seen = [(hopped.tries % 256) as u8, hopped.locked as u8];
+        judged_both(
+            c,
+            hopped.answer,
+            hopped.count,
+            hopped.tuner,
+            hopped.driver,
+            room,
+            &seen,
+        )
+    })
 }
 
-fn take_path(c: &[u8], t: Tuner, n: usize, space: &mut [u8]) -> r82xx::TunerResult
-    requires { n ≤ length space.old }
-{
+fn take_path(c: &[u8], t: Tuner, room: &mut [u8]) -> r82xx::TunerResult {
     let path = layout::one(c, layout::A) as u8;
     let outcomes = layout::part(c, layout::OUTCOMES);
     let replies = layout::part(c, layout::REPLIES);
-    driver::apply_input_path(t, path, outcomes, replies, &mut space[0..n])
+    driver::apply_input_path(t, path, outcomes, replies, room)
 }
 
 pub fn apply_input_path(c: &[u8]) -> Verdict {
-    let mut space = [0xa5u8; 1088];
-    let n = layout::two(c, layout::ROOM);
-    if 1088 < n {
-        return Verdict::Differ;
-    }
-    let read = records::decode_tuner(layout::part(c, layout::TUNER));
-    if !read.ok {
-        return handed::refused(c, handed::room(&space, n));
-    }
-    let t = read.tuner;
-    let told = take_path(c, t, n, &mut space);
-    handed::judged(c, told, handed::room(&space, n))
+    handed::in_room(
+        c,
+        |room| match records::decode_tuner(layout::part(c, layout::TUNER)) {
+            Some(t) => handed::judged(c, take_path(c, t, room), room),
+            None => handed::refused(c, room),
+        },
+    )
 }

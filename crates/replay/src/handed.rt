@@ -50,14 +50,22 @@ pub fn next_driver(told: compare::Answer, driver: Driver) -> [u8; 29] {
     [0xa5u8; 29]
 }
 
-// The room of a case: the array's length is in its type, so that its part needs no fact about what a call wrote there.
-pub fn room(space: &[u8; 1088], n: usize) -> &[u8] {
-    layout::cut(space, 0, n)
+// A call to which the case's room is lent, or a slice as long for answered bytes: full of 0xa5 before it, and `judge` makes it and looks at what it left there.
+// No case has more than 1088 bytes of it.
+pub fn in_room<F: FnOnce(&mut [u8]) -> Verdict>(c: &[u8], judge: F) -> Verdict
+    requires { F.IsAlwaysCallable judge }
+{
+    let n = layout::two(c, layout::ROOM);
+    if 1088 < n {
+        return Verdict::Differ;
+    }
+    let mut space = [0xa5u8; 1088];
+    judge(&mut space[0..n])
 }
 
 // A call whose answer is bytes in a lent slice.
-pub fn answered(c: &[u8], answer: Answer, out: &[u8; 1088], n: usize) -> Verdict {
-    compare::agrees(c, numbers(answer, 0), &[], &[], &[], room(out, n))
+pub fn answered(c: &[u8], answer: Answer, out: &[u8]) -> Verdict {
+    compare::agrees(c, numbers(answer, 0), &[], &[], &[], out)
 }
 
 // With what the call answered in bytes.
@@ -75,13 +83,14 @@ pub fn judged(c: &[u8], told: TunerResult, room: &[u8]) -> Verdict {
 
 // A given record that is not valid.
 pub fn refused(c: &[u8], room: &[u8]) -> Verdict {
-    let told = compare::Answer {
-        refusal: refusals::SETUP as u64,
-        value: 0,
-        index: 0,
-        count: 0,
-    };
-    compare::agrees(c, told, room, &[], &[], &[])
+    compare::agrees(
+        c,
+        numbers(Answer::Refused(refusals::SETUP), 0),
+        room,
+        &[],
+        &[],
+        &[],
+    )
 }
 
 // A call that hands nothing back but its answer.

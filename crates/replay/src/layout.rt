@@ -118,10 +118,8 @@ pub fn start(c: &[u8], k: usize) -> usize
     ensures { result ≡ start_at c.now k }
 {
     let mut at = 72;
-    let mut i = 0;
-    while i < k {
+    for i in 0..k {
         at += size(c, i);
-        i += 1;
     }
     at
 }

@@ -4,64 +4,68 @@ use crate::{compare, handed, layout};
 use compare::{Answer, Verdict};
 
 pub fn plan_tuning(c: &[u8]) -> Verdict {
-    let number = layout::eight(c, layout::C);
-    let n = layout::two(c, layout::ROOM);
-    if 1088 < n {
-        return Verdict::Differ;
-    }
-    let mut out = [0xa5u8; 1088];
-    let a = answers::plan_tuning(number, layout::eight(c, layout::A), &mut out[0..n]);
-    handed::answered(c, a, &out, n)
+    handed::in_room(c, |out| {
+        let a = answers::plan_tuning(
+            layout::eight(c, layout::C),
+            layout::eight(c, layout::A),
+            out,
+        );
+        handed::answered(c, a, out)
+    })
 }
 
 pub fn plan_pll(c: &[u8]) -> Verdict {
-    let lo = layout::eight(c, layout::A);
-    let reference = layout::eight(c, layout::B);
-    let n = layout::two(c, layout::ROOM);
-    if 0xffff_ffff < reference || 1088 < n {
+    let Ok(reference) = u32::try_from(layout::eight(c, layout::B)) else {
         return Verdict::Differ;
-    }
-    let mut out = [0xa5u8; 1088];
-    let kind = layout::eight(c, layout::C);
-    let a = answers::plan_pll(kind, lo, reference as u32, &mut out[0..n]);
-    handed::answered(c, a, &out, n)
+    };
+    handed::in_room(c, |out| {
+        let a = answers::plan_pll(
+            layout::eight(c, layout::C),
+            layout::eight(c, layout::A),
+            reference,
+            out,
+        );
+        handed::answered(c, a, out)
+    })
 }
 
 pub fn plan_pll_by_worksheet(c: &[u8]) -> Verdict {
-    let lo = layout::eight(c, layout::A);
-    let reference = layout::eight(c, layout::B);
-    let n = layout::two(c, layout::ROOM);
-    if 0xffff_ffff < reference || 1088 < n {
+    let Ok(reference) = u32::try_from(layout::eight(c, layout::B)) else {
         return Verdict::Differ;
-    }
-    let mut out = [0xa5u8; 1088];
-    let kind = layout::eight(c, layout::C);
-    let a = answers::plan_pll_by_worksheet(kind, lo, reference as u32, &mut out[0..n]);
-    handed::answered(c, a, &out, n)
+    };
+    handed::in_room(c, |out| {
+        let a = answers::plan_pll_by_worksheet(
+            layout::eight(c, layout::C),
+            layout::eight(c, layout::A),
+            reference,
+            out,
+        );
+        handed::answered(c, a, out)
+    })
+}
+
+// Two numbers of 32 bits to bytes.
+fn registers<F: FnOnce(u32, u32, &mut [u8]) -> refusals::Answer>(c: &[u8], call: F) -> Verdict
+    requires { F.IsAlwaysCallable call }
+{
+    let Ok(first) = u32::try_from(layout::eight(c, layout::A)) else {
+        return Verdict::Differ;
+    };
+    let Ok(second) = u32::try_from(layout::eight(c, layout::B)) else {
+        return Verdict::Differ;
+    };
+    handed::in_room(c, |out| {
+        let a = call(first, second, out);
+        handed::answered(c, a, out)
+    })
 }
 
 pub fn if_freq_regs(c: &[u8]) -> Verdict {
-    let hz = layout::eight(c, layout::A);
-    let xtal = layout::eight(c, layout::B);
-    let n = layout::two(c, layout::ROOM);
-    if 0xffff_ffff < hz || 0xffff_ffff < xtal || 1088 < n {
-        return Verdict::Differ;
-    }
-    let mut out = [0xa5u8; 1088];
-    let a = answers::if_freq_regs(hz as u32, xtal as u32, &mut out[0..n]);
-    handed::answered(c, a, &out, n)
+    registers(c, answers::if_freq_regs)
 }
 
 pub fn resample_regs(c: &[u8]) -> Verdict {
-    let rate = layout::eight(c, layout::A);
-    let xtal = layout::eight(c, layout::B);
-    let n = layout::two(c, layout::ROOM);
-    if 0xffff_ffff < rate || 0xffff_ffff < xtal || 1088 < n {
-        return Verdict::Differ;
-    }
-    let mut out = [0xa5u8; 1088];
-    let a = answers::resample_regs(rate as u32, xtal as u32, &mut out[0..n]);
-    handed::answered(c, a, &out, n)
+    registers(c, answers::resample_regs)
 }
 
 pub fn read_section(c: &[u8]) -> Verdict {

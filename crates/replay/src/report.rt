@@ -3,87 +3,76 @@ ghost use Rattle.std.specs.Prelude.{◌<◌};
 
 use crate::compare;
 use compare::Verdict;
-use std::io;
-
-fn text(rt: &impl Print, s: &str) -> io::Result<()> {
-    rt.print(s)
-}
-
-fn decimal(rt: &impl Print, n: u64) -> io::Result<()> {
-    rt.print(n)
-}
+use std::{fmt, io};
 
 // Calls 1 to 20: over the tuner's and the driver's records.
-fn record_name(rt: &impl Print, call: u64) -> io::Result<()> {
+fn record_name(call: u64) -> &'static str {
     match call {
-        1 => text(rt, "fresh tuner"),
-        2 => text(rt, "initialise"),
-        3 => text(rt, "tune"),
-        4 => text(rt, "gain in dB"),
-        5 => text(rt, "gain by index"),
-        6 => text(rt, "bandwidth"),
-        7 => text(rt, "IF"),
-        8 => text(rt, "input path"),
-        9 => text(rt, "reload"),
-        11 => text(rt, "notch"),
-        13 => text(rt, "get gain"),
-        14 => text(rt, "get IF"),
-        15 => text(rt, "gain table"),
-        16 => text(rt, "fresh driver"),
-        18 => text(rt, "corrected reference"),
-        19 => text(rt, "sample rate"),
-        20 => text(rt, "board path"),
-        _ => text(rt, "no such call"),
+        1 => "fresh tuner",
+        2 => "initialise",
+        3 => "tune",
+        4 => "gain in dB",
+        5 => "gain by index",
+        6 => "bandwidth",
+        7 => "IF",
+        8 => "input path",
+        9 => "reload",
+        11 => "notch",
+        13 => "get gain",
+        14 => "get IF",
+        15 => "gain table",
+        16 => "fresh driver",
+        18 => "corrected reference",
+        19 => "sample rate",
+        20 => "board path",
+        _ => "no such call",
     }
 }
 
 // Calls 21 to 40: the demodulator, GPIO, and what takes no record. 41 and 42: what document 02 added. From 43 on: which station a receiver stands on, ours.
-fn other_name(rt: &impl Print, call: u64) -> io::Result<()> {
+fn other_name(call: u64) -> &'static str {
     match call {
-        21 => text(rt, "init_baseband"),
-        22 => text(rt, "power_on"),
-        23 => text(rt, "set_tuner_low_if"),
-        24 => text(rt, "set_tuner_zero_if"),
-        25 => text(rt, "reset_demod"),
-        26 => text(rt, "write_reg_direct"),
-        27 => text(rt, "set_if_freq_xtal"),
-        28 => text(rt, "set_sample_rate_xtal"),
-        29 => text(rt, "start_streaming"),
-        30 => text(rt, "stop_streaming"),
-        31 => text(rt, "set_gpio_output"),
-        32 => text(rt, "set_gpio_bit"),
-        33 => text(rt, "plan_tuning"),
-        34 => text(rt, "if_freq_regs"),
-        35 => text(rt, "resample_regs"),
-        36 => text(rt, "FIR packer"),
-        37 => text(rt, "FIR unpacker"),
-        38 => text(rt, "section reader"),
-        39 => text(rt, "plan_pll"),
-        40 => text(rt, "plan_pll_by_worksheet"),
-        41 => text(rt, "set_ppm of both"),
-        42 => text(rt, "board-level tune"),
-        43 => text(rt, "oscillator"),
-        44 => text(rt, "centre"),
-        _ => text(rt, "no such call"),
+        21 => "init_baseband",
+        22 => "power_on",
+        23 => "set_tuner_low_if",
+        24 => "set_tuner_zero_if",
+        25 => "reset_demod",
+        26 => "write_reg_direct",
+        27 => "set_if_freq_xtal",
+        28 => "set_sample_rate_xtal",
+        29 => "start_streaming",
+        30 => "stop_streaming",
+        31 => "set_gpio_output",
+        32 => "set_gpio_bit",
+        33 => "plan_tuning",
+        34 => "if_freq_regs",
+        35 => "resample_regs",
+        36 => "FIR packer",
+        37 => "FIR unpacker",
+        38 => "section reader",
+        39 => "plan_pll",
+        40 => "plan_pll_by_worksheet",
+        41 => "set_ppm of both",
+        42 => "board-level tune",
+        43 => "oscillator",
+        44 => "centre",
+        _ => "no such call",
     }
 }
 
-fn name(rt: &impl Print, call: u64) -> io::Result<()> {
-    decimal(rt, call)?;
-    text(rt, " ")?;
-    if call <= 20 {
-        return record_name(rt, call);
-    }
-    other_name(rt, call)
-}
+// A call by its number, as the rows name it.
+#[derive(Drop)]
+struct Call(u64);
 
-fn place(v: Verdict) -> usize
-    ensures { result < 3 }
-{
-    match v {
-        Verdict::Same => 0,
-        Verdict::Differ => 1,
-        Verdict::Later => 2,
+impl fmt::Display for Call {
+    fn fmt<W: fmt::Write>(&self, f: &mut fmt::Formatter<W>) -> fmt::Result {
+        let number = self.0;
+        let name = if number <= 20 {
+            record_name(number)
+        } else {
+            other_name(number)
+        };
+        write!(f, "{number} {name}")
     }
 }
 
@@ -91,24 +80,16 @@ fn place(v: Verdict) -> usize
 fn column(tally: &[u64; 192], k: usize) -> u64
     requires { k < 3 }
 {
-    let mut sum = 0;
-    let mut i = 0;
-    while i < 64 {
-        sum = std::num::wrapping_add_u64(sum, tally[3 * i + k]);
-        i += 1;
+    let mut sum: u64 = 0;
+    for row in 0..64 {
+        sum = sum.wrapping_add(tally[3 * row + k]);
     }
     sum
 }
 
 // A case that differs, so that a person finds it: its list and its number there, both from docs/VECTORS.md.
 fn differs(rt: &impl Print, list: u64, i: u64, call: u64) -> io::Result<()> {
-    text(rt, "differs: list ")?;
-    decimal(rt, list)?;
-    text(rt, " case ")?;
-    decimal(rt, i)?;
-    text(rt, " call ")?;
-    name(rt, call)?;
-    text(rt, "\n")
+    println!(rt; "differs: list {list} case {i} call {}", Call(call))
 }
 
 // A call number past the table counts as 0, which is no call.
@@ -130,34 +111,23 @@ pub fn count(
     v: Verdict,
     tally: &mut [u64; 192],
 ) -> io::Result<()> {
-    let k = place(v);
-    let at = 3 * row_of(call) + k;
-    tally[at] = std::num::wrapping_add_u64(tally[at], 1);
-    if k == 1 && column(tally, 1) <= 10 {
+    let at = 3 * row_of(call) + v as usize;
+    tally[at] = tally[at].wrapping_add(1);
+    if v == Verdict::Differ && column(tally, 1) <= 10 {
         differs(rt, list, i, call)?;
     }
     Ok(())
 }
 
-fn counts(rt: &impl Print, same: u64, differ: u64, later: u64) -> io::Result<()> {
-    decimal(rt, same)?;
-    text(rt, " same, ")?;
-    decimal(rt, differ)?;
-    text(rt, " differ, ")?;
-    decimal(rt, later)?;
-    text(rt, " not there yet\n")
-}
-
 fn row(rt: &impl Print, tally: &[u64; 192], call: usize) -> io::Result<()>
     requires { call < 64 }
 {
-    name(rt, call as u64)?;
-    text(rt, ": ")?;
-    counts(
-        rt,
-        tally[3 * call],
-        tally[3 * call + 1],
-        tally[3 * call + 2],
+    let same = tally[3 * call];
+    let differ = tally[3 * call + 1];
+    let later = tally[3 * call + 2];
+    println!(rt;
+        "{}: {same} same, {differ} differ, {later} not there yet",
+        Call(call as u64)
     )
 }
 
@@ -172,8 +142,6 @@ pub fn totals(rt: &impl Print, tally: &[u64; 192]) -> io::Result<()> {
     let same = column(tally, 0);
     let differ = column(tally, 1);
     let later = column(tally, 2);
-    let cases = std::num::wrapping_add_u64(std::num::wrapping_add_u64(same, differ), later);
-    decimal(rt, cases)?;
-    text(rt, " cases: ")?;
-    counts(rt, same, differ, later)
+    let cases = same.wrapping_add(differ).wrapping_add(later);
+    println!(rt; "{cases} cases: {same} same, {differ} differ, {later} not there yet")
 }

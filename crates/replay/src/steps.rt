@@ -1,6 +1,4 @@
 // The calls that make entries and touch no record: the demodulator's (21 to 30) and GPIO (31, 32).
-ghost use Rattle.std.specs.Prelude.{◌≤◌, length};
-
 use crate::{compare, handed, layout};
 use compare::Verdict;
 use device::Handed;
@@ -37,25 +35,25 @@ fn ask_other(c: &[u8], outcomes: &[u8], room: &mut [u8]) -> Handed {
     }
 }
 
-fn ask(c: &[u8], n: usize, space: &mut [u8]) -> Handed
-    requires { n ≤ length space.old }
-{
+fn ask(c: &[u8], room: &mut [u8]) -> Handed {
     let outcomes = layout::part(c, layout::OUTCOMES);
     let call = layout::one(c, layout::CALL);
     if (call == 26) | (30 < call) {
-        return ask_other(c, outcomes, &mut space[0..n]);
+        return ask_other(c, outcomes, room);
     }
-    ask_demod(c, outcomes, &mut space[0..n])
+    ask_demod(c, outcomes, room)
 }
 
 pub fn made(c: &[u8]) -> Verdict {
-    let mut space = [0xa5u8; 1088];
-    let n = layout::two(c, layout::ROOM);
-    if 1088 < n {
-        return Verdict::Differ;
-    }
-    let back = ask(c, n, &mut space);
-    let answer = back.answer;
-    let told = handed::numbers(answer, back.count);
-    compare::agrees(c, told, handed::room(&space, n), &[], &[], &[])
+    handed::in_room(c, |room| {
+        let back = ask(c, room);
+        compare::agrees(
+            c,
+            handed::numbers(back.answer, back.count),
+            room,
+            &[],
+            &[],
+            &[],
+        )
+    })
 }

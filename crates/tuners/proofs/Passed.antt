@@ -8,7 +8,6 @@ use native.Mathlib.Omega.{arith}
 use borrow.Author.Tests.{eq-eqb, eqb-false, eqb-true, ne_eqb, lt-ltb, ltb-false}
 use lib.Dec.{eqb, ltb}
 use lib.ListN.{length}
-use lib.Seq.{sets}
 use Rattle.std.specs.Prelude.{Option, Some, None}
 use Rattle.board.specs.declared.Path.{Path}
 use Rattle.board.specs.declared.Path.TheVariants.{Hf, Vhf, Uhf}
@@ -25,26 +24,23 @@ use Rattle.chip.specs.Entries.{no_tries}
 use Rattle.r82xx.specs.declared.Tuner.{Tuner}
 use Rattle.r82xx.specs.Orders.{bracket, path_row}
 use Rattle.r82xx.specs.Record.{sound}
-use Rattle.records.specs.declared.TunerRead.{TunerRead}
-use Rattle.records.specs.Tuners.{tuner_bytes, tuner_of}
+use Rattle.std.specs.Prelude.{None}
+use Rattle.records.specs.Tuners.{TunerRead, tuner_bytes, tuner_meant, tuner_of}
 use Rattle.reply.specs.declared.Reply.{Reply}
 use Rattle.reply.specs.declared.TuneReply.{TuneReply}
 use Rattle.reply.specs.Replies.{reply_of, tuned_of}
-use Rattle.tuners.specs.Over.{After, after, handed, is_written, next_of, over_tuner, over_tuning, path_refusal, ready_by, ready_of, refusal, lock_tries_over, tuned_by, tuned_to, unless_refused}
+use Rattle.tuners.specs.Over.{After, after, handed, next_of, over_tuner, over_tuning, path_refusal, ready_by, ready_of, refusal, lock_tries_over, tuned_by, tuned_to, unless_refused}
 
--- the four ways of `ready`, for one slice or two; and what holds where it refuses nothing
-module _ (ok : Bool) (argument : ℕ) (short : Bool) where
-  pub not_ok : ok ≡ false → 1 ≡ ready_by ok argument short
-  not_ok o = rw o
+-- the three ways of `ready`, for one slice or two; and what holds where it refuses nothing
+module _ (argument : ℕ) (short : Bool) where
+  pub bad_argument : (argument ≡ 0 → ⊥) → argument ≡ ready_by true argument short
+  bad_argument h = rw (ne_eqb argument 0 h)
 
-  pub bad_argument : ok ≡ true → (argument ≡ 0 → ⊥) → argument ≡ ready_by ok argument short
-  bad_argument o h = rw (o, ne_eqb argument 0 h)
+  pub too_short : argument ≡ 0 → short ≡ true → 8 ≡ ready_by true argument short
+  too_short z h = rw (eq-eqb argument 0 z, h)
 
-  pub too_short : ok ≡ true → argument ≡ 0 → short ≡ true → 8 ≡ ready_by ok argument short
-  too_short o z h = rw (o, eq-eqb argument 0 z, h)
-
-  pub all_there : ok ≡ true → argument ≡ 0 → short ≡ false → 0 ≡ ready_by ok argument short
-  all_there o z h = rw (o, eq-eqb argument 0 z, h)
+  pub all_there : argument ≡ 0 → short ≡ false → 0 ≡ ready_by true argument short
+  all_there z h = rw (eq-eqb argument 0 z, h)
 
 then_short : (b : Bool) (argument : ℕ) (short : Bool) → eqb argument 0 ≡ b → cond b (cond short ROOM 0) argument ≡ 0 → (short ≡ false) × (argument ≡ 0)
 then_short true argument true t e = absurd (omega (arith, e))
@@ -60,15 +56,17 @@ pub fits : (ok : Bool) (argument next need : ℕ) → ready_of ok argument next 
 unfolding ready_of
 fits ok argument next need e = ltb-false next need (none_refused ok argument (ltb next need) e).0
 
+pub not_argued : (ok : Bool) (argument next need : ℕ) → ready_of ok argument next need ≡ 0 → argument ≡ 0
+unfolding ready_of
+not_argued ok argument next need e = (none_refused ok argument (ltb next need) e).1
+
 -- where nothing is refused, a path's number is a byte
 path_named : (b : Bool) (path : ℕ) → ltb 2 path ≡ b → ◌≡◌ {A = ℕ} (cond b 1 0) 0 → path < 2 ^ 8
 path_named true path t e = absurd (omega (arith, e))
 path_named false path t e = omega (arith, ltb-false 2 path t)
 
-pub path_byte : (ok : Bool) (path k n next need : ℕ) → k ≡ path_refusal path → n ≡ ready_of ok k next need → n ≡ 0 → path < 2 ^ 8
-unfolding ready_of
-path_byte ok path k n next need asked said z =
-    path_named (ltb 2 path) path refl (sym asked ∙ (none_refused ok k (ltb next need) (sym said ∙ z)).1)
+pub path_byte : (path k : ℕ) → k ≡ path_refusal path → k ≡ 0 → path < 2 ^ 8
+path_byte path k asked z = path_named (ltb 2 path) path refl (sym asked ∙ z)
 
 -- a row by a path's number: 1 where it names none, and no other refusal
 pub path_argued : (row : Option Path → Course Tuner) → argument_of (row None) ≡ SETUP → ((p : Path) → argument_of (row (Some p)) ≡ 0)
@@ -158,12 +156,18 @@ module _ (row : Tuner → Course Tuner) (os b room next : List ℕ) where
         tuned_by (handed_back z u left count a e.0 r wrote h i)
         ((e.1 ∙ ap (λ (x : TunerRead). told x.tuner) is ∙ not_refused number (λ k. no_tries) (told (tuner_of b).tuner) (sym number_is ∙ z)) i))
 
--- a next record that is written, and one that is not
-module _ {R : Type 0} (bytes : R → List ℕ) (a : Answer) (count : ℕ) (new : R) (next : List ℕ) where
-  pub written : is_written a count ≡ true → sets next 0 (bytes new) ≡ next_of bytes a count new next
-  unfolding next_of
-  written h = rw h
+  -- bytes that are no record
+  module _ (none : tuner_meant None ≡ tuner_of b) where
+    abbrev stand_in : TunerRead
+    stand_in = tuner_meant None
 
-  pub left : is_written a count ≡ false → next ≡ next_of bytes a count new next
-  unfolding next_of
-  left h = rw h
+    judged : 1 ≡ ready_of false (argument stand_in.tuner) (length next) 78
+    unfolding ready_of
+    judged = refl
+
+    pub no_record_over : (r : Reply) → r ≡ reply_of (Refused SETUP) 0 → after r room next ≡ over_tuner row os b room next
+    no_record_over r = refused_by_lem stand_in (argument stand_in.tuner) 1 none refl judged r (λ z. omega arith)
+
+    pub no_record_tuned : (r : Reply) (t : TuneReply) → r ≡ reply_of (Refused SETUP) 0 → t ≡ tuned_of r no_tries
+        → tuned_to t room next ≡ over_tuning row os b room next
+    no_record_tuned r t = refused_untried stand_in (argument stand_in.tuner) 1 none refl judged r t (λ z. omega arith)

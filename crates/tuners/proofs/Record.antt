@@ -2,7 +2,10 @@
 -- record behind it, so that crate drivers cites the same laws for its own.
 -- Assumes nothing.
 use Prim.Native.Nat.{ℕ}
-use mathlib.Core.Path.{◌≡◌, sym, ap, ◌∙◌}
+use Rattle.std.specs.Prelude.{Option, None, Some, MatchOption}
+use Rattle.r82xx.specs.declared.Tuner.{Tuner}
+use Rattle.records.specs.Tuners.{TunerRead, tuner_meant, tuner_of}
+use mathlib.Core.Path.{◌≡◌, refl, sym, ap, ◌∙◌}
 use mathlib.Core.Bool.{Bool, true, false}
 use mathlib.Core.List.{List, []}
 use Rattle.refusals.specs.Lent.{Given, answered_to, given}
@@ -37,3 +40,9 @@ module _ {Read R : Type 0} (ok : Read → Bool) (value : Read → R) (read meant
   changed bytes call out h r count a e g w =
       of_record_lem (changed_to bytes call out) (given (Refused SETUP) out) h g
       (w ∙ ap (λ (x : Called R). answered_to x.answer (bytes x.next) out) e)
+
+-- an answer that is told of a tuner's record
+pub told : (b : List ℕ) (make : Tuner → Answer) (o : Option Tuner) → tuner_meant o ≡ tuner_of b → (P : Tuner → Type 0) (a : Answer) → MatchOption o (a ≡ Refused SETUP) P
+    → ((t : Tuner) → P t → a ≡ make t) → a ≡ of_record (tuner_of b).ok (tuner_of b).tuner make (Refused SETUP)
+told b make None is P a m each = m ∙ no_record (λ (x : TunerRead). x.ok) (λ (x : TunerRead). x.tuner) _ _ is make (Refused SETUP) refl
+told b make (Some t) is P a m each = of_record_lem (λ (x : TunerRead). x.ok) (λ (x : TunerRead). x.tuner) _ _ is make (Refused SETUP) refl a (each t m)

@@ -5,7 +5,13 @@
 
 #![tactic(auto)]
 
-ghost use Rattle.std.specs.Prelude.{◌≡◌, ◌≤◌, length};
+ghost use Rattle.std.specs.Prelude.{◌≡◌, ◌≤◌, ℕ, true, List, cond, length};
+ghost use Rattle.std.proofs.lemmas.List.Edits.{sets};
+ghost use Rattle.chip.specs.Calls.{called};
+ghost use Rattle.chip.specs.Courses.{Course, argument_of, left_by};
+ghost use Rattle.r82xx.specs.Record.{sound};
+ghost use Rattle.r82xx.specs.declared.Tuner.{Tuner};
+ghost use Rattle.r82xx.specs.declared.TunerResult.{TunerResult};
 ghost use Rattle.refusals.specs.Lent.{answered_to, given};
 ghost use Rattle.r82xx.specs.Orders.{course_of};
 ghost use Rattle.r82xx.specs.Orders.Order.{Initialize, Reload, Bandwidth, IfFreq, Gain, GainIndex, InputPath, Tune, Notch, GainTold, IfTold};
@@ -20,17 +26,14 @@ use records::TUNER;
 use refusals::Answer;
 use reply::{Reply, TuneReply};
 
-// 1 for the record, then an argument's number, then 8 for the slice that the next record's `need` bytes go to; 0 where nothing is refused.
-pub fn ready(ok: bool, argument: u8, next: usize, need: usize) -> u8
-    ensures { result ≡ ready_of ok argument next need }
+// Of a call on a valid record: an argument's number, then 8 for the slice that the next record's bytes go to; 0 where nothing is refused.
+fn ready(argument: u8, next: usize) -> u8
+    ensures { result ≡ ready_of true argument next 78 }
 {
-    if !ok {
-        return refusals::SETUP;
-    }
     if argument != 0 {
         return argument;
     }
-    if next < need {
+    if next < TUNER {
         return refusals::ROOM;
     }
     0
@@ -46,30 +49,26 @@ pub fn refuse(number: u8) -> Reply
 pub fn is_written(answer: Answer, count: usize) -> bool
     ensures { result ≡ is_written answer count }
 {
-    match answer {
-        Answer::Done(_) => true,
-        Answer::Refused(_) => count != 0,
-        Answer::Stopped(_) => count != 0,
-    }
+    matches!(answer, Answer::Done(_)) || count != 0
 }
 
-pub fn store(answer: Answer, count: usize, tuner: Tuner, next: &mut [u8])
-    requires { 78 ≤ length next.old }
-    ensures { next.new ≡ next_of tuner_bytes answer count tuner next.old }
+// The next record's bytes, which are a tuner's or a driver's.
+pub fn store(answer: Answer, count: usize, image: &[u8], next: &mut [u8])
+    requires { length image.now ≤ length next.old }
+    ensures { next.new ≡ cond (is_written answer count) (sets next.old 0 image.now) next.old }
 {
     if is_written(answer, count) {
-        let image = records::tuner_image(tuner);
-        wire::copy(next, 0, &image);
+        wire::copy(next, 0, image);
     }
 }
 
 // What a call hands back: its record into the slice, the rest as numbers.
-pub fn hand(told: TunerResult, next: &mut [u8]) -> Reply
+fn hand(told: TunerResult, next: &mut [u8]) -> Reply
     requires { 78 ≤ length next.old }
     ensures { (result ≡ reply_of told.answer told.count) × (next.new ≡ next_of tuner_bytes told.answer told.count told.tuner next.old) }
 {
     let answer = told.answer;
-    store(answer, told.count, told.tuner, next);
+    store(answer, told.count, &records::tuner_image(told.tuner), next);
     reply::numbers(answer, told.count)
 }
 
@@ -83,32 +82,43 @@ pub fn path_refusal(path: u64) -> u8
     0
 }
 
+// A call with steps, by its argument's number and what it leaves of the record that the bytes are. `row` is any row of which that is so.
+pub fn stepped<F: FnOnce(Tuner, &mut [u8]) -> TunerResult>(
+    tuner: &[u8],
+    argument: u8,
+    call: F,
+    room: &mut [u8],
+    next: &mut [u8],
+) -> Reply
+    requires { argument ≡ 0 → (t : Tuner) (lent : _) → F.pre call t lent }
+    ensures { (row : Tuner → Course Tuner) (os : List ℕ) → ((t : Tuner) → argument ≡ argument_of (row t))
+        → (argument ≡ 0 → (t : Tuner) (lent : _) (r : TunerResult) (left : _) → F.post call t lent r left
+        → called r.tuner left.now r.count r.answer ≡ left_by (sound t) (row t) os t.chip t lent.now)
+        → after result room.new next.new ≡ over_tuner row os tuner.now room.old next.old }
+{
+    let Some(t) = records::decode_tuner(tuner) else {
+        return refuse(refusals::SETUP);
+    };
+    let number = ready(argument, next.len());
+    if number != 0 {
+        return refuse(number);
+    }
+    let told = call(t, room);
+    hand(told, next)
+}
+
 pub fn initialize(tuner: &[u8], outcomes: &[u8], room: &mut [u8], next: &mut [u8]) -> Reply
     ensures { after result room.new next.new
         ≡ over_tuner (course_of Initialize) outcomes.now tuner.now room.old next.old }
 {
-    let read = records::decode_tuner(tuner);
-    let given = read.tuner;
-    let number = ready(read.ok, 0, next.len(), TUNER);
-    if number != 0 {
-        return refuse(number);
-    }
-    let told = given.initialize(outcomes, room);
-    hand(told, next)
+    stepped(tuner, 0, |t, lent| t.initialize(outcomes, lent), room, next)
 }
 
 pub fn reload(tuner: &[u8], outcomes: &[u8], room: &mut [u8], next: &mut [u8]) -> Reply
     ensures { after result room.new next.new
         ≡ over_tuner (course_of Reload) outcomes.now tuner.now room.old next.old }
 {
-    let read = records::decode_tuner(tuner);
-    let given = read.tuner;
-    let number = ready(read.ok, 0, next.len(), TUNER);
-    if number != 0 {
-        return refuse(number);
-    }
-    let told = given.reload(outcomes, room);
-    hand(told, next)
+    stepped(tuner, 0, |t, lent| t.reload(outcomes, lent), room, next)
 }
 
 pub fn set_bandwidth(
@@ -121,14 +131,13 @@ pub fn set_bandwidth(
     ensures { after result room.new next.new
         ≡ over_tuner (course_of (Bandwidth hz)) outcomes.now tuner.now room.old next.old }
 {
-    let read = records::decode_tuner(tuner);
-    let given = read.tuner;
-    let number = ready(read.ok, 0, next.len(), TUNER);
-    if number != 0 {
-        return refuse(number);
-    }
-    let told = given.set_bandwidth(hz, outcomes, room);
-    hand(told, next)
+    stepped(
+        tuner,
+        0,
+        |t, lent| t.set_bandwidth(hz, outcomes, lent),
+        room,
+        next,
+    )
 }
 
 pub fn set_if_freq(
@@ -141,28 +150,26 @@ pub fn set_if_freq(
     ensures { after result room.new next.new
         ≡ over_tuner (course_of (IfFreq hz)) outcomes.now tuner.now room.old next.old }
 {
-    let read = records::decode_tuner(tuner);
-    let given = read.tuner;
-    let number = ready(read.ok, 0, next.len(), TUNER);
-    if number != 0 {
-        return refuse(number);
-    }
-    let told = given.set_if_freq(hz, outcomes, room);
-    hand(told, next)
+    stepped(
+        tuner,
+        0,
+        |t, lent| t.set_if_freq(hz, outcomes, lent),
+        room,
+        next,
+    )
 }
 
 pub fn set_gain(tuner: &[u8], db: f32, outcomes: &[u8], room: &mut [u8], next: &mut [u8]) -> Reply
     ensures { after result room.new next.new
         ≡ over_tuner (course_of (Gain db)) outcomes.now tuner.now room.old next.old }
 {
-    let read = records::decode_tuner(tuner);
-    let given = read.tuner;
-    let number = ready(read.ok, 0, next.len(), TUNER);
-    if number != 0 {
-        return refuse(number);
-    }
-    let told = given.set_gain(db, outcomes, room);
-    hand(told, next)
+    stepped(
+        tuner,
+        0,
+        |t, lent| t.set_gain(db, outcomes, lent),
+        room,
+        next,
+    )
 }
 
 pub fn set_gain_by_index(
@@ -175,14 +182,13 @@ pub fn set_gain_by_index(
     ensures { after result room.new next.new
         ≡ over_tuner (course_of (GainIndex index)) outcomes.now tuner.now room.old next.old }
 {
-    let read = records::decode_tuner(tuner);
-    let given = read.tuner;
-    let number = ready(read.ok, 0, next.len(), TUNER);
-    if number != 0 {
-        return refuse(number);
-    }
-    let told = given.set_gain_by_index(index, outcomes, room);
-    hand(told, next)
+    stepped(
+        tuner,
+        0,
+        |t, lent| t.set_gain_by_index(index, outcomes, lent),
+        room,
+        next,
+    )
 }
 
 pub fn set_input_path(
@@ -195,14 +201,13 @@ pub fn set_input_path(
     ensures { after result room.new next.new
         ≡ over_tuner (course_of (InputPath path)) outcomes.now tuner.now room.old next.old }
 {
-    let read = records::decode_tuner(tuner);
-    let given = read.tuner;
-    let number = ready(read.ok, path_refusal(path), next.len(), TUNER);
-    if number != 0 {
-        return refuse(number);
-    }
-    let told = given.set_input_path(path as u8, outcomes, room);
-    hand(told, next)
+    stepped(
+        tuner,
+        path_refusal(path),
+        |t, lent| t.set_input_path(path as u8, outcomes, lent),
+        room,
+        next,
+    )
 }
 
 pub fn set_frequency(
@@ -216,14 +221,10 @@ pub fn set_frequency(
     ensures { tuned_to result room.new next.new
         ≡ over_tuning (course_of (Tune hz replies.now)) outcomes.now tuner.now room.old next.old }
 {
-    let read = records::decode_tuner(tuner);
-    let given = read.tuner;
-    let number = ready(
-        read.ok,
-        r82xx::hz_refusal(hz, given.ifreq),
-        next.len(),
-        TUNER,
-    );
+    let Some(given) = records::decode_tuner(tuner) else {
+        return reply::tuned(refuse(refusals::SETUP), 0, false);
+    };
+    let number = ready(r82xx::hz_refusal(hz, given.ifreq), next.len());
     if number != 0 {
         return reply::tuned(refuse(number), 0, false);
     }
@@ -250,11 +251,9 @@ pub fn fresh(kind: u64, address: u8, nominal: u64, next: &mut [u8]) -> Answer
 pub fn apply_notch(tuner: &mut [u8], on: bool) -> Answer
     ensures { given result tuner.new ≡ changed_into (Notch on) tuner.old tuner.old }
 {
-    let read = records::decode_tuner(tuner);
-    if !read.ok {
+    let Some(given) = records::decode_tuner(tuner) else {
         return Answer::Refused(refusals::SETUP);
-    }
-    let given = read.tuner;
+    };
     let told = given.with_notch(on);
     let answer = told.answer;
     lend(answer, told.tuner, tuner)
@@ -263,44 +262,27 @@ pub fn apply_notch(tuner: &mut [u8], on: bool) -> Answer
 pub fn get_gain(tuner: &[u8]) -> Answer
     ensures { result ≡ answer_over GainTold tuner.now }
 {
-    let read = records::decode_tuner(tuner);
-    if !read.ok {
-        return Answer::Refused(refusals::SETUP);
-    }
-    let given = read.tuner;
-    given.get_gain()
+    records::decode_tuner(tuner).map_or(Answer::Refused(refusals::SETUP), |t| t.get_gain())
 }
 
 pub fn get_if_freq(tuner: &[u8]) -> Answer
     ensures { result ≡ answer_over IfTold tuner.now }
 {
-    let read = records::decode_tuner(tuner);
-    if !read.ok {
-        return Answer::Refused(refusals::SETUP);
-    }
-    let given = read.tuner;
-    given.get_if_freq()
+    records::decode_tuner(tuner).map_or(Answer::Refused(refusals::SETUP), |t| t.get_if_freq())
 }
 
 // Where the oscillator stands by the record's registers. Of no file of the Rust.
 pub fn oscillator(tuner: &[u8]) -> Answer
     ensures { result ≡ oscillator_over tuner.now }
 {
-    let held = records::decode_tuner(tuner);
-    if !held.ok {
-        return Answer::Refused(refusals::SETUP);
-    }
-    let given = held.tuner;
-    station::oscillator(given)
+    records::decode_tuner(tuner).map_or(Answer::Refused(refusals::SETUP), station::oscillator)
 }
 
 pub fn get_gain_table(tuner: &[u8], out: &mut [u8]) -> Answer
     ensures { given result out.new ≡ table_over tuner.now out.old }
 {
-    let read = records::decode_tuner(tuner);
-    if !read.ok {
+    let Some(given) = records::decode_tuner(tuner) else {
         return Answer::Refused(refusals::SETUP);
-    }
-    let given = read.tuner;
+    };
     answers::gain_table(given, out)
 }

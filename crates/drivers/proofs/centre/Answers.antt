@@ -1,12 +1,10 @@
--- `drivers::centre` meets its contract: bytes of which either are no record, or the centre of those that they are. Assumes nothing.
-use Rattle.drivers.proofs.Passed.{centred, no_centre}
+-- `drivers::centre` meets its contract: bytes of which either are no record, or the centre of those that they are.
+-- Assumes nothing.
+use Rattle.std.proofs.Common.{rules}
+use Rattle.drivers.proofs.Passed.{centred}
 use Rattle.drivers.proofs.centre.Goals as goal
-
-pub returns-then-not-whole : goal.returns-then-not-whole
-returns-then-not-whole c =
-    no_centre _ _ _ _ _ c.decode_driver-d.ensures c.decode_tuner-t.ensures c.if-not-whole.true
 
 pub returns : goal.returns
 returns c =
-    centred _ _ _ _ _ c.decode_driver-d.ensures c.decode_tuner-t.ensures c.if-not-whole.false _
-    c.centre.ensures
+    let a = c.args in
+    centred a.table.now a.driver.now a.tuner.now _ c.read_both.ensures _ _ c.map_or.ensures (λ r post. search rules)

@@ -1,35 +1,24 @@
 -- `drivers::ready` meets its contract: each return is one case of the definition.
 -- Assumes nothing.
-use mathlib.Core.Bool.{◌||◌}
-use native.Mathlib.Omega.{arith}
-use lib.Dec.{ltb}
-use Rattle.tuners.proofs.Passed.{all_there, bad_argument, not_ok, too_short}
+use Rattle.std.proofs.Common.{arith}
+use Rattle.tuners.proofs.Passed.{all_there, bad_argument, too_short}
 use Rattle.drivers.specs.Drivers.{both_ready}
 use Rattle.drivers.proofs.Passed.{driver_short, neither_short, tuner_short}
 use Rattle.drivers.proofs.ready.Goals as goal
 
-pub returns-then-not-ok : goal.returns-then-not-ok
-unfolding both_ready
-returns-then-not-ok c = let a = c.args in not_ok a.ok a.argument (ltb a.driver 29 || ltb a.tuner 78) c.if-not-ok.true
-
 pub returns-then-argument-ne0 : goal.returns-then-argument-ne0
 unfolding both_ready
-returns-then-argument-ne0 c = let a = c.args in bad_argument a.ok a.argument (ltb a.driver 29 || ltb a.tuner 78) c.if-not-ok.false (λ z. omega arith)
+returns-then-argument-ne0 c = bad_argument c.args.argument _ (λ z. omega arith)
 
 pub returns-then-driver-lt-DRIVER : goal.returns-then-driver-lt-DRIVER
 unfolding both_ready
-returns-then-driver-lt-DRIVER c =
-    let a = c.args in
-    too_short a.ok a.argument (ltb a.driver 29 || ltb a.tuner 78) c.if-not-ok.false (omega arith) (driver_short a.driver a.tuner (omega arith))
+returns-then-driver-lt-DRIVER c = let a = c.args in too_short a.argument _ (omega arith) (driver_short a.driver a.tuner (omega arith))
 
 pub returns-then-tuner-lt-TUNER : goal.returns-then-tuner-lt-TUNER
 unfolding both_ready
 returns-then-tuner-lt-TUNER c =
-    let a = c.args in
-    too_short a.ok a.argument (ltb a.driver 29 || ltb a.tuner 78) c.if-not-ok.false (omega arith) (tuner_short a.driver a.tuner (omega arith) (omega arith))
+    let a = c.args in too_short a.argument _ (omega arith) (tuner_short a.driver a.tuner (omega arith) (omega arith))
 
 pub returns : goal.returns
 unfolding both_ready
-returns c =
-    let a = c.args in
-    all_there a.ok a.argument (ltb a.driver 29 || ltb a.tuner 78) c.if-not-ok.false (omega arith) (neither_short a.driver a.tuner (omega arith) (omega arith))
+returns c = let a = c.args in all_there a.argument _ (omega arith) (neither_short a.driver a.tuner (omega arith) (omega arith))

@@ -5,11 +5,11 @@ use Rattle.records.proofs.decode_tuner.Goals as goal
 
 pub returns-then-b-ne-TUNER : goal.returns-then-b-ne-TUNER
 returns-then-b-ne-TUNER c =
-    no_length c.args.b.now _ c.new-none.ensures c.if-b-ne-TUNER.true
+    no_length c.args.b.now c.if-b-ne-TUNER.true
 
 pub returns-then-not-tuner_fits : goal.returns-then-not-tuner_fits
 returns-then-not-tuner_fits c =
-    no_fit c.args.b.now _ c.new-none.ensures _ c.if-b-ne-TUNER.false c.tuner_fits.ensures (c.if-not-tuner_fits.true)
+    no_fit c.args.b.now _ c.if-b-ne-TUNER.false c.tuner_fits.ensures (c.if-not-tuner_fits.true)
 
 pub returns : goal.returns
 returns c =

@@ -17,12 +17,12 @@ returns c =
     let to-bits = c.to_bits in
     let bits : to-bits.result ≡ of_z w32 d.ppm = to-bits.ensures ∙ ap (of_z w32) (to_z-of_z small) in
     rw (
-      c.field-6.ensures,
-      c.field-5.ensures,
-      c.field-4.ensures,
-      c.field-3.ensures,
+      c.put-6.ensures,
+      c.put-5.ensures,
+      c.put-4.ensures,
+      c.put-3.ensures,
       bits,
-      c.field-2.ensures,
-      c.field.ensures,
+      c.put-2.ensures,
+      c.put.ensures,
       c.from.ensures,
     ) (driver_image_whole d (replicate 29 0) refl)

@@ -1,14 +1,12 @@
 -- `tuners::get_gain_table` meets its contract: bytes that are no record, or the table behind the one that they are.
 -- Assumes nothing.
-use borrow.Author.Tests.{not-false, not-true}
-use Rattle.records.specs.declared.TunerRead.{TunerRead}
+use Rattle.std.proofs.Common.{refl}
+use Rattle.records.specs.Tuners.{TunerRead}
 use Rattle.tuners.proofs.Record.{no_record, of_record_lem}
 use Rattle.tuners.proofs.get_gain_table.Goals as goal
 
-pub returns-then-not-read : goal.returns-then-not-read
-returns-then-not-read c = no_record (λ (x : TunerRead). x.ok) (λ (x : TunerRead). x.tuner) _ _ c.decode_tuner-read.ensures _ _ (not-true _ c.if-not-read.true)
+pub returns-in_default : goal.returns-in_default
+returns-in_default c = no_record (λ (x : TunerRead). x.ok) (λ (x : TunerRead). x.tuner) _ _ c.in_default.ensures _ _ refl
 
 pub returns : goal.returns
-returns c =
-    of_record_lem (λ (x : TunerRead). x.ok) (λ (x : TunerRead). x.tuner) _ _ c.decode_tuner-read.ensures _ _ (not-false _ c.if-not-read.false) _
-    c.gain_table.ensures
+returns c = of_record_lem (λ (x : TunerRead). x.ok) (λ (x : TunerRead). x.tuner) _ _ c.in-Some.ensures _ _ refl _ c.gain_table.ensures

@@ -1,26 +1,10 @@
--- `tuners::initialize` meets its contract: refused before its steps, or made and handed back.
+-- `tuners::initialize` meets its contract: it leaves what its row leaves.
 -- Assumes nothing.
-use mathlib.Core.Path.{refl, sym, ◌∙◌}
-use native.Mathlib.Omega.{arith}
+use Rattle.std.proofs.Common.{refl, rules}
 use Rattle.r82xx.specs.Orders.{course_of, result_of}
 use Rattle.r82xx.specs.Orders.Order.{Initialize}
-use Rattle.tuners.proofs.Passed.{fits, handed_back, refused_by_lem}
 use Rattle.tuners.proofs.initialize.Goals as goal
-
-pub returns-then-number-ne0 : goal.returns-then-number-ne0
-unfolding result_of
-returns-then-number-ne0 c =
-    let a = c.args in
-    refused_by_lem (course_of Initialize) a.outcomes.now a.tuner.now a.room.now a.next.now _ 0 _ c.decode_tuner-read.ensures refl
-    c.ready-number.ensures _ (λ z. omega arith) c.refuse.ensures
-
-pub hand-requires : goal.hand-requires
-hand-requires c =
-    fits _ _ _ _ (sym c.ready-number.ensures ∙ omega arith)
 
 pub returns : goal.returns
 unfolding result_of
-returns c =
-    let a = c.args in
-    handed_back (course_of Initialize) a.outcomes.now a.tuner.now a.room.now a.next.now _ 0 _ c.decode_tuner-read.ensures refl
-    c.ready-number.ensures (omega arith) _ _ _ _ c.initialize-told.ensures _ _ c.hand.ensures
+returns c = c.stepped.ensures (course_of Initialize) c.args.outcomes.now (λ t. refl) (λ z t lent r left post. search rules)

