@@ -1,24 +1,17 @@
--- Laws on lists for the sixteen coefficients: a test of a part of a list, one element at a time. Assumes nothing.
-use mathlib.Core.Path.{◌≡◌, refl, sym, ap, ◌∙◌, subst}
+-- Laws on lists for the sixteen coefficients: a test of each element, and a list by its elements. Assumes nothing.
+use mathlib.Core.Path.{◌≡◌, refl, ap, subst}
 use mathlib.Core.Bool.{Bool, ◌&&◌}
 use mathlib.Core.List.{List, [], ◌∷◌}
-use Prim.Native.Nat.{ℕ, zero, suc, ◌+◌, ◌-◌, ◌<◌, ◌≤◌}
-use native.Mathlib.Numerals.{add-one}
-use native.Mathlib.Omega.{arith}
-use lib.IntN.{ℤ, pos}
-use lib.ListN.{length, take, drop, get_or}
-use lib.Seq.{drop-cons}
+use Prim.Native.Nat.{ℕ, zero, suc}
+use lib.IntN.{ℤ}
+use lib.ListN.{length, get_or}
+use Rattle.std.specs.List.{list_all}
 use Rattle.fir.specs.Packing.{every}
 
--- the test of the part from i to e is that of the element at i and of the part from i + 1
-pub every_next : (p : ℤ → Bool) (v : List ℤ) (i e : ℕ) → i < e → e ≤ length v
-    → every p (take (e - i) (drop i v)) ≡ (p (get_or v i (pos 0)) && every p (take (e - (i + 1)) (drop (i + 1) v)))
-every_next p v i e h l =
-    let d : drop i v ≡ get_or v i (pos 0) ∷ drop (suc i) v = drop-cons v i (pos 0) (omega arith) in
-    let n : e - i ≡ suc (e - (i + 1)) = omega arith in
-    ap (λ (k : ℕ). every p (take k (drop i v))) n
-    ∙ ap (λ (u : List ℤ). every p (take (suc (e - (i + 1))) u)) d
-    ∙ ap (λ (k : ℕ). p (get_or v i (pos 0)) && every p (take (e - (i + 1)) (drop k v))) (sym (add-one i))
+-- std's test of each element is the definition's
+pub every_is : (p : ℤ → Bool) (v : List ℤ) → list_all p v ≡ every p v
+every_is p [] = refl
+every_is p (z ∷ v) = ap (λ (b : Bool). p z && b) (every_is p v)
 
 -- ---- a list of a known length, element by element
 

@@ -3,28 +3,16 @@
 
 #![tactic(auto)]
 
-ghost use Rattle.std.specs.Prelude.{◌≡◌, ◌+◌, ◌-◌, ◌*◌, ◌/◌, ◌%◌, ◌<◌, ◌≤◌, take, drop};
+ghost use Rattle.std.specs.Prelude.{◌≡◌, ◌+◌, ◌*◌, ◌/◌, ◌%◌, ◌<◌, ◌≤◌};
 ghost use Rattle.std.specs.Int.Signed.{mag};
-ghost use Rattle.fir.specs.Packing.{every, fir_default, fir_fits, low_of, pack_of, packed, signed_of, unpack_of, within};
+ghost use Rattle.std.specs.List.{list_all};
+ghost use Rattle.fir.specs.Packing.{fir_default, fir_fits, low_of, pack_of, packed, signed_of, unpack_of, within};
 
 // 0 and the bytes, or 7 and zeros. An enum must not hold the array.
 #[derive(Clone, Copy)]
 pub struct Packed {
     pub refusal: u8,
     pub bytes: [u8; 20],
-}
-
-#[derive(Clone, Copy)]
-pub struct Three {
-    pub a: u8,
-    pub b: u8,
-    pub c: u8,
-}
-
-#[derive(Clone, Copy)]
-pub struct Two {
-    pub a: i32,
-    pub b: i32,
 }
 
 // How far z lies from 0, or from -1 below zero.
@@ -37,25 +25,16 @@ fn size(z: i32) -> u32
     z as u32
 }
 
-// Whether all of v from `at` up to `end` fit a width.
-fn all_within(v: [i32; 16], at: usize, end: usize, half: u32) -> bool
-    requires { (at ≤ end) × (end ≤ 16) }
-    ensures { result ≡ every (within half) (take (end - at) (drop at v)) }
+fn all_within(v: &[i32], half: u32) -> bool
+    ensures { result ≡ list_all (within half) v.now }
 {
-    let mut i = at;
-    while i < end {
-        if half <= size(v[i]) {
-            return false;
-        }
-        i += 1;
-    }
-    true
+    v.iter().all(|z| size(*z) < half)
 }
 
 fn in_range(v: [i32; 16]) -> bool
     ensures { result ≡ fir_fits v }
 {
-    all_within(v, 0, 8, 128) & all_within(v, 8, 16, 2048)
+    all_within(&v[..8], 128) & all_within(&v[8..], 2048)
 }
 
 // The bits of z that a width holds.
@@ -77,16 +56,16 @@ fn byte(z: i32) -> u8
 }
 
 // Two coefficients of twelve bits in three bytes.
-fn join(a: i32, b: i32) -> Three
-    ensures { (result.a ≡ low_of 2048 a / 16) × (result.b ≡ low_of 2048 a % 16 * 16 + low_of 2048 b / 256) × (result.c ≡ low_of 2048 b % 256) }
+fn join(a: i32, b: i32) -> (u8, u8, u8)
+    ensures { (result.0 ≡ low_of 2048 a / 16) × (result.1 ≡ low_of 2048 a % 16 * 16 + low_of 2048 b / 256) × (result.2 ≡ low_of 2048 b % 256) }
 {
     let x = low(a, 2048);
     let y = low(b, 2048);
-    Three {
-        a: (x / 16) as u8,
-        b: (x % 16 * 16 + y / 256) as u8,
-        c: (y % 256) as u8,
-    }
+    (
+        (x / 16) as u8,
+        (x % 16 * 16 + y / 256) as u8,
+        (y % 256) as u8,
+    )
 }
 
 // The twenty bytes of any sixteen, each cut to its width.
@@ -106,18 +85,18 @@ fn bytes_of(v: [i32; 16]) -> [u8; 20]
         byte(v[5]),
         byte(v[6]),
         byte(v[7]),
-        p.a,
-        p.b,
-        p.c,
-        q.a,
-        q.b,
-        q.c,
-        s.a,
-        s.b,
-        s.c,
-        t.a,
-        t.b,
-        t.c,
+        p.0,
+        p.1,
+        p.2,
+        q.0,
+        q.1,
+        q.2,
+        s.0,
+        s.1,
+        s.2,
+        t.0,
+        t.1,
+        t.2,
     ]
 }
 
@@ -154,14 +133,14 @@ fn short(x: u8) -> i32
 }
 
 // The two coefficients of twelve bits in three bytes.
-fn split(x: u8, y: u8, z: u8) -> Two
-    ensures { (result.a ≡ signed_of 2048 (x * 16 + y / 16)) × (result.b ≡ signed_of 2048 (y % 16 * 256 + z)) }
+fn split(x: u8, y: u8, z: u8) -> (i32, i32)
+    ensures { (result.0 ≡ signed_of 2048 (x * 16 + y / 16)) × (result.1 ≡ signed_of 2048 (y % 16 * 256 + z)) }
 {
     let m = y as u32;
-    Two {
-        a: signed((x as u32) * 16 + m / 16, 2048),
-        b: signed(m % 16 * 256 + (z as u32), 2048),
-    }
+    (
+        signed((x as u32) * 16 + m / 16, 2048),
+        signed(m % 16 * 256 + (z as u32), 2048),
+    )
 }
 
 pub fn unpack_fir(b: [u8; 20]) -> [i32; 16]
@@ -180,14 +159,14 @@ pub fn unpack_fir(b: [u8; 20]) -> [i32; 16]
         short(b[5]),
         short(b[6]),
         short(b[7]),
-        p.a,
-        p.b,
-        q.a,
-        q.b,
-        s.a,
-        s.b,
-        t.a,
-        t.b,
+        p.0,
+        p.1,
+        q.0,
+        q.1,
+        s.0,
+        s.1,
+        t.0,
+        t.1,
     ]
 }
 
