@@ -12,7 +12,3 @@ use Rattle.tuning.proofs.write_repair.Goals as goal
 pub returns-in_default-clause-room_after : goal.returns-in_default-clause-room_after
 returns-in_default-clause-room_after c =
     swap in_room _ _ _ _ _ (sym (ap (λ (o : Option ℕ). updates (fix_updates o)) c.in_default.is)) (ended in_room _ _ _ (c.log_end.ensures.room_after _))
-
-pub returns-clause-room_after : goal.returns-clause-room_after
-returns-clause-room_after c =
-    swap in_room _ _ _ _ _ ((λ i. updates (c.masked-u.ensures i ∷ [])) ∙ sym (ap (λ (o : Option ℕ). updates (fix_updates o)) c.in-Some.is)) c.write_one.ensures.room_after
