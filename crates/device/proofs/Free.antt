@@ -73,21 +73,14 @@ pub suffices : (n m room outcomes replies given : ℕ) → given ≡ too_short n
 suffices n m room outcomes replies given e z =
     (lent_outcomes n m room outcomes replies (sym e ∙ z), lent_room n m room outcomes replies (sym e ∙ z))
 
--- "Order: arguments (1 to 7, and 2 for hz), then 8, 9, 10, then steps": a row whose argument is refused, and one whose is not. The
--- program may have been worked out apart
+-- "Order: arguments (1 to 7, and 2 for hz), then 8, 9, 10, then steps": a row whose argument is refused, and one whose is not, whose steps are accesses
+-- that may have been worked out apart, and that `perform` counts
 pub argument_bad : (argument n m : ℕ) (rs os : List ℕ) (ss : List Step) (room : List ℕ) (number : ℕ) → argument ≡ number → (number ≡ 0 → ⊥)
     → called tt room 0 (Refused number) ≡ free_result (free argument n m rs ss) os room
 unfolding free_result left_by
 argument_bad argument n m rs os ss room number h z =
     refuses (refusal_with true argument n m (length room) (length os) (length rs)) os ss room number (rw (h, ne_eqb number 0 z)) z
 
-pub argument_good : (argument n m : ℕ) (rs os : List ℕ) (xs ys : List Step) (room : List ℕ) (v : Called (Unit {0})) → argument ≡ 0 → xs ≡ ys
-    → v ≡ free_call (too_short n m (length room) (length os) (length rs)) os xs room → v ≡ free_result (free argument n m rs ys) os room
-unfolding free_result left_by
-argument_good argument n m rs os xs ys room v h same e =
-    e ∙ ap (λ (ss : List Step). free_call (too_short n m (length room) (length os) (length rs)) os ss room) same ∙ rw h
-
--- the same of a row whose steps are accesses, which `perform` counts
 pub accesses_good : (argument m : ℕ) (rs os : List ℕ) (rows wanted : List Access) (room : List ℕ) (v : Called (Unit {0})) → argument ≡ 0 → rows ≡ wanted
     → v ≡ free_call (too_short (length rows) m (length room) (length os) (length rs)) os (map access_step rows) room
     → v ≡ free_result (free argument (length wanted) m rs (map access_step wanted)) os room
