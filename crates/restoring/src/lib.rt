@@ -83,6 +83,7 @@ fn walked(s: &[u8], address: u8, known: &mut [Option<Sent>; 32]) -> u8
         ≡ over (known_in address (chain_entries s.now)) 0 known.old) }
 {
     let mut end = s.len();
+    // A `for` is no plainer: the end of what is left moves to where the last section starts.
     while 0 < end {
         let part = &s[0..end];
         let Some(Section { start, count }) = transcript::read_section(part) else {
@@ -187,6 +188,7 @@ fn write_list(address: u8, known: &[Option<Sent>; 32], room: &mut [u8]) -> usize
 {
     let mut k: usize = 0;
     let mut i: usize = 0;
+    // A `for` is no plainer: a turn goes on behind its run.
     while let Some(first) = next_sure(known, i) {
         let m = run_len(known, first);
         write_of(address, known, first, m).put(room, 16 * k);

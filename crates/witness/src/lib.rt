@@ -257,6 +257,7 @@ fn walked(s: &[u8], address: u8, seen: &mut Seen) -> u8
     ensures { (result ≡ refused_by s.now) × (chain s.now ≡ true → seen.new ≡ seen_all address (chain_entries s.now) seen.old) }
 {
     let mut end = s.len();
+    // A `for` is no plainer: the end of what is left moves to where the last section starts.
     while 0 < end {
         let part = &s[0..end];
         let Some(Section { start, count }) = transcript::read_section(part) else {

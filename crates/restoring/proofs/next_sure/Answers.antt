@@ -7,9 +7,6 @@ use Rattle.restoring.specs.Standing.{sure_of}
 use Rattle.restoring.proofs.Laying.{sure_found, sure_none, sure_on}
 use Rattle.restoring.proofs.next_sure.Goals as goal
 
-pub loop-r-init : goal.loop-r-init
-loop-r-init c = refl
-
 pub returns-then-sure : goal.returns-then-sure
 returns-then-sure c =
     let l = c.loop-r in

@@ -6,9 +6,6 @@ use Rattle.restoring.specs.Standing.{sure_of}
 use Rattle.restoring.proofs.Laying.{run_full, run_on, run_start, run_stops}
 use Rattle.restoring.proofs.run_len.Goals as goal
 
-pub loop-k-init : goal.loop-k-init
-loop-k-init c = (omega arith, run_start (sure_of c.args.known.now) c.args.i)
-
 pub returns-then-not-sure : goal.returns-then-not-sure
 returns-then-not-sure c =
     let sure = c.sure in

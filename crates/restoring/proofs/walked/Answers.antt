@@ -11,14 +11,6 @@ use Rattle.restoring.specs.Standing.{over, known_in}
 use Rattle.restoring.proofs.Backward.{all_sections, all_told, begin, chain_on, few, fit, lower, not_both, refused, stopped, told_on, within}
 use Rattle.restoring.proofs.walked.Goals as goal
 
-pub loop-end-init : goal.loop-end-init
-loop-end-init c =
-    let a = c.args in
-    let all = begin a.s.now in (
-      omega arith,
-      (ap chain all, ap (λ (l : List ℕ). over (known_in a.address (chain_entries l)) 0 a.known.now) all),
-    )
-
 pub returns-in_default : goal.returns-in_default
 returns-in_default c =
     let l = c.loop-end in
