@@ -5,7 +5,7 @@
 
 ghost use Rattle.std.specs.Prelude.{[], ◌∷◌, ◌≡◌, ◌+◌, ◌*◌, ◌<◌, ◌≤◌, length, take, drop};
 ghost use Rattle.std.proofs.lemmas.List.Edits.{sets};
-ghost use Rattle.answers.specs.Lent.{bit_of, if_into, pack_into, plan_bytes, plan_by_into, plan_into, resample_into, table_into, unpack_into, word_bytes, words_in};
+ghost use Rattle.answers.specs.Lent.{if_into, pack_into, plan_bytes, plan_by_into, plan_into, resample_into, table_into, unpack_into, word_bytes, words_in};
 ghost use Rattle.answers.specs.Sheets.{kind_named, laid_of, pll_into, worksheet_into};
 ghost use Rattle.refusals.specs.Lent.{given, lent_to};
 ghost use Rattle.board.specs.Numbers.{board_of};
@@ -22,10 +22,8 @@ fn put_words(v: &[i32], out: &mut [u8])
     requires { 4 * length v.now ≤ length out.old }
     ensures { out.new ≡ sets out.old 0 (word_bytes v.now) }
 {
-    let mut i = 0;
-    while i < v.len() {
+    for i in 0..v.len() {
         wire::put(out, 4 * i, wire::to_bits(v[i]) as u64, 4);
-        i += 1;
     }
 }
 
@@ -59,21 +57,15 @@ pub fn resample_regs(rate: u32, xtal: u32, out: &mut [u8]) -> Answer
     refusals::lend(regs.refusal as u8, 0, &bytes, out)
 }
 
-fn bit(b: bool) -> u8
-    ensures { result ≡ bit_of b }
-{
-    if b { 1 } else { 0 }
-}
-
 // A plan as it is lent: the tuner's frequency as value, and three bytes.
 fn lend_plan(refusal: u8, plan: Plan, out: &mut [u8]) -> Answer
     ensures { given result out.new ≡ lent_to refusal plan.hz (plan_bytes plan) out.old }
 {
     let path = plan.path;
     let bytes = [
-        bit(plan.inverted),
+        plan.inverted as u8,
         board::route_number(path),
-        bit(plan.notch),
+        plan.notch as u8,
     ];
     refusals::lend(refusal, plan.hz, &bytes, out)
 }
@@ -109,11 +101,8 @@ fn coefficients(s: &[u8]) -> [i32; 16]
     ensures { result ≡ words_in 16 s.now }
 {
     let mut v = [0i32; 16];
-    let mut i = 0;
-    while i < 16 {
-        let z = wire::to_signed(word(s, 4 * i));
-        v[i] = z;
-        i += 1;
+    for i in 0..16 {
+        v[i] = wire::to_signed(word(s, 4 * i));
     }
     v
 }

@@ -24,8 +24,8 @@ loop-i-preserved c =
     let l = c.loop-i in
     let a = c.args in
     let x = le_value (take 4 (drop (4 * l.i) a.s.now)) in
-    let read : to_z w32 (of_z w32 c.to_signed-z.result) ≡ to_z w32 x =
-    ap (λ (z : ℤ). to_z w32 (of_z w32 z)) c.to_signed-z.ensures
+    let read : to_z w32 (of_z w32 c.to_signed.result) ≡ to_z w32 x =
+    ap (λ (z : ℤ). to_z w32 (of_z w32 z)) c.to_signed.ensures
     ∙ ap (to_z w32) (of_z-to_z {w = w32} {n = word.result} (record { fits = word.ensures.1 }) ∙ word.ensures.0) in (
       omega arith,
       (

@@ -9,6 +9,3 @@ use Rattle.answers.proofs.coefficients.Given as goal
 
 abbrev pub invariant-loop-i : goal.invariant-loop-i
 invariant-loop-i l = (l.i ≤ 16) × ((length l.v ≡ 16) × (take l.i l.v ++ words_in (16 - l.i) (drop (4 * l.i) l.s) ≡ words_in 16 l.s))
-
-abbrev pub decreases-loop-i : goal.decreases-loop-i
-decreases-loop-i l = 16 - l.i
