@@ -1,7 +1,7 @@
 -- What the walk from the end of sections gathers, newest first: of the chip's registers as crate restoring's walk, of the demodulator's beside it, and how
 -- the waiting for the lock ended. What the entries tell stands in crate evidence.
 -- Assumes nothing.
-use Rattle.std.specs.Prelude.{ℕ, ◌+◌, Bool, true, false, cond, ◌&&◌, ◌||◌, List, [], ◌∷◌, eqb, leb, ltb, get_or, None}
+use Rattle.std.specs.Prelude.{ℕ, ◌+◌, Bool, true, false, cond, ◌&&◌, ◌||◌, List, [], ◌∷◌, leb, ltb, get_or, None}
 use Rattle.transcript.specs.declared.Entry.{Entry}
 use Rattle.attempts.specs.Attempts.{names}
 use Rattle.chip.specs.Entries.{lock_bit}

@@ -1,7 +1,7 @@
 -- `restoring::next_sure` meets its contract. The loop's invariant: the next from here is the next from the start.
 -- Assumes nothing.
 use Prim.Native.Nat.{◌-◌}
-use mathlib.Core.Path.{refl, sym, ◌∙◌}
+use mathlib.Core.Path.{sym, ◌∙◌}
 use native.Mathlib.Omega.{arith}
 use Rattle.restoring.specs.Standing.{sure_of}
 use Rattle.restoring.proofs.Laying.{sure_found, sure_none, sure_on}

@@ -3,7 +3,7 @@
 use mathlib.Core.Path.{◌≡◌, sym, ◌∙◌}
 use native.Mathlib.Omega.{arith}
 use Rattle.restoring.specs.Standing.{sure_of}
-use Rattle.restoring.proofs.Laying.{run_full, run_on, run_start, run_stops}
+use Rattle.restoring.proofs.Laying.{run_full, run_on, run_stops}
 use Rattle.restoring.proofs.run_len.Goals as goal
 
 pub returns-then-not-sure : goal.returns-then-not-sure

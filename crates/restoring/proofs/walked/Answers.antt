@@ -1,14 +1,10 @@
 -- `restoring::walked` meets its contract. The loop's invariant: what stands before `end` is sections end to end exactly where the slice is, and its entries, over what is told by then, are all entries over what was told.
 -- Assumes nothing.
 use Prim.Native.Nat.{◌-◌}
-use mathlib.Core.Path.{refl, sym, ap, ◌∙◌}
-use mathlib.Core.List.{List}
+use mathlib.Core.Path.{refl, sym, ◌∙◌}
 use native.Mathlib.Omega.{arith}
-use Prim.Native.Nat.{ℕ}
 use lib.ListN.{take}
-use Rattle.sections.specs.Chain.{chain, chain_entries}
-use Rattle.restoring.specs.Standing.{over, known_in}
-use Rattle.restoring.proofs.Backward.{all_sections, all_told, begin, chain_on, few, fit, lower, not_both, refused, stopped, told_on, within}
+use Rattle.restoring.proofs.Backward.{all_sections, all_told, chain_on, few, fit, lower, not_both, refused, stopped, told_on, within}
 use Rattle.restoring.proofs.walked.Goals as goal
 
 pub returns-in_default : goal.returns-in_default

@@ -14,10 +14,3 @@ pub bounds-bytes-register : goal.bounds-bytes-register
 bounds-bytes-register c =
     let there = reached c.args.e c.args.register (sym c.requires.1 ∙ c.if-named.true) in
     omega (arith, there.0, there.1, c.requires.0)
-
-pub returns-then-named : goal.returns-then-named
-returns-then-named c =
-    rw (sym c.requires.1 ∙ c.if-named.true)
-
-pub returns : goal.returns
-returns c = rw (sym c.requires.1 ∙ c.if-named.false)

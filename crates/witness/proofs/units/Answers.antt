@@ -9,20 +9,6 @@ use Rattle.evidence.specs.Evidence.{lo_units}
 use Rattle.witness.proofs.Sizes.{half_most, halved, sum_small, units_small, vco_small}
 use Rattle.witness.proofs.units.Goals as goal
 
-pub overflow_add-result : goal.overflow_add-result
-overflow_add-result c =
-    let a = c.args in
-    let s = sum_small c.sum-s.result (off a.control) a.high a.low (omega arith) (omega arith) c.sum-s.ensures in
-    omega (arith, s)
-
-pub overflow_mul-result-2 : goal.overflow_mul-result-2
-overflow_mul-result-2 c =
-    let a = c.args in
-    let s = sum_small c.sum-s.result (off a.control) a.high a.low (omega arith) (omega arith) c.sum-s.ensures in
-    let n : ℕ = 13 + 4 * (a.whole % 64) + a.whole / 64 in
-    let few : 65_536 * n + c.sum-s.result < 17_694_720 = omega (arith, s) in
-    omega (arith, vco_small a.r (65_536 * n + c.sum-s.result) (omega arith) few)
-
 pub overflow_mul-result-3 : goal.overflow_mul-result-3
 overflow_mul-result-3 c =
     let a = c.args in

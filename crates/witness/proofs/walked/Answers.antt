@@ -1,21 +1,13 @@
 -- `witness::walked` meets its contract. The loop's invariant: what stands before `end` is sections end to end exactly where the slice is, and its entries, over what is gathered by then, are all entries over nothing.
 -- Assumes nothing.
-use Prim.Native.Nat.{ℕ, ◌-◌}
-use mathlib.Core.Path.{refl, sym, ap, ◌∙◌}
-use mathlib.Core.List.{List}
+use Prim.Native.Nat.{◌-◌}
+use mathlib.Core.Path.{refl, sym, ◌∙◌}
 use native.Mathlib.Omega.{arith}
 use lib.ListN.{take}
-use Rattle.sections.specs.Chain.{chain, chain_entries}
-use Rattle.restoring.proofs.Backward.{all_sections, all_turned, begin, chain_on, few, fit, lower, not_both, refused, stopped, turned, within}
+use Rattle.restoring.proofs.Backward.{all_sections, all_turned, chain_on, few, fit, lower, not_both, refused, stopped, turned, within}
 use Rattle.witness.specs.Walk.{seen_all}
 use Rattle.witness.proofs.Gathered.{all_both, all_empty}
 use Rattle.witness.proofs.walked.Goals as goal
-
-pub loop-end-init : goal.loop-end-init
-loop-end-init c =
-    let a = c.args in
-    let all = begin a.s.now in
-    (omega arith, (ap chain all, ap (λ (l : List ℕ). seen_all a.address (chain_entries l) a.seen.now) all))
 
 pub returns-in_default : goal.returns-in_default
 returns-in_default c =
