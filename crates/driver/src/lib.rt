@@ -227,14 +227,13 @@ fn with_rate(d: Driver, rate: u32, xtal: u32, progress: Progress) -> Driver
     requires { rate_number rate xtal ≡ 0 }
     ensures { result ≡ rated_by d rate xtal progress }
 {
-    match progress {
-        Progress::Going => Driver {
-            rate: rate,
-            actual: registers::true_rate(rate, xtal),
-            ..d
-        },
-        Progress::Refused11(_) => d,
-    }
+    let Progress::Going = progress else {
+        return d;
+    };
+    let mut next = d;
+    next.rate = rate;
+    next.actual = registers::true_rate(rate, xtal);
+    next
 }
 
 // The number that a correction is refused by: 1 for either record, then 4 for either reference, 0 for none. Given are the tuner's nominal and corrected

@@ -1,6 +1,6 @@
 -- The step worked out is the nearest of document 01's sentence, there is one such index, and a count of the middles below t finds it. Assumes nothing.
 use mathlib.Core.Path.{◌≡◌, refl, sym, ap, ◌∙◌, subst}
-use mathlib.Core.Bool.{Bool, true, false, cond, ◌&&◌}
+use mathlib.Core.Bool.{Bool, true, false, ◌&&◌}
 use mathlib.Core.List.{List, [], ◌∷◌}
 use Prim.Native.Nat.{ℕ, zero, suc, ◌+◌, ◌/◌, ◌≤◌, ◌<◌}
 use native.Mathlib.Nat.{le_of_lt, le_trans, lt_of_lt_of_le, le_refl, lt_irrefl, lt_trans, lt-suc_self, not-suc-le-zero}
@@ -11,9 +11,8 @@ use borrow.Author.Tests.{ltb-true, ltb-false, lt-ltb, le-ltb}
 use lib.Dec.{ltb, lit<}
 use lib.IntN.{ℤ, pos, negsuc}
 use lib.Ieee.{Float}
-use lib.ListN.{get_or, length, take}
-use Rattle.std.specs.List.{count_by, sum_by}
-use Rattle.std.proofs.lemmas.List.Sums.{sum_by_more}
+use lib.ListN.{get_or, length}
+use mir.Val.{bool_byte}
 use Rattle.gain.specs.Product.{tenths_of}
 use Rattle.gain.specs.Steps.{NearestIn, Nearest, apart, better, chosen_of, clamped, nearest_in, nearest_of, step_at, steps}
 
@@ -146,19 +145,23 @@ half_at (x ∷ []) k l = absurd (omega arith)
 half_at (x ∷ y ∷ xs) zero l = refl
 half_at (x ∷ y ∷ xs) (suc k) l = half_at (y ∷ xs) k (omega arith)
 
-abbrev middle_at : ℕ → ℕ
+abbrev pub middle_at : ℕ → ℕ
 middle_at k = get_or (halves steps) k 0
 
 middle_at_lem : (k : ℕ) → k < 28 → middle_at k ≡ (step_at k + step_at (suc k)) / 2
 unfolding steps
 middle_at_lem k l = half_at steps k (omega arith)
 
-nearest_first : (k n : ℕ) (t : ℤ) → n ≡ nearest_in (k + 1) t → NearestIn (suc k) t n
+pub nearest_first : (k n : ℕ) (t : ℤ) → n ≡ nearest_in (k + 1) t → NearestIn (suc k) t n
 nearest_first k n t e = subst (NearestIn (suc k) t) (ap (λ (m : ℕ). nearest_in m t) (sym (add-one k)) ∙ sym e) (nearest_in_lem k t)
+
+-- before any middle is looked at
+pub none_counted : (t : ℤ) → 0 ≡ nearest_in 1 t
+none_counted t = let w = (nearest_in_lem 0 t).within in omega arith
 
 -- A middle below t: so is its lower step k, which is therefore nearer than all before it, and the upper one is nearer still. Else k is no farther than
 -- the upper one, and the best so far no farther than k.
-by_middle : (k n t : ℕ) (b : Bool) → ltb (middle_at k) t ≡ b → k < 28 → n ≡ nearest_in (k + 1) (pos t) → n + cond b 1 0 ≡ nearest_in (k + 1 + 1) (pos t)
+by_middle : (k n t : ℕ) (b : Bool) → ltb (middle_at k) t ≡ b → k < 28 → n ≡ nearest_in (k + 1) (pos t) → n + bool_byte b ≡ nearest_in (k + 1 + 1) (pos t)
 by_middle k n t true e l h =
     let m : middle_at k < t = ltb-true (middle_at k) t e in
     let half = middle_at_lem k l in
@@ -180,18 +183,6 @@ by_middle k n t false e l h =
     let z : n + 0 ≡ n = omega arith in
     z ∙ no_nearer (k + 1) n (pos t) h upper
 
-many : (k : ℕ) → suc k ≤ 28 → k < length (halves steps)
-unfolding steps
-many k l = omega arith
-
--- of the first k + 1 steps, which have k middles between them, the count is the index worked out
-counted : (k t : ℕ) → k ≤ 28 → count_by (λ m. ltb m t) (take k (halves steps)) ≡ nearest_in (k + 1) (pos t)
-counted zero t l = let w = (nearest_in_lem 0 (pos t)).within in omega arith
-counted (suc k) t l =
-    let one_more : sum_by (λ m. cond (ltb m t) 1 0) (take (k + 1) (halves steps)) ≡ sum_by (λ m. cond (ltb m t) 1 0) (take k (halves steps)) + cond (ltb (middle_at k) t) 1 0 =
-    sum_by_more (λ m. cond (ltb m t) 1 0) (halves steps) k 0 (many k l) in
-    rw (← add-one k) (one_more ∙ by_middle k (count_by (λ m. ltb m t) (take k (halves steps))) t (ltb (middle_at k) t) refl (omega arith) (counted k t (omega arith)))
-
-pub all_counted : (t : ℕ) → count_by (λ m. ltb m t) (halves steps) ≡ nearest_of (pos t)
-unfolding steps nearest_of
-all_counted t = counted 28 t (omega arith)
+-- one turn of the count
+pub counted : (k n t : ℕ) → k < 28 → n ≡ nearest_in (k + 1) (pos t) → n + bool_byte (ltb (middle_at k) t) ≡ nearest_in (k + 1 + 1) (pos t)
+counted k n t = by_middle k n t (ltb (middle_at k) t) refl

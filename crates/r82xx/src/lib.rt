@@ -111,10 +111,10 @@ pub fn refused(tuner: Tuner, number: u8) -> TunerResult
 fn kept_gain(progress: Progress, old: f32, new: f32) -> f32
     ensures { result ≡ cond (goes progress) new old }
 {
-    match progress {
-        Progress::Going => new,
-        Progress::Refused11(_) => old,
-    }
+    let Progress::Going = progress else {
+        return old;
+    };
+    new
 }
 
 // "2 frequency | hz 0; hz + IF over u64".
@@ -242,7 +242,7 @@ impl Tuner {
         next.ended(f, Answer::Done(0), room)
     }
 
-    pub fn set_bandwidth(self, hz: u32, outcomes: &[u8], room: &mut [u8]) -> TunerResult
+    pub fn set_bandwidth(mut self, hz: u32, outcomes: &[u8], room: &mut [u8]) -> TunerResult
         ensures { called result.tuner room.new result.count result.answer
             ≡ result_of (Bandwidth hz) outcomes.now self room.old }
     {
@@ -251,7 +251,7 @@ impl Tuner {
     }
 
     // The IF changes before its writes are tried.
-    pub fn set_if_freq(self, hz: u64, outcomes: &[u8], room: &mut [u8]) -> TunerResult
+    pub fn set_if_freq(mut self, hz: u64, outcomes: &[u8], room: &mut [u8]) -> TunerResult
         ensures { called result.tuner room.new result.count result.answer
             ≡ result_of (IfFreq hz) outcomes.now self room.old }
     {
@@ -261,7 +261,7 @@ impl Tuner {
     }
 
     // The gain changes only when all writes are done.
-    pub fn set_gain_by_index(self, index: usize, outcomes: &[u8], room: &mut [u8]) -> TunerResult
+    pub fn set_gain_by_index(mut self, index: usize, outcomes: &[u8], room: &mut [u8]) -> TunerResult
         ensures { called result.tuner room.new result.count result.answer
             ≡ result_of (GainIndex index) outcomes.now self room.old }
     {
@@ -281,7 +281,7 @@ impl Tuner {
     }
 
     // The nearest step, then as by its index.
-    pub fn set_gain(self, db: f32, outcomes: &[u8], room: &mut [u8]) -> TunerResult
+    pub fn set_gain(mut self, db: f32, outcomes: &[u8], room: &mut [u8]) -> TunerResult
         ensures { called result.tuner room.new result.count result.answer
             ≡ result_of (Gain db) outcomes.now self room.old }
     {
@@ -289,7 +289,7 @@ impl Tuner {
     }
 
     // path: 0 HF, 1 VHF, 2 UHF. R820T has one input: nothing is written, and no lent memory is looked at.
-    pub fn set_input_path(self, path: u8, outcomes: &[u8], room: &mut [u8]) -> TunerResult
+    pub fn set_input_path(mut self, path: u8, outcomes: &[u8], room: &mut [u8]) -> TunerResult
         ensures { called result.tuner room.new result.count result.answer
             ≡ result_of (InputPath path) outcomes.now self room.old }
     {
@@ -306,7 +306,7 @@ impl Tuner {
         }
     }
 
-    pub fn initialize(self, outcomes: &[u8], room: &mut [u8]) -> TunerResult
+    pub fn initialize(mut self, outcomes: &[u8], room: &mut [u8]) -> TunerResult
         ensures { called result.tuner room.new result.count result.answer
             ≡ result_of Initialize outcomes.now self room.old }
     {
@@ -319,7 +319,7 @@ impl Tuner {
     }
 
     // "Reload sends the attempted bytes in `initialize`'s chunks": since #106 they are the shadow, so nothing is set at its end.
-    pub fn reload(self, outcomes: &[u8], room: &mut [u8]) -> TunerResult
+    pub fn reload(mut self, outcomes: &[u8], room: &mut [u8]) -> TunerResult
         ensures { called result.tuner room.new result.count result.answer
             ≡ result_of Reload outcomes.now self room.old }
     {
@@ -333,7 +333,7 @@ impl Tuner {
 
     // The steps of a tuning by its plan; all that they may need is lent.
     fn tune(
-        self,
+        mut self,
         plan: Option<Plan>,
         hz: u64,
         outcomes: &[u8],
@@ -365,7 +365,7 @@ impl Tuner {
     }
 
     pub fn set_frequency(
-        self,
+        mut self,
         hz: u64,
         outcomes: &[u8],
         replies: &[u8],
