@@ -74,14 +74,22 @@ fn bytes_at(b: &[u8], at: usize) -> [u8; 27]
     requires { at + 27 ≤ length b.now }
     ensures { result ≡ take 27 (drop at b.now) }
 {
-    <[u8; 27]>::try_from(&b[at..at + 27]).unwrap()
+    let mut image = [0u8; 27];
+    wire::copy(&mut image, 0, &b[at..at + 27]);
+    image
 }
 
+// Here and in `flag_bytes` an array's `map` was tried: its 27 calls took 500 instructions more.
 fn flags_at(b: &[u8], at: usize) -> [bool; 27]
     requires { at + 27 ≤ length b.now }
     ensures { result ≡ map flag_read (take 27 (drop at b.now)) }
 {
-    bytes_at(b, at).map(|x| x == 1)
+    let image = bytes_at(b, at);
+    let mut flags = [false; 27];
+    for i in 0..27 {
+        flags[i] = image[i] == 1;
+    }
+    flags
 }
 
 // No early return: a loop without one is one that the compiler can run over several bytes at once.
@@ -91,8 +99,8 @@ fn flags_only(b: &[u8], at: usize) -> bool
 {
     let image = bytes_at(b, at);
     let mut ok = true;
-    for x in &image {
-        ok = ok & (*x <= 1);
+    for i in 0..27 {
+        ok = ok & (image[i] <= 1);
     }
     ok
 }
@@ -100,7 +108,11 @@ fn flags_only(b: &[u8], at: usize) -> bool
 fn flag_bytes(flags: [bool; 27]) -> [u8; 27]
     ensures { result ≡ map flag_byte flags }
 {
-    flags.map(|on| on as u8)
+    let mut image = [0u8; 27];
+    for i in 0..27 {
+        image[i] = flags[i] as u8;
+    }
+    image
 }
 
 fn tuner_fits(b: &[u8]) -> bool
