@@ -140,6 +140,7 @@ pub fn gain_table(tuner: Tuner, out: &mut [u8]) -> Answer
     lend_words(refusals::number_of(answer), &steps, out)
 }
 
+// Any number but 0 stands for the other kind here, where a TryFrom would refuse it; `laid_out` refuses it by its number.
 fn named(kind: u64) -> Kind
     ensures { result ≡ kind_named kind }
 {

@@ -45,11 +45,6 @@ path_back (suc (suc (suc n))) = refl
 pub number_of_path : (n : ℕ) (p : Path) → path_of n ≡ Some p → path_number p ≡ n
 number_of_path n p h = sym (ap (λ (r : Option Path). path_told r n) h) ∙ path_back n
 
-pub no_board : (n : ℕ) → 1 < n → None ≡ board_of n
-no_board zero h = absurd (omega arith)
-no_board (suc zero) h = absurd (omega arith)
-no_board (suc (suc n)) h = refl
-
 pub no_path : (n : ℕ) → 2 < n → None ≡ path_of n
 no_path zero h = absurd (omega arith)
 no_path (suc zero) h = absurd (omega arith)

@@ -111,7 +111,7 @@ pub fn route_number(path: Option<Path>) -> u8
     }
 }
 
-// What a number from a host names, of any size.
+// What a number from a host names, of any size. To an Option: each caller refuses with a number of its own, so that a TryFrom's error would say nothing.
 pub fn board_of(number: u64) -> Option<Board>
     ensures { result ≡ board_of number }
 {

@@ -33,22 +33,7 @@ pub high : (u : Update) → in_range u ≡ true → u.register ≤ 31
 high u h = leb-true u.register 31 (and_right (leb 5 u.register) (leb u.register 31) h)
 
 module _ {L : Type 0} (put : L → ℕ → Entry → L) (os : List ℕ) where
-  -- one step is taken off the list
-  pub turn : {A : Type 0} (f : A → Step) (l : List A) (n i : ℕ) (d : A) (w : Line L) → i < n → n ≤ length l
-      → run put os (map f (drop (i + 1) (take n l))) (step put os (f (get_or l i d)) w) ≡ run put os (map f (drop i (take n l))) w
-  unfolding run
-  turn f l n i d w h k =
-      let there : i < length (take n l) = rw (length-take-le n l k) h in
-      rw (add-one, drop-cons (take n l) i d there, get_or-take n l i d h)
-
-  -- none is left
-  pub end : {A : Type 0} (f : A → Step) (l : List A) (n i : ℕ) (w : Line L) → n ≤ i → w ≡ run put os (map f (drop i (take n l))) w
-  unfolding run
-  end f l n i w h =
-      let over : length (take n l) ≤ i = rw length-take (omega arith) in
-      rw (drop_of_length-le (take n l) over)
-
-  -- the same of a list that is gone through to its end
+  -- one step is taken off a list that is gone through to its end
   pub next : {A : Type 0} (f : A → Step) (l : List A) (i : ℕ) (d : A) (w : Line L) → i < length l
       → run put os (map f (drop (i + 1) l)) (step put os (f (get_or l i d)) w) ≡ run put os (map f (drop i l)) w
   unfolding run

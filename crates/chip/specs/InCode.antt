@@ -56,7 +56,3 @@ sealed room count = sets room (16 * count) (trailer_bytes count)
 -- the end of a part of a program, which the code runs in a function of its own: where a step has failed, the repeater is closed there already
 unfoldable pub closing : {L : Type 0} → (L → ℕ → Entry → L) → List ℕ → Line L → Line L
 closing put os w = cond (goes w.progress) w (step put os Close w)
-
--- a list as an array of n: fillers stand after it
-abbrev pub padded : {A : Type 0} → ℕ → A → List A → List A
-padded n a xs = xs ++ replicate (n - length xs) a

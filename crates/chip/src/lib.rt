@@ -23,6 +23,7 @@ use transcript::Entry;
 pub const REG_SHADOW_START: u8 = 0x05;
 
 // What the record says of the chip's registers 0x05 to 0x1f: the shadow, which is the byte last attempted (#106), and whether that is in doubt.
+// Two lists side by side: so they stand in the record's bytes on the C interface, and demand 3's theorems name each.
 #[derive(Clone, Copy)]
 pub struct Chip {
     pub address: u8,

@@ -82,7 +82,7 @@ fn setting(n: u64) -> u8
     a | (s << 6)
 }
 
-// S so far, what is left of F, and whether the turns have ended.
+// S so far, what is left of F, and whether the turns have ended. No Option is plainer: sum and rest count after the end too.
 #[derive(Clone, Copy)]
 pub struct Sum {
     pub sum: u64,

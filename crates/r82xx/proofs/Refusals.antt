@@ -7,16 +7,6 @@ use borrow.Author.Tests.{eq-eqb, le-leb, leb-false, lt-leb, ne_eqb}
 use lib.Dec.{eqb, leb}
 use Rattle.r82xx.specs.Calls.{hz_refusal}
 
--- hz 0; hz + IF over u64
-pub no_hz : (hz ifreq : ℕ) → hz ≡ 0 → 2 ≡ hz_refusal hz ifreq
-no_hz hz ifreq h = rw (eq-eqb hz 0 h)
-
-pub past_hz : (hz ifreq : ℕ) → (hz ≡ 0 → ⊥) → 2 ^ 64 ≤ hz + ifreq → 2 ≡ hz_refusal hz ifreq
-past_hz hz ifreq h k = rw (ne_eqb hz 0 h, le-leb (2 ^ 64) (hz + ifreq) k)
-
-pub good_hz : (hz ifreq : ℕ) → (hz ≡ 0 → ⊥) → hz + ifreq < 2 ^ 64 → 0 ≡ hz_refusal hz ifreq
-good_hz hz ifreq h k = rw (ne_eqb hz 0 h, lt-leb (2 ^ 64) (hz + ifreq) k)
-
 pub hz_fits : (hz ifreq : ℕ) → hz_refusal hz ifreq ≡ 0 → hz + ifreq < 2 ^ 64
 hz_fits hz ifreq e = go (leb (2 ^ 64) (hz + ifreq)) refl (eqb hz 0) refl
   where

@@ -261,7 +261,12 @@ impl Tuner {
     }
 
     // The gain changes only when all writes are done.
-    pub fn set_gain_by_index(mut self, index: usize, outcomes: &[u8], room: &mut [u8]) -> TunerResult
+    pub fn set_gain_by_index(
+        mut self,
+        index: usize,
+        outcomes: &[u8],
+        room: &mut [u8],
+    ) -> TunerResult
         ensures { called result.tuner room.new result.count result.answer
             ≡ result_of (GainIndex index) outcomes.now self room.old }
     {

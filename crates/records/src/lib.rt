@@ -57,6 +57,7 @@ fn kind_number(kind: Kind) -> u8
     kind as u8
 }
 
+// Any number but 1 stands for the first, where a TryFrom would refuse it: no plainer.
 fn kind_of(n: u64) -> Kind
     ensures { result ≡ kind_of n }
 {
@@ -190,6 +191,7 @@ pub fn tuner_image(t: Tuner) -> [u8; 78]
     image
 }
 
+// As `kind_of`.
 fn board_from(n: u64) -> Board
     ensures { result ≡ board_from n }
 {

@@ -43,6 +43,7 @@ pub struct Parts {
     pub zero: u32,
 }
 
+// No `as` by itself: it is asked for a number that fits.
 fn low_bits(n: usize) -> u32
     ensures { result ≡ n % 4294967296 }
 {

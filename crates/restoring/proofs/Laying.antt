@@ -63,11 +63,6 @@ module _ (sure : ℕ → Bool) where
       let none_left : 7 - k ≡ 0 = omega arith in
       rw none_left (omega arith)
 
-  pub run_start : (i : ℕ) → 0 + run_len sure (7 - 0) (i + 0) ≡ run_len sure 7 i
-  run_start i =
-      let here : i + 0 ≡ i = omega arith in
-      rw here (omega arith)
-
 -- ---- one write
 
 module _ (held : ℕ → ℕ) (i m j : ℕ) where

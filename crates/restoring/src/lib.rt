@@ -107,7 +107,7 @@ fn sure(known: &[Option<Sent>; 32], r: usize) -> bool
     }
 }
 
-// The next register that is sure, from i on.
+// The next register that is sure, from i on. (`find` over the numbers was tried: its proof did not close.)
 fn next_sure(known: &[Option<Sent>; 32], i: usize) -> Option<usize>
     ensures { result ≡ next_sure (sure_of known.now) (32 - i) i }
 {

@@ -118,18 +118,6 @@ trailer_number e d h =
 word_fits : (n : ℕ) → n < 4_294_967_296 → Fits w32 n
 word_fits n h = record { fits = h }
 
-pub fields_made : (s : List ℕ) (at k b p r f g : ℕ) (z : ℤ) → k ≡ le_value (take 1 (drop at s)) → b ≡ le_value (take 1 (drop (at + 1) s))
-    → p ≡ le_value (take 4 (drop (at + 2) s)) → p < 4_294_967_296 → z ≡ to_z w32 p → r ≡ le_value (take 4 (drop (at + 6) s))
-    → f ≡ le_value (take 8 (drop (at + 10) s)) → g ≡ le_value (take 1 (drop (at + 18) s))
-    → settings k b (to_z w32 (of_z w32 z)) r f g ≡ settings_from (map le_value (parts_from at widths1 s))
-fields_made s at k b p r f g z ek eb ep hp ez er ef eg =
-    let same : to_z w32 (of_z w32 z) ≡ to_z w32 p = ap (λ (y : ℤ). to_z w32 (of_z w32 y)) ez ∙ ap (to_z w32) (of_z-to_z (word_fits p hp)) in
-    let a2 : at + 1 + 1 ≡ at + 2 = omega arith in
-    let a6 : at + 2 + 4 ≡ at + 6 = omega arith in
-    let a10 : at + 6 + 4 ≡ at + 10 = omega arith in
-    let a18 : at + 10 + 8 ≡ at + 18 = omega arith in
-    rw (same, a2, a6, a10, a18, ek, eb, ep, er, ef, eg)
-
 module _ {R : Type 0} (none : ℕ → R) (trailer field : ℕ) (r : R) where
   pub by_trailers : (trailer ≡ 0 → ⊥) → none trailer ≡ judged none trailer field r
   unfolding judged

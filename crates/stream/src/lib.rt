@@ -25,6 +25,7 @@ pub enum Command {
 }
 
 // What was taken of a chunk: how much of it, and the bytes that there are now of the command that is waited for, zeros after them. With nine it is whole.
+// An array with a count beside: nothing here may take memory, and the zeros are the stream's own bytes (document 02, #105).
 #[derive(Clone, Copy)]
 pub struct Gathered {
     pub used: usize,

@@ -38,12 +38,6 @@ module _ (s : List ℕ) (at i k : ℕ) where
       let none : k - i ≡ 0 = omega arith in
       rw none
 
-  pub fit_start : all_fit (k - 0) (drop (at + 16 * 0) s) ≡ all_fit k (drop at s)
-  fit_start =
-      let all : k - 0 ≡ k = omega arith in
-      let here : at + 16 * 0 ≡ at = omega arith in
-      rw (all, here)
-
 pub both : (a b : Bool) → a && b ≡ true → (a ≡ true) × (b ≡ true)
 both true b h = (refl, h)
 both false b h = absurd cc

@@ -60,14 +60,6 @@ pub not_argued : (ok : Bool) (argument next need : ℕ) → ready_of ok argument
 unfolding ready_of
 not_argued ok argument next need e = (none_refused ok argument (ltb next need) e).1
 
--- where nothing is refused, a path's number is a byte
-path_named : (b : Bool) (path : ℕ) → ltb 2 path ≡ b → ◌≡◌ {A = ℕ} (cond b 1 0) 0 → path < 2 ^ 8
-path_named true path t e = absurd (omega (arith, e))
-path_named false path t e = omega (arith, ltb-false 2 path t)
-
-pub path_byte : (path k : ℕ) → k ≡ path_refusal path → k ≡ 0 → path < 2 ^ 8
-path_byte path k asked z = path_named (ltb 2 path) path refl (sym asked ∙ z)
-
 -- a row by a path's number: 1 where it names none, and no other refusal
 pub path_argued : (row : Option Path → Course Tuner) → argument_of (row None) ≡ SETUP → ((p : Path) → argument_of (row (Some p)) ≡ 0)
     → (path : ℕ) → path_refusal path ≡ argument_of (row (path_of path))

@@ -103,9 +103,6 @@ inner_after = all_after inner (λ e h. refl) inner_update
 pub inner_pll : (address : ℕ) (kind : Kind) (number : ℕ) (rs : List ℕ) → every inner (pll_steps address kind number rs) ≡ true
 inner_pll = all_pll inner (λ e h. refl) inner_update
 
-pub inner_inner : (address : ℕ) (kind : Kind) (notch : Bool) (plan : Option Plan) (hz : ℕ) (rs : List ℕ) → every inner (inner_steps address kind notch plan hz rs) ≡ true
-inner_inner = all_inner inner (λ e h. refl) inner_update
-
 -- eight data bytes each
 pub eight_inner : (address : ℕ) (kind : Kind) (notch : Bool) (plan : Option Plan) (hz : ℕ) (rs : List ℕ) → every eight (inner_steps address kind notch plan hz rs) ≡ true
 eight_inner = all_inner eight (λ e h. eq-eqb (length e.bytes) 8 h) eight_update

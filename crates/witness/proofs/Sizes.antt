@@ -6,12 +6,6 @@ use native.Mathlib.Omega.{arith}
 use native.Mathlib.Nat.{mul-le-mul_left, mod-eq_of_lt}
 use lib.Pow.{pow_mono}
 
--- fewer than 2^22 steps of a reference
-pub steps_small : (steps xtal : ℕ) → steps < 4_194_304 → xtal < 4_294_967_296 → steps * xtal < 18_014_398_509_481_984
-steps_small steps xtal h k =
-    let most : steps * xtal ≤ steps * 4_294_967_295 = mul-le-mul_left steps (omega arith) in
-    omega (arith, most)
-
 -- S has two bytes
 pub sum_small : (s : ℕ) (b : Bool) (high low : ℕ) → high < 256 → low < 256 → s ≡ cond b 0 (256 * high + low) → s < 65_536
 sum_small s true high low h l e = omega arith

@@ -70,7 +70,7 @@ fn divider(lo: u64) -> u64
     m
 }
 
-// The sum so far: S, what is left of F, and whether it has ended.
+// The sum so far: S, what is left of F, and whether it has ended. No Option is plainer: both numbers count after the end too.
 #[derive(Clone, Copy)]
 pub struct Work {
     pub sum: u64,

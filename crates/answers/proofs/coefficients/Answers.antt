@@ -15,9 +15,6 @@ use Rattle.answers.specs.Lent.{words_in}
 use Rattle.answers.proofs.Words.{read_end, read_turn}
 use Rattle.answers.proofs.coefficients.Goals as goal
 
-pub loop-i-init : goal.loop-i-init
-loop-i-init c = (search rules, (refl, refl))
-
 pub loop-i-preserved : goal.loop-i-preserved
 loop-i-preserved c =
     let word = c.word in

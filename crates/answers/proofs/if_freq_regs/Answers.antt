@@ -11,8 +11,3 @@ pub overflow_cast-regs : goal.overflow_cast-regs
 overflow_cast-regs c =
     let a = c.args in
     record { fits = subst (λ (r : IfRegs). r.refusal < 256) (sym c.if_freq_regs-regs.ensures) (if_small a.hz a.xtal) }
-
-pub returns : goal.returns
-returns c =
-    let a = c.args in
-    c.lend.ensures ∙ ap (λ (r : IfRegs). lent_to r.refusal 0 r.bytes a.out.now) c.if_freq_regs-regs.ensures

@@ -16,9 +16,6 @@ use Rattle.answers.specs.Lent.{word_bytes}
 use Rattle.answers.proofs.Words.{put_end, put_turn}
 use Rattle.answers.proofs.put_words.Goals as goal
 
-pub loop-i-init : goal.loop-i-init
-loop-i-init c = (search rules, (refl, refl))
-
 pub loop-i-preserved : goal.loop-i-preserved
 loop-i-preserved c =
     let put = c.put in

@@ -11,8 +11,3 @@ pub overflow_cast-regs : goal.overflow_cast-regs
 overflow_cast-regs c =
     let a = c.args in
     record { fits = subst (λ (r : ResampleRegs). r.refusal < 256) (sym c.resample_regs-regs.ensures) (resample_small a.rate a.xtal) }
-
-pub returns : goal.returns
-returns c =
-    let a = c.args in
-    c.lend.ensures ∙ ap (λ (r : ResampleRegs). lent_to r.refusal 0 r.bytes a.out.now) c.resample_regs-regs.ensures

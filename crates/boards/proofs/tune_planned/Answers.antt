@@ -24,18 +24,6 @@ returns-then-number-ne0 c =
     ∙ ap (xtal_by a.driver.nominal) (to_z-of_z {w = w32} {z = a.driver.ppm} (record { sfits = c.struct_told-1.given.1.1.0.1 })))
     c.hop_refusal-argument.ensures c.refusal-number.ensures c.if-number-ne0.true
 
-pub overflow_add-plan : goal.overflow_add-plan
-overflow_add-plan c =
-    let hop-refusal = c.hop_refusal-argument in
-    let a = c.args in
-    let rooms = length a.room.now in
-    let outs = length a.outcomes.now in
-    let back = length a.replies.now in
-    let z =
-    taken_by (c.sound.result && leb 1 c.xtal_by.result) hop-refusal.result 64 38 rooms outs back
-    (sym c.refusal-number.ensures ∙ c.if-number-ne0.false) in
-    record { fits = hop_hz a.planned a.tuner.ifreq (sym hop-refusal.ensures ∙ z.taken) }
-
 pub hop-requires : goal.hop-requires
 hop-requires c =
     let a = c.args in

@@ -6,9 +6,6 @@ use lib.ListN.{drop}
 use Rattle.expansion.proofs.Hearing.{ended, refused, stray, too_many, turn, unheard}
 use Rattle.expansion.proofs.counted.Goals as goal
 
-pub loop-at-init : goal.loop-at-init
-loop-at-init c = (omega arith, omega arith, refl, omega arith)
-
 pub returns-then-i-eq4096 : goal.returns-then-i-eq4096
 returns-then-i-eq4096 c =
     let l = c.loop-at in

@@ -11,12 +11,6 @@ use Rattle.expansion.proofs.Turns.{left_all, few, stops, goes, grows, within, re
 use borrow.Author.Rules.{rules}
 use Rattle.expansion.proofs.measured.Goals as goal
 
-pub loop-i-init : goal.loop-i-init
-loop-i-init c =
-    let args = c.args in
-    let the-left-all = left_all args.s.now args.start args.count in
-    (omega arith, ap all_expand the-left-all, ap (λ (es : List Entry). 0 + length (expanded es)) the-left-all ∙ omega arith)
-
 pub returns-then-not-expands : goal.returns-then-not-expands
 returns-then-not-expands c =
     let expands = c.expands in

@@ -13,15 +13,6 @@ use Rattle.expansion.proofs.Turns.{left_all, few, grows, stores, stored}
 use borrow.Author.Rules.{rules}
 use Rattle.expansion.proofs.write_packets.Goals as goal
 
-pub loop-i-init : goal.loop-i-init
-loop-i-init c =
-    let args = c.args in
-    let the-left-all = left_all args.s.now args.start args.count in (
-      refl,
-      ap (λ (es : List Entry). 0 + length (expanded es)) the-left-all ∙ omega arith,
-      ap (λ (es : List Entry). sets args.out.now 0 (expanded es)) the-left-all,
-    )
-
 pub put-requires : goal.put-requires
 put-requires c =
     let e = c.get-e in

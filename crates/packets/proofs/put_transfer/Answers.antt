@@ -8,11 +8,6 @@ use Rattle.packets.proofs.Written.{transfer_stored}
 use borrow.Author.Rules.{rules}
 use Rattle.packets.proofs.put_transfer.Goals as goal
 
-pub slice_bounds-copy-end : goal.slice_bounds-copy-end
-slice_bounds-copy-end c =
-    let a = c.args in
-    let l : length a.e.bytes ≡ 8 = search rules in let f : a.e.n ≤ 8 = search rules in omega (arith, l, f, c.sent_by-sent.ensures.1)
-
 pub returns : goal.returns
 returns c =
     let a =

@@ -47,15 +47,6 @@ finish-requires c =
     (length args.outcomes.now) 0 (sym c.refusal-number.ensures ∙ c.if-number-ne0.false) in
     let one = z.lent.rooms in (omega (arith, sample-rate-steps.ensures.bounds), omega (arith, sample-rate-steps.ensures.bounds, sample-rate-steps.auto))
 
-pub with_rate-requires : goal.with_rate-requires
-with_rate-requires c =
-    let rate-argument = c.rate_argument-argument in
-    let args = c.args in
-    let z =
-    taken_by (c.sound.result && leb 1 c.xtal_by-xtal.result) rate-argument.result 17 0 (length args.room.now)
-    (length args.outcomes.now) 0 (sym c.refusal-number.ensures ∙ c.if-number-ne0.false) in
-    sym c.rate_number-ratio.ensures ∙ under args.planned.refusal _ (sym rate-argument.ensures ∙ z.taken)
-
 pub returns : goal.returns
 returns c =
     let finish = c.finish in

@@ -12,12 +12,6 @@ use Rattle.r82xx.specs.Orders.{bracket}
 use Rattle.chip.specs.Courses.{left_by}
 use Rattle.r82xx.proofs.Tuner.operate.Goals as goal
 
-pub overflow_add-us : goal.overflow_add-us
-overflow_add-us c = omega (arith, c.requires.0)
-
-pub refusal-number-requires : goal.refusal-number-requires
-refusal-number-requires c = omega (arith, c.requires.0)
-
 pub returns-then-number-ne0 : goal.returns-then-number-ne0
 unfolding left_by bracket
 returns-then-number-ne0 c = c.refused.ensures _ ∙ refuse_by _ _ _ _ _ _ _ _ _ c.refusal-number.ensures c.if-number-ne0.true

@@ -25,15 +25,6 @@ returns-then-number-ne0 c =
     c.if-number-ne0.true in
     (c.refused.ensures _ ∙ z.0, z.1)
 
-pub overflow_add-hz : goal.overflow_add-hz
-overflow_add-hz c =
-    let hz-refusal = c.hz_refusal in
-    let a = c.args in
-    let z =
-    taken_by (sound a.self) hz-refusal.result 53 35 (length a.room.now) (length a.outcomes.now) (length a.replies.now)
-    (sym c.refusal-number.ensures ∙ c.if-number-ne0.false) in
-    record { fits = hz_fits a.hz a.self.ifreq (sym hz-refusal.ensures ∙ z.taken) }
-
 pub tune-requires : goal.tune-requires
 tune-requires c =
     let a = c.args in
