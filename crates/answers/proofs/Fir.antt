@@ -18,7 +18,8 @@ use Rattle.wire.proofs.Widths.{length-le_bytes, value_bytes}
 use Rattle.refusals.specs.declared.Answer.TheVariants.{Done}
 use Rattle.chip.proofs.Laws.{and_left, and_right}
 use Rattle.fir.specs.declared.Packed.{Packed}
-use Rattle.fir.specs.Packing.{every, packed, signed_of, twos, unpack_of, within}
+use Rattle.std.specs.List.{list_all}
+use Rattle.fir.specs.Packing.{packed, signed_of, twos, unpack_of, within}
 use Rattle.fir.proofs.Inverse.{unpack_pack}
 use Rattle.fir.proofs.Lists.{cons}
 use Rattle.fir.proofs.Widths.{kept, signed_within}
@@ -29,30 +30,30 @@ use Rattle.refusals.proofs.Giving.{laid}
 use Rattle.answers.proofs.Words.{length_words}
 
 -- numbers that an i32 holds come back out of their bytes
-words_back : (v : List ℤ) → every (within (2 ^ 31)) v ≡ true → words_in (length v) (word_bytes v) ≡ v
+words_back : (v : List ℤ) → list_all (within (2 ^ 31)) v ≡ true → words_in (length v) (word_bytes v) ≡ v
 unfolding words_in word_bytes
 words_back [] h = refl
 words_back (z ∷ zs) h =
     let bs = le_bytes 4 (of_z w32 z) in
     let l : length bs ≡ 4 = length-le_bytes 4 (of_z w32 z) in
-    let small : mag z < 2 ^ 31 = ltb-true (mag z) (2 ^ 31) (and_left (within (2 ^ 31) z) (every (within (2 ^ 31)) zs) h) in
+    let small : mag z < 2 ^ 31 = ltb-true (mag z) (2 ^ 31) (and_left (within (2 ^ 31) z) (list_all (within (2 ^ 31)) zs) h) in
     let value : le_value (take 4 (bs ++ word_bytes zs)) ≡ of_z w32 z =
     ap le_value (take_at bs (word_bytes zs) 4 l) ∙ value_bytes 4 (of_z w32 z) (of_z_fits w32 z (record { sfits = small })).fits in
     cons (ap (to_z w32) value ∙ kept z small)
-    (ap (words_in (length zs)) (drop_at bs (word_bytes zs) 4 l) ∙ words_back zs (and_right (within (2 ^ 31) z) (every (within (2 ^ 31)) zs) h))
+    (ap (words_in (length zs)) (drop_at bs (word_bytes zs) 4 l) ∙ words_back zs (and_right (within (2 ^ 31) z) (list_all (within (2 ^ 31)) zs) h))
 
 -- what is unpacked is sixteen of those
-all_small : (half : ℕ) → 0 < half → half ≤ 2 ^ 31 → (l : List ℕ) → every (within (2 ^ 31)) (map (signed_of half) l) ≡ true
+all_small : (half : ℕ) → 0 < half → half ≤ 2 ^ 31 → (l : List ℕ) → list_all (within (2 ^ 31)) (map (signed_of half) l) ≡ true
 all_small half p m [] = refl
 all_small half p m (x ∷ l) =
     let s : mag (signed_of half x) < half = ltb-true (mag (signed_of half x)) half (signed_within half x p) in
     simp (lt-ltb (mag (signed_of half x)) (2 ^ 31) (omega arith), all_small half p m l)
 
-every_both : (p : ℤ → Bool) (xs ys : List ℤ) → every p xs ≡ true → every p ys ≡ true → every p (xs ++ ys) ≡ true
+every_both : (p : ℤ → Bool) (xs ys : List ℤ) → list_all p xs ≡ true → list_all p ys ≡ true → list_all p (xs ++ ys) ≡ true
 every_both p [] ys h k = k
-every_both p (x ∷ xs) ys h k = rw (and_left (p x) (every p xs) h) (every_both p xs ys (and_right (p x) (every p xs) h) k)
+every_both p (x ∷ xs) ys h k = rw (and_left (p x) (list_all p xs) h) (every_both p xs ys (and_right (p x) (list_all p xs) h) k)
 
-unpacked_small : (b : List ℕ) → every (within (2 ^ 31)) (unpack_of b) ≡ true
+unpacked_small : (b : List ℕ) → list_all (within (2 ^ 31)) (unpack_of b) ≡ true
 unfolding unpack_of
 unpacked_small b =
     every_both (within (2 ^ 31)) (map (signed_of 128) (take 8 b)) (map (signed_of 2048) (twos (drop 8 b)))

@@ -13,7 +13,8 @@ use lib.Pow.{are_bytes}
 use lib.Seq.{take_at, drop_at}
 use Rattle.refusals.specs.Table.{COEFFICIENT}
 use Rattle.fir.specs.declared.Packed.{Packed}
-use Rattle.fir.specs.Packing.{every, fir_fits, low_of, no_bytes, pack_of, packed, signed_of, threes, twos, unpack_of, within}
+use Rattle.std.specs.List.{list_all}
+use Rattle.fir.specs.Packing.{fir_fits, low_of, no_bytes, pack_of, packed, signed_of, threes, twos, unpack_of, within}
 use Rattle.fir.proofs.Lists.{cons}
 use Rattle.fir.proofs.Widths.{low_lt, low_signed, signed_low, signed_within}
 
@@ -27,9 +28,9 @@ and_right false b h = absurd (let z : ◌≡◌ {A = ℕ} 0 1 = cc in omega arit
 
 -- ---- packed, then unpacked
 
-shorts : (l : List ℤ) → every (within 128) l ≡ true → map (signed_of 128) (map (low_of 128) l) ≡ l
+shorts : (l : List ℤ) → list_all (within 128) l ≡ true → map (signed_of 128) (map (low_of 128) l) ≡ l
 shorts [] h = refl
-shorts (z ∷ l) h = cons (signed_low 128 z (and_left (within 128 z) (every (within 128) l) h)) (shorts l (and_right (within 128 z) (every (within 128) l) h))
+shorts (z ∷ l) h = cons (signed_low 128 z (and_left (within 128 z) (list_all (within 128) l) h)) (shorts l (and_right (within 128 z) (list_all (within 128) l) h))
 
 -- the first of two comes back out of the first two bytes, the second out of the last two
 first_back : (a b : ℕ) → b < 4096 → a / 16 * 16 + (a % 16 * 16 + b / 256) / 16 ≡ a
@@ -38,19 +39,19 @@ first_back a b h = omega arith
 second_back : (a b : ℕ) → b < 4096 → (a % 16 * 16 + b / 256) % 16 * 256 + b % 256 ≡ b
 second_back a b h = omega arith
 
-longs : (n : ℕ) (l : List ℤ) → length l ≡ n + n → every (within 2048) l ≡ true
+longs : (n : ℕ) (l : List ℤ) → length l ≡ n + n → list_all (within 2048) l ≡ true
     → map (signed_of 2048) (twos (threes (map (low_of 2048) l))) ≡ l
 longs zero [] e h = refl
 longs zero (y ∷ l) e h = absurd (omega arith)
 longs (suc n) [] e h = absurd (omega arith)
 longs (suc n) (y ∷ []) e h = absurd (omega arith)
 longs (suc n) (y ∷ z ∷ l) e h =
-    let i = and_right (within 2048 y) (within 2048 z && every (within 2048) l) h in
+    let i = and_right (within 2048 y) (within 2048 z && list_all (within 2048) l) h in
     let r : length l ≡ n + n = omega arith in
     let b : low_of 2048 z < 4096 = low_lt 2048 z (lit< tt) in
-    cons (ap (signed_of 2048) (first_back (low_of 2048 y) (low_of 2048 z) b) ∙ signed_low 2048 y (and_left (within 2048 y) (within 2048 z && every (within 2048) l) h))
-    (cons (ap (signed_of 2048) (second_back (low_of 2048 y) (low_of 2048 z) b) ∙ signed_low 2048 z (and_left (within 2048 z) (every (within 2048) l) i))
-    (longs n l r (and_right (within 2048 z) (every (within 2048) l) i)))
+    cons (ap (signed_of 2048) (first_back (low_of 2048 y) (low_of 2048 z) b) ∙ signed_low 2048 y (and_left (within 2048 y) (within 2048 z && list_all (within 2048) l) h))
+    (cons (ap (signed_of 2048) (second_back (low_of 2048 y) (low_of 2048 z) b) ∙ signed_low 2048 z (and_left (within 2048 z) (list_all (within 2048) l) i))
+    (longs n l r (and_right (within 2048 z) (list_all (within 2048) l) i)))
 
 packed_unpacked : (v : List ℤ) → length v ≡ 16 → fir_fits v ≡ true → unpack_of (pack_of v) ≡ v
 unfolding pack_of unpack_of fir_fits
@@ -61,8 +62,8 @@ packed_unpacked v n h =
     let d : length (drop 8 v) ≡ 4 + 4 = omega (arith, length-drop 8 v) in
     ap (λ (u : List ℕ). map (signed_of 128) u ++ map (signed_of 2048) (twos (drop 8 (p ++ q)))) (take_at p q 8 e)
     ∙ ap (λ (u : List ℕ). map (signed_of 128) p ++ map (signed_of 2048) (twos u)) (drop_at p q 8 e)
-    ∙ ap (λ (u : List ℤ). u ++ map (signed_of 2048) (twos q)) (shorts (take 8 v) (and_left (every (within 128) (take 8 v)) (every (within 2048) (drop 8 v)) h))
-    ∙ ap (λ (u : List ℤ). take 8 v ++ u) (longs 4 (drop 8 v) d (and_right (every (within 128) (take 8 v)) (every (within 2048) (drop 8 v)) h))
+    ∙ ap (λ (u : List ℤ). u ++ map (signed_of 2048) (twos q)) (shorts (take 8 v) (and_left (list_all (within 128) (take 8 v)) (list_all (within 2048) (drop 8 v)) h))
+    ∙ ap (λ (u : List ℤ). take 8 v ++ u) (longs 4 (drop 8 v) d (and_right (list_all (within 128) (take 8 v)) (list_all (within 2048) (drop 8 v)) h))
     ∙ take-append-drop 8 v
 
 -- ---- unpacked, then packed
@@ -122,7 +123,7 @@ unpacked_packed b n h =
     ∙ ap (λ (u : List ℕ). take 8 b ++ u) (longs_packed 4 (drop 8 b) d (bytes_drop 8 b h))
     ∙ take-append-drop 8 b
 
-all_signed : (half : ℕ) → 0 < half → (l : List ℕ) → every (within half) (map (signed_of half) l) ≡ true
+all_signed : (half : ℕ) → 0 < half → (l : List ℕ) → list_all (within half) (map (signed_of half) l) ≡ true
 all_signed half h [] = refl
 all_signed half h (x ∷ l) = simp (signed_within half x h, all_signed half h l)
 
@@ -132,8 +133,8 @@ unpacked_fits b n =
     let p = map (signed_of 128) (take 8 b) in
     let q = map (signed_of 2048) (twos (drop 8 b)) in
     let e : length p ≡ 8 = length-map (take 8 b) (signed_of 128) ∙ omega (arith, length-take 8 b) in
-    ap (λ (u : List ℤ). every (within 128) u && every (within 2048) (drop 8 (p ++ q))) (take_at p q 8 e)
-    ∙ ap (λ (u : List ℤ). every (within 128) p && every (within 2048) u) (drop_at p q 8 e)
+    ap (λ (u : List ℤ). list_all (within 128) u && list_all (within 2048) (drop 8 (p ++ q))) (take_at p q 8 e)
+    ∙ ap (λ (u : List ℤ). list_all (within 128) p && list_all (within 2048) u) (drop_at p q 8 e)
     ∙ simp (all_signed 128 (lit< tt) (take 8 b), all_signed 2048 (lit< tt) (twos (drop 8 b)))
 
 -- ---- the same of the packer's answer, by which its contract speaks

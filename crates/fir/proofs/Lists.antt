@@ -1,19 +1,8 @@
--- Laws on lists for the sixteen coefficients: a test of each element, and a list by its elements. Assumes nothing.
+-- Laws on lists for the sixteen coefficients: a list by its elements. Assumes nothing.
 use mathlib.Core.Path.{◌≡◌, refl, ap, subst}
-use mathlib.Core.Bool.{Bool, ◌&&◌}
 use mathlib.Core.List.{List, [], ◌∷◌}
 use Prim.Native.Nat.{ℕ, zero, suc}
-use lib.IntN.{ℤ}
 use lib.ListN.{length, get_or}
-use Rattle.std.specs.List.{list_all}
-use Rattle.fir.specs.Packing.{every}
-
--- std's test of each element is the definition's
-pub every_is : (p : ℤ → Bool) (v : List ℤ) → list_all p v ≡ every p v
-every_is p [] = refl
-every_is p (z ∷ v) = ap (λ (b : Bool). p z && b) (every_is p v)
-
--- ---- a list of a known length, element by element
 
 abbrev pub tab : {A : Type 0} → (ℕ → A) → ℕ → List A
 tab f zero = []

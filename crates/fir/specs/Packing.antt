@@ -2,8 +2,9 @@
 -- Document 01, "Demodulator": "FIR: eight 8-bit, then eight 12-bit signed values, two in three bytes. Our packer takes any sixteen in range;
 -- our unpacker is its inverse." A width is said by half the numbers that it has: 128 for eight bits, 2048 for twelve.
 -- Assumes nothing.
-use Rattle.std.specs.Prelude.{Bool, true, cond, ◌&&◌, List, [], ◌∷◌, ◌++◌, map, ℕ, ◌+◌, ◌-◌, ◌*◌, ◌/◌, ◌%◌, ltb, ℤ, pos, negsuc, take, drop}
+use Rattle.std.specs.Prelude.{Bool, cond, ◌&&◌, List, [], ◌∷◌, ◌++◌, map, ℕ, ◌+◌, ◌-◌, ◌*◌, ◌/◌, ◌%◌, ltb, ℤ, pos, negsuc, take, drop}
 use Rattle.std.specs.Int.Signed.{mag}
+use Rattle.std.specs.List.{list_all}
 use Rattle.refusals.specs.Table.{COEFFICIENT}
 use Rattle.fir.specs.declared.Packed.{Packed}
 
@@ -11,13 +12,9 @@ use Rattle.fir.specs.declared.Packed.{Packed}
 abbrev pub within : ℕ → ℤ → Bool
 within half z = ltb (mag z) half
 
-abbrev pub every : (ℤ → Bool) → List ℤ → Bool
-every p [] = true
-every p (z ∷ zs) = p z && every p zs
-
 -- refusal 7: "a FIR value past its width"
 unfoldable pub fir_fits : List ℤ → Bool
-fir_fits v = every (within 128) (take 8 v) && every (within 2048) (drop 8 v)
+fir_fits v = list_all (within 128) (take 8 v) && list_all (within 2048) (drop 8 v)
 
 -- the bits of z that the width holds, as a number: z modulo 2 * half; and the number's z
 abbrev pub low_of : ℕ → ℤ → ℕ

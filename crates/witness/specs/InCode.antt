@@ -1,6 +1,7 @@
 -- How the code's arrays stand for what is told: a mark of one and of several registers, and a byte of the demodulator's by its register.
 -- Assumes nothing.
-use Rattle.std.specs.Prelude.{ℕ, Bool, true, cond, ◌&&◌, List, [], ◌∷◌, eqb, get_or, None, Some}
+use Rattle.std.specs.Prelude.{ℕ, Bool, cond, List, [], ◌∷◌, eqb, get_or, None, Some}
+use Rattle.std.specs.List.{list_all}
 use Rattle.restoring.specs.Standing.{Known, byte_of}
 use Rattle.witness.specs.declared.Marks.{Marks}
 use Rattle.witness.specs.declared.Numbers.{Numbers}
@@ -13,8 +14,7 @@ mark_known None = 0
 mark_known (Some s) = cond s.done 2 1
 
 abbrev pub all_are : ℕ → List Known → Bool
-all_are mark [] = true
-all_are mark (k ∷ ks) = eqb (mark_known k) mark && all_are mark ks
+all_are mark ks = list_all (λ (k : Known). eqb (mark_known k) mark) ks
 
 -- sure where all are, never where all are, else doubtful
 abbrev pub mark_from : List Known → ℕ

@@ -299,12 +299,7 @@ fn mark_of(known: Option<Sent>) -> u8
 fn all_are(known: &[Option<Sent>], mark: u8) -> bool
     ensures { result ≡ all_are mark known.now }
 {
-    for k in known {
-        if mark_of(*k) != mark {
-            return false;
-        }
-    }
-    true
+    known.iter().all(|k| mark_of(*k) == mark)
 }
 
 // The mark of several registers.

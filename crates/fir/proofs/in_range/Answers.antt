@@ -4,10 +4,10 @@ use mathlib.Core.Path.{◌≡◌, ap, ap₂, ◌∙◌}
 use mathlib.Core.Bool.{Bool, ◌&&◌}
 use Prim.Native.Nat.{◌≤◌}
 use native.Mathlib.Omega.{arith}
-use lib.ListN.{length, take, drop, length-drop}
+use lib.ListN.{length, drop, length-drop}
 use lib.Seq.{take_all}
-use Rattle.fir.specs.Packing.{every, fir_fits, within}
-use Rattle.fir.proofs.Lists.{every_is}
+use Rattle.std.specs.List.{list_all}
+use Rattle.fir.specs.Packing.{fir_fits, within}
 use Rattle.fir.proofs.in_range.Goals as goal
 
 pub returns : goal.returns
@@ -17,5 +17,5 @@ returns c =
     let n : length v ≡ 16 = c.well_formed.0.1.0.1 in
     let l : length (drop 8 v) ≤ 8 = omega (arith, length-drop 8 v) in
     ap₂ (λ (a b : Bool). a && b)
-    (c.all_within.ensures ∙ every_is (within 128) (take 8 v))
-    (c.all_within-2.ensures ∙ every_is (within 2048) (take 8 (drop 8 v)) ∙ ap (every (within 2048)) (take_all 8 (drop 8 v) l))
+    c.all_within.ensures
+    (c.all_within-2.ensures ∙ ap (list_all (within 2048)) (take_all 8 (drop 8 v) l))
