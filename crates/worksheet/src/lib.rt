@@ -64,7 +64,7 @@ fn divider(lo: u64) -> u64
     ensures { result ≡ divider_on lo }
 {
     let mut m = 0;
-    for b in BANDS {
+    for &b in &BANDS {
         m = in_band(lo, m, b);
     }
     m
@@ -111,7 +111,7 @@ fn summed(k: u64, f: u64) -> Work
         left: f,
         ended: false,
     };
-    for l in LINES {
+    for &l in &LINES {
         w = worked_line(k, w, l);
     }
     w
