@@ -345,6 +345,10 @@ pub fn write_list(
         (on_log (chip_of address shadow.old doubtful.old) l room.old)) }
     ensures bounds { result.count + closing_owed result.opened ≤ l.count + length us.now + closing_owed l.opened }
 {
+    // Looked at before the loop, so that the compiler knows it in each turn (docs/DESIGN-PASS.md, Measured).
+    let Progress::Going = l.progress else {
+        return log_close(l, outcomes, room);
+    };
     let mut l = l;
     for u in us {
         l = write_reg_mask_raw(l, address, *u, shadow, doubtful, outcomes, room);

@@ -360,6 +360,10 @@ fn wait_pll_lock_raw(
         (on_log (chip_of address shadow.old doubtful.old) l room.old)) }
     ensures bounds { result.count + closing_owed result.opened ≤ l.count + 31 + closing_owed l.opened }
 {
+    // Looked at before the loop, so that the compiler knows it in each turn.
+    let Progress::Going = l.progress else {
+        return chip::log_close(l, outcomes, room);
+    };
     let mut l = l;
     for i in 0..10 {
         // Tested after the try, but worked out before it, where the try's own reply has just been read.

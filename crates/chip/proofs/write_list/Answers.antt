@@ -1,5 +1,5 @@
 -- `chip::write_list` meets its contract. The loop's invariant: what is left, from here, gives what all of it gives from the start. Assumes nothing.
-use Rattle.std.proofs.Common.{◌+◌, drop, ap, ◌∙◌, arith, rules}
+use Rattle.std.proofs.Common.{◌+◌, drop, refl, ap, ◌∙◌, arith, rules}
 use Rattle.chip.specs.InCode.{closing, in_room}
 use Rattle.chip.specs.Steps.{goes, in_range, run, updates, update_step}
 use Rattle.chip.proofs.Laws.{stop}
@@ -12,11 +12,17 @@ write_reg_mask_raw-l-requires c =
 
 pub returns-in_default-clause-room_after : goal.returns-in_default-clause-room_after
 returns-in_default-clause-room_after c =
+    let us = c.args.us.now in
+    c.log_close.ensures.room_after _
+    ∙ stop in_room _ (updates us) _ _ (ap goes c.in_default.is) (every_inner update_step inner_update us) refl
+
+pub returns-in_default-progress-clause-room_after : goal.returns-in_default-progress-clause-room_after
+returns-in_default-progress-clause-room_after c =
     let loop = c.loop-u in
     let us = c.args.us.now in
     let rest = drop (loop.u-index + 1) us in
-    c.log_close.ensures.room_after _
-    ∙ stop in_room _ (updates rest) _ _ (ap goes c.in_default.is) (every_inner update_step inner_update rest)
+    c.log_close-in_default-progress.ensures.room_after _
+    ∙ stop in_room _ (updates rest) _ _ (ap goes c.in_default-progress.is) (every_inner update_step inner_update rest)
     (ap (run in_room _ (updates rest)) c.write_reg_mask_raw-l.ensures.room_after
     ∙ next in_room _ update_step us loop.u-index _ _ (search rules)
     ∙ loop.invariant.left)
