@@ -65,6 +65,10 @@ pub fn copy(dst: &mut [u8], at: usize, src: &[u8])
     requires { at + length src.now ≤ length dst.old }
     ensures { dst.new ≡ sets dst.old at src.now }
 {
+    // An empty source asks the C library for nothing.
+    if src.is_empty() {
+        return;
+    }
     dst[at..at + src.len()].copy_from_slice(src);
 }
 
