@@ -19,7 +19,7 @@ ghost use Rattle.status.specs.Reversal.{locked_by};
 ghost use Rattle.restoring.specs.Standing.{byte_of, only, over};
 ghost use Rattle.evidence.specs.Demodulator as demod;
 ghost use Rattle.evidence.specs.Evidence.{centre_of, lo_units, planned, touches, try_of};
-ghost use Rattle.witness.specs.Walk.{demod_in, is_open, most, place_of, seen_all, waited_by};
+ghost use Rattle.witness.specs.Walk.{demod_in, is_open, most, place_of, seen, seen_all, waited_by};
 ghost use Rattle.witness.specs.declared.Stage.TheVariants.{Counted, Ended};
 ghost use Rattle.witness.specs.Answer.{answer_bytes, centre_mark, evidence_into, if_sure};
 ghost use Rattle.witness.specs.InCode.{all_are, mark_from, mark_known, marks_in, numbers_in};
@@ -231,14 +231,20 @@ fn waited(w: Waiting, e: Entry, address: u8) -> Waiting
     }
 }
 
-// One entry more of all that is gathered.
-fn heard(e: Entry, address: u8, seen: &mut Seen)
+// One entry more of all that is gathered. The waiting goes by value: in the arrays' struct each entry would wait for the one before it to be stored.
+fn heard(
+    e: Entry,
+    address: u8,
+    w: Waiting,
+    chip: &mut [Option<Sent>; 32],
+    demod: &mut [Option<Sent>; 32],
+) -> Waiting
     requires { e.n ≤ 8 }
-    ensures { seen.new ≡ seen_all address (e ∷ []) seen.old }
+    ensures { seen chip.new demod.new result ≡ seen_all address (e ∷ []) (seen chip.old demod.old w) }
 {
-    restoring::noted(e, address, &mut seen.chip);
-    noted_demod(e, &mut seen.demod);
-    seen.waiting = waited(seen.waiting, e, address);
+    restoring::noted(e, address, chip);
+    noted_demod(e, demod);
+    waited(w, e, address)
 }
 
 // The entries of a section, from the last to the first.
@@ -246,10 +252,12 @@ fn heard_all(s: &[u8], start: usize, count: usize, address: u8, seen: &mut Seen)
     requires { (count ≤ 4096) × (start + 16 * count ≤ length s.now) × (all_fit count (drop start s.now) ≡ true) }
     ensures { seen.new ≡ seen_all address (entries_in count (drop start s.now)) seen.old }
 {
+    let mut w = seen.waiting;
     for i in (0..count).rev() {
         let e = Entry::get(s, start + 16 * i);
-        heard(e, address, seen);
+        w = heard(e, address, w, &mut seen.chip, &mut seen.demod);
     }
+    seen.waiting = w;
 }
 
 // The last section, then what stands before it, to the start of the slice. 12, or 0 and what they tell.
