@@ -12,7 +12,7 @@ use Rattle.std.specs.Prelude.{Some, None}
 use Rattle.reference.specs.Correct.{accept_of, corrected_of}
 
 -- no number that is not negative is below 0
-not_below {ℓ} : {X : Type ℓ} (n : ℕ) → ltb n 0 ≡ true → X
+pub not_below {ℓ} : {X : Type ℓ} (n : ℕ) → ltb n 0 ≡ true → X
 not_below n t = let l : n < 0 = ltb-true n 0 t in absurd (omega arith)
 
 -- what is added or taken off

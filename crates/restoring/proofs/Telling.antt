@@ -25,12 +25,12 @@ use Rattle.restoring.proofs.Overs.{over_one, over_over, over_quiet, over_same, q
 
 -- ---- one register
 
-stays : (t u : Known) → is_some t ≡ true → newer t u ≡ t
+pub stays : (t u : Known) → is_some t ≡ true → newer t u ≡ t
 unfolding newer
 stays None u h = absurd (false≢true h)
 stays (Some s) u h = refl
 
-fresh : (t u : Known) → is_some t ≡ false → newer t u ≡ u
+pub fresh : (t u : Known) → is_some t ≡ false → newer t u ≡ u
 unfolding newer
 fresh None u h = refl
 fresh (Some s) u h = absurd (true≢false h)
