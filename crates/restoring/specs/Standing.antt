@@ -9,12 +9,18 @@ use Rattle.refusals.specs.Lent.{Given, lent_to}
 use Rattle.restoring.specs.declared.Sent.{Sent}
 use Rattle.restore.specs.Restore.{list_bytes, refused_by}
 
--- what is told of a register: the byte that was sent last and whether that was done; nothing of one that was never attempted
+-- what is told of a register: the byte that was sent last and how that ended, in vain (1) or done (2); nothing of one that was never attempted
 abbrev pub Known : Type 0
 Known = Option Sent
 
+abbrev pub known_as : ℕ → ℕ → Known
+known_as mark byte = Some (record { byte = byte; mark = mark })
+
+abbrev pub mark_of : Bool → ℕ
+mark_of ok = cond ok 2 1
+
 abbrev pub told : ℕ → Bool → Known
-told byte ok = Some (record { byte = byte; done = ok })
+told byte ok = known_as (mark_of ok) byte
 
 abbrev pub known_of : Last → Known
 known_of Never = None
@@ -45,7 +51,7 @@ over f i (t ∷ ts) = newer t (f i) ∷ over f (suc i) ts
 -- a register that is sure, and its byte
 abbrev pub is_done : Known → Bool
 is_done None = false
-is_done (Some s) = s.done
+is_done (Some s) = eqb s.mark 2
 
 abbrev pub byte_of : Known → ℕ
 byte_of None = 0

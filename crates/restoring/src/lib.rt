@@ -10,17 +10,23 @@ ghost use Rattle.transcript.specs.Sections.{all_fit, entries_in, section_bytes};
 ghost use Rattle.sections.specs.Chain.{chain, chain_entries};
 ghost use Rattle.refusals.specs.Lent.{given};
 ghost use Rattle.restore.specs.Restore.{list_by, refused_by, run_of, run_len, runs, slot, write_of};
-ghost use Rattle.restoring.specs.Standing.{held_of, next_sure, only, over, restore_into, sure_of, known_in};
+ghost use Rattle.restoring.specs.Standing.{held_of, mark_of, next_sure, only, over, restore_into, sure_of, known_in};
 
 use refusals::Answer;
 use transcript::{Entry, Section};
 
-// The last attempt at a register: the byte that was sent, and whether it was done or in vain. What is told of registers 0x00 to 0x1f stands in an array
-// that the walk lends on, `None` where nothing is told yet.
+// The last attempt at a register: the byte that was sent, and its mark, in vain (1) or done (2). A number, as `marked` takes any above 0
+// (docs/DESIGN-PASS.md). What is told of registers 0x00 to 0x1f stands in an array that the walk lends on, `None` where nothing is told yet.
 #[derive(Clone, Copy)]
 pub struct Sent {
     pub byte: u8,
-    pub done: bool,
+    pub mark: u8,
+}
+
+pub fn mark_of(ok: bool) -> u8
+    ensures { result ≡ mark_of ok }
+{
+    if ok { 2 } else { 1 }
 }
 
 // How many registers one write of a list names at most.
@@ -52,14 +58,14 @@ pub fn noted(e: Entry, address: u8, known: &mut [Option<Sent>; 32])
     if e.target != address {
         return;
     }
-    let done = e.outcome == 0;
+    let mark = mark_of(e.outcome == 0);
     let bytes = e.bytes;
     let first = bytes[0] as usize;
     // Numbers past 0xff do not wrap: they are registers that no chip has.
     for j in 1..e.n as usize {
         let sent = Sent {
             byte: bytes[j],
-            done,
+            mark,
         };
         marked(first + j - 1, sent, known);
     }
@@ -102,7 +108,7 @@ fn sure(known: &[Option<Sent>; 32], r: usize) -> bool
         return false;
     }
     match known[r] {
-        Some(sent) => sent.done,
+        Some(sent) => sent.mark == 2,
         None => false,
     }
 }
@@ -140,7 +146,7 @@ fn byte_held(known: &[Option<Sent>; 32], r: usize) -> u8
         return 0;
     }
     match known[r] {
-        Some(sent) if sent.done => sent.byte,
+        Some(sent) if sent.mark == 2 => sent.byte,
         _ => 0,
     }
 }

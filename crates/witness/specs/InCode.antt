@@ -11,7 +11,7 @@ use Rattle.witness.specs.Answer.{numbers_by}
 -- "0 never, 1 doubtful, 2 sure"
 abbrev pub mark_known : Known → ℕ
 mark_known None = 0
-mark_known (Some s) = cond s.done 2 1
+mark_known (Some s) = s.mark
 
 abbrev pub all_are : ℕ → List Known → Bool
 all_are mark ks = list_all (λ (k : Known). eqb (mark_known k) mark) ks

@@ -84,7 +84,8 @@ fn noted_at(e: Entry, k: usize, shaken: bool, done: bool, known: &mut [Option<Se
     let named = covers(e, transcript::DEMOD, 1, register);
     if named | shaken {
         let byte = byte_for(e, register, named);
-        restoring::marked(k, Sent { byte, done }, known);
+        let mark = restoring::mark_of(done);
+        restoring::marked(k, Sent { byte, mark }, known);
     }
 }
 
@@ -299,7 +300,7 @@ fn mark_of(known: Option<Sent>) -> u8
     ensures { result ≡ mark_known known }
 {
     match known {
-        Some(sent) => { if sent.done { 2 } else { 1 } }
+        Some(sent) => sent.mark,
         None => 0,
     }
 }

@@ -5,7 +5,7 @@ use mathlib.Core.Path.{◌≡◌, ap, ◌∙◌}
 use native.Mathlib.Omega.{arith}
 use lib.ListN.{get_or}
 use Rattle.attempts.specs.Attempts.{done, first_of}
-use Rattle.restoring.specs.Standing.{only, over, told}
+use Rattle.restoring.specs.Standing.{known_as, only, over, told}
 use Rattle.restoring.proofs.Telling.{other_chip, other_kind, rest, rest_end, rest_start, rest_turn}
 use Rattle.restoring.proofs.noted.Goals as goal
 
@@ -27,7 +27,9 @@ loop-j-preserved c =
     let there : l.j - 1 + 1 ≡ l.j = omega arith in
     let on : l.j + 1 - 1 ≡ l.j - 1 + 1 = omega arith in
     let at : first + l.j - 1 ≡ first + (l.j - 1) = omega arith in
-    let was = c.marked.ensures ∙ ap (λ (r : ℕ). over (only r (told (get_or e.bytes l.j 0) (done e))) 0 l.known) at in
+    let was = c.marked.ensures
+    ∙ ap (λ (m : ℕ). over (only (first + l.j - 1) (known_as m (get_or e.bytes l.j 0))) 0 l.known) c.mark_of-mark.ensures
+    ∙ ap (λ (r : ℕ). over (only r (told (get_or e.bytes l.j 0) (done e))) 0 l.known) at in
     ap (λ (k : ℕ). over (rest first e.n (done e) e.bytes k) 0 c.marked.new.known) on
     ∙ rest_turn first e.n (done e) e.bytes l.known (l.j - 1) _ (omega arith) (rw there was)
     ∙ l.invariant

@@ -2,6 +2,7 @@
 -- Assumes nothing.
 use Prim.Native.Nat.{ℕ}
 use mathlib.Core.Path.{ap, ◌∙◌}
+use Rattle.restoring.specs.Standing.{known_as, only, over}
 use Rattle.evidence.specs.Demodulator.{covers, demod_sent, place}
 use Rattle.witness.proofs.Slots.{said, unsaid}
 use Rattle.witness.proofs.noted_at.Goals as goal
@@ -17,7 +18,7 @@ returns-then-named-shaken c =
     c.if-named-shaken.true
     p.1.1
     (c.byte_for-byte.ensures ∙ ap (λ (r : ℕ). demod_sent a.e (place 1 r)) is)
-    c.marked.ensures
+    (c.marked.ensures ∙ ap (λ (m : ℕ). over (only a.k (known_as m c.byte_for-byte.result)) 0 a.known.now) c.mark_of-mark.ensures)
 
 pub returns-else-named-shaken : goal.returns-else-named-shaken
 returns-else-named-shaken c =
